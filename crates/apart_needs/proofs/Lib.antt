@@ -1,3 +1,5 @@
 pub mod Sharing
 pub mod Entries
 pub mod Threads
+pub mod ListUnits
+pub mod Processors

@@ -4,9 +4,9 @@ use Rattle.std.specs.Prelude.{◌≡◌, ℕ, IsTrue, true, false, List, [], ◌
 use Rattle.machine_plan.specs.Regions.{Interval}
 use Rattle.machine.specs.{State.State, Step.Event, Step.job_of, Step.may, Step.step, Step.turn}
 use Rattle.apart_law.specs.{Part.Client, Part.StatesAlike, Steps.StaysIn, Steps.GaveAlike, Trail.Entry, Trail.entry_of}
-use Rattle.worked_steps.specs.{Types.TheBinner, Types.TheQpu, Types.Qpu, Types.Thread, Processing.bytes, Processing.signal}
-use Rattle.worked_steps.specs.Rows.{one_job, state, running, new_thread, empty_qpu, no_lists}
-use Rattle.worked_steps.specs.Drawing.{drawing, from_5, tiling, coordinate_record}
+use Rattle.field_words.specs.declared.access.Actor.TheVariants.{Binner as TheBinner, Qpu as TheQpu}
+use Rattle.qpu_machine.specs.{declared.state.Qpu.Qpu, declared.state.Thread.Thread}
+use Rattle.apart_needs.specs.States.{one_job, state, running, new_thread, empty_qpu, no_lists, bytes, signal, drawing, from_5, tiling, coordinate_record}
 use Rattle.apart_needs.specs.Sharing.{client}
 
 -- All that the law of own steps asks of two steps, but of their entries only that this part of them is the same; and yet what the steps

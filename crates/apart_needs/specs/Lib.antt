@@ -1,2 +1,4 @@
+pub mod States
+pub mod Worked
 pub mod Sharing
 pub mod Entries

@@ -6,7 +6,8 @@ use Rattle.machine_plan.specs.{Regions.Interval, Regions.Rights, Runs.reached}
 use Rattle.machine.specs.{declared.job.Start.Start, State.State, State.start_of, Step.Event, Step.IsRun, Step.step}
 use Rattle.apart_law.specs.{Part.Client, Trail.trail_of}
 use Rattle.machine_law.specs.Apart.{Beginning, BeginsSoundly, EndAlike, regions_of}
-use Rattle.worked_steps.specs.{Types.TheRenderer, Rows.render_reads, Rows.render_writes}
+use Rattle.field_words.specs.declared.access.Actor.TheVariants.{Renderer as TheRenderer}
+use Rattle.apart_needs.specs.States.{reads, writes}
 
 -- job 0 alone is the client's
 abbrev pub client : Client
@@ -50,7 +51,7 @@ abbrev pub of_job_1 : Access → Access
 of_job_1 a = record a { job = 1 }
 
 abbrev pub stored_accesses : List Access
-stored_accesses = of_job_1 (render_reads 16 11) ∷ of_job_1 (render_reads 27 1) ∷ of_job_1 (render_writes 0 16) ∷ []
+stored_accesses = of_job_1 (reads TheRenderer 16 11) ∷ of_job_1 (reads TheRenderer 27 1) ∷ of_job_1 (writes TheRenderer 0 16) ∷ []
 
 -- The beginning is sound, and so it is its own neighbour in all but that nothing is shared. From there a run of no step and the run that
 -- draws have the same trail of the client. Yet they don't end alike to it.

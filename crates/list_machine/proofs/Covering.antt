@@ -32,33 +32,3 @@ begins x side unit low few =
 
 pub few_parts : (across down : ℕ) → across ≤ 16 → down ≤ 16 → across * down ≤ 256
 few_parts across down wide high = mul-le-mul wide high
-
-pub next_row : (across row : ℕ) → (row + 1) * across ≡ row * across + across
-next_row across row = grind arith
-
--- all rows are done
-pub rows_done : (across down row : ℕ) → down ≤ row → across * down ≤ row * across
-rows_done across down row over =
-    let all : down * across ≤ row * across = mul-le-mul over (le_refl across) in
-    let turned : down * across ≡ across * down = mul_comm down across in
-    omega (arith, all, turned)
-
--- the parts up to the end of a row are no more than all
-pub rows_below : (across down row : ℕ) → row < down → row * across + across ≤ across * down
-rows_below across down row below =
-    let next : suc row ≤ down = omega arith in
-    let all : suc row * across ≤ down * across = mul-le-mul next (le_refl across) in
-    let turned : down * across ≡ across * down = mul_comm down across in
-    omega (arith, all, turned)
-
-pub part_below : (across down row column : ℕ) → row < down → column < across → row * across + column < across * down
-part_below across down row column low left =
-    let all = rows_below across down row low in
-    omega (arith, all, left)
-
--- the number of a part says how far across and down it stands
-pub column_of : (across row column : ℕ) → column < across → (row * across + column) % across ≡ column
-column_of across row column left = mod-mul-add row across column left
-
-pub row_of : (across row column : ℕ) → column < across → (row * across + column) / across ≡ row
-row_of across row column left = div-mul-add row across column left

@@ -1,21 +1,21 @@
--- The loops over the parts of a load or store: over those of a row, and over the rows.
+-- The loops over the parts of a load or store.
 use Rattle.std.proofs.Common.{◌≡◌, ℕ, zero, suc, ◌+◌, ◌*◌, List, [], ◌∷◌, ◌++◌, length, Some, ◌∙◌, ap, subst, arith}
-use Rattle.machine_plan.specs.{Memory.stored, World.followed}
+use Rattle.machine_plan.specs.{Memory.stored}
 use Rattle.machine_plan.specs.Plan.{Plan, Done, Reads, Writes, Outcome, Shows, access, carried}
-use Rattle.machine_plan.proofs.{Joining.left_write, Joining.left_followed, Reading.IsLeft, Reading.left_read, Reading.left_done}
+use Rattle.machine_plan.proofs.{Joining.left_write, Reading.IsLeft, Reading.left_read, Reading.left_done}
 use Rattle.list_machine.specs.{State.Access, State.Cover, State.Read, State.Who, State.Write, Store.chosen}
 use Rattle.list_machine.specs.Cover.{part_place, parts_written, parts_read}
 use Rattle.list_machine.proofs.Storing.{chosen_size}
 
--- Of a store of n parts from part i on, k parts from part j on are left to do.
-abbrev pub WritesLeft : {R : Type 0} → Who → Cover → List ℕ → R → List ℕ → List ℕ → List Access → List Access → (i n j k : ℕ) → Type 0
-WritesLeft who c words r first m before now i n j k = IsLeft (carried who (parts_written c words i n (Done r)) first) (carried who (parts_written c words j k (Done r)) m) before now
+-- Of a store of n parts, k parts from part j on are left to do.
+abbrev pub WritesLeft : {R : Type 0} → Who → Cover → List ℕ → R → List ℕ → List ℕ → List Access → List Access → (n j k : ℕ) → Type 0
+WritesLeft who c words r first m before now n j k = IsLeft (carried who (parts_written c words 0 n (Done r)) first) (carried who (parts_written c words j k (Done r)) m) before now
 
-pub writes_more : {R : Type 0} (who : Who) (c : Cover) (words : List ℕ) (r : R) (first m : List ℕ) (before now : List Access) (i n j k next rest : ℕ) → suc j ≡ next → k ≡ suc rest → WritesLeft who c words r first m before now i n j k
-    → WritesLeft who c words r first (stored m (part_place c j) (chosen words (j * c.size) c.size)) before (now ++ access who Write (part_place c j) c.size ∷ []) i n next rest
+pub writes_more : {R : Type 0} (who : Who) (c : Cover) (words : List ℕ) (r : R) (first m : List ℕ) (before now : List Access) (n j k next rest : ℕ) → suc j ≡ next → k ≡ suc rest → WritesLeft who c words r first m before now n j k
+    → WritesLeft who c words r first (stored m (part_place c j) (chosen words (j * c.size) c.size)) before (now ++ access who Write (part_place c j) c.size ∷ []) n next rest
 unfolding parts_written
-writes_more {R = R} who c words r first m before now i n j k next rest next_is k_is left =
-    let whole : Outcome R = carried who (parts_written c words i n (Done r)) first in
+writes_more {R = R} who c words r first m before now n j k next rest next_is k_is left =
+    let whole : Outcome R = carried who (parts_written c words 0 n (Done r)) first in
     let place = part_place c j in
     let bytes = chosen words (j * c.size) c.size in
     let then : Plan R = parts_written c words (suc j) rest (Done r) in
@@ -24,75 +24,30 @@ writes_more {R = R} who c words r first m before now i n j k next rest next_is k
     let sized : IsLeft whole (carried who then (stored m place bytes)) before (now ++ access who Write place c.size ∷ []) = subst (λ q. IsLeft whole (carried who then (stored m place bytes)) before (now ++ access who Write place q ∷ [])) (chosen_size words (j * c.size) c.size) done in
     subst (λ q. IsLeft whole (carried who (parts_written c words q rest (Done r)) (stored m place bytes)) before (now ++ access who Write place c.size ∷ [])) next_is sized
 
--- some parts, and then the others
-written_on : {R : Type 0} (c : Cover) (words : List ℕ) (r : R) (then : Plan R) (j n rest : ℕ) → parts_written c words j (n + rest) then ≡ followed (parts_written c words j n (Done r)) (λ _. parts_written c words (j + n) rest then)
+pub writes_end : {R : Type 0} (who : Who) (c : Cover) (words : List ℕ) (r : R) (first m : List ℕ) (before now : List Access) (n j k : ℕ) → k ≡ zero → WritesLeft who c words r first m before now n j k
+    → Shows (carried who (parts_written c words 0 n (Done r)) first) before now m (Some r)
 unfolding parts_written
-written_on c words r then j zero rest =
-    let all : zero + rest ≡ rest = omega arith in
-    let here : j ≡ j + zero = omega arith in
-    ap (λ q. parts_written c words j q then) all ∙ ap (λ q. parts_written c words q rest then) here
-written_on c words r then j (suc n) rest =
-    let all : suc n + rest ≡ suc (n + rest) = omega arith in
-    let on : suc j + n ≡ j + suc n = omega arith in
-    let others = written_on c words r then (suc j) n rest ∙ ap (λ q. followed (parts_written c words (suc j) n (Done r)) (λ _. parts_written c words q rest then)) on in
-    ap (λ q. parts_written c words j q then) all ∙ ap (Writes (part_place c j) (chosen words (j * c.size) c.size)) others
-
-pub writes_row : {R : Type 0} (who : Who) (c : Cover) (words : List ℕ) (r : R) (first m after : List ℕ) (before now listed : List Access) (i n j k across next rest : ℕ) → j + across ≡ next → k ≡ across + rest → WritesLeft who c words r first m before now i n j k
-    → Shows (carried who (parts_written c words j across (Done r)) m) now listed after (Some r) → WritesLeft who c words r first after before listed i n next rest
-writes_row {R = R} who c words r first m after before now listed i n j k across next rest next_is k_is left row =
-    let whole : Outcome R = carried who (parts_written c words i n (Done r)) first in
-    let others : R → Plan R = λ _. parts_written c words (j + across) rest (Done r) in
-    let split = ap (λ q. parts_written c words j q (Done r)) k_is ∙ written_on c words r (Done r) j across rest in
-    let here : IsLeft whole (carried who (followed (parts_written c words j across (Done r)) others) m) before now = subst (λ (p : Plan R). IsLeft whole (carried who p m) before now) split left in
-    let done : IsLeft whole (carried who (others r) after) before listed = left_followed who (parts_written c words j across (Done r)) others m after whole before now listed r here row in
-    subst (λ q. IsLeft whole (carried who (parts_written c words q rest (Done r)) after) before listed) next_is done
-
-pub writes_end : {R : Type 0} (who : Who) (c : Cover) (words : List ℕ) (r : R) (first m : List ℕ) (before now : List Access) (i n j k : ℕ) → k ≡ zero → WritesLeft who c words r first m before now i n j k
-    → Shows (carried who (parts_written c words i n (Done r)) first) before now m (Some r)
-unfolding parts_written
-writes_end {R = R} who c words r first m before now i n j k none left =
-    let whole : Outcome R = carried who (parts_written c words i n (Done r)) first in
+writes_end {R = R} who c words r first m before now n j k none left =
+    let whole : Outcome R = carried who (parts_written c words 0 n (Done r)) first in
     left_done who r m whole before now (subst (λ q. IsLeft whole (carried who (parts_written c words j q (Done r)) m) before now) none left)
 
 -- the same of a load
-abbrev pub ReadsLeft : {R : Type 0} → Who → Cover → R → List ℕ → List Access → List Access → (i n j k : ℕ) → Type 0
-ReadsLeft who c r m before now i n j k = IsLeft (carried who (parts_read c i n (Done r)) m) (carried who (parts_read c j k (Done r)) m) before now
+abbrev pub ReadsLeft : {R : Type 0} → Who → Cover → R → List ℕ → List Access → List Access → (n j k : ℕ) → Type 0
+ReadsLeft who c r m before now n j k = IsLeft (carried who (parts_read c 0 n (Done r)) m) (carried who (parts_read c j k (Done r)) m) before now
 
-pub reads_more : {R : Type 0} (who : Who) (c : Cover) (r : R) (m : List ℕ) (before now : List Access) (i n j k next rest : ℕ) → suc j ≡ next → k ≡ suc rest → ReadsLeft who c r m before now i n j k
-    → ReadsLeft who c r m before (now ++ access who Read (part_place c j) c.size ∷ []) i n next rest
+pub reads_more : {R : Type 0} (who : Who) (c : Cover) (r : R) (m : List ℕ) (before now : List Access) (n j k next rest : ℕ) → suc j ≡ next → k ≡ suc rest → ReadsLeft who c r m before now n j k
+    → ReadsLeft who c r m before (now ++ access who Read (part_place c j) c.size ∷ []) n next rest
 unfolding parts_read
-reads_more {R = R} who c r m before now i n j k next rest next_is k_is left =
-    let whole : Outcome R = carried who (parts_read c i n (Done r)) m in
+reads_more {R = R} who c r m before now n j k next rest next_is k_is left =
+    let whole : Outcome R = carried who (parts_read c 0 n (Done r)) m in
     let then : List ℕ → Plan R = λ bytes. parts_read c (suc j) rest (Done r) in
     let here : IsLeft whole (carried who (Reads (part_place c j) c.size then) m) before now = subst (λ q. IsLeft whole (carried who (parts_read c j q (Done r)) m) before now) k_is left in
     let done = left_read who (part_place c j) c.size then m whole before now here in
     subst (λ q. IsLeft whole (carried who (parts_read c q rest (Done r)) m) before (now ++ access who Read (part_place c j) c.size ∷ [])) next_is done
 
-read_on : {R : Type 0} (c : Cover) (r : R) (then : Plan R) (j n rest : ℕ) → parts_read c j (n + rest) then ≡ followed (parts_read c j n (Done r)) (λ _. parts_read c (j + n) rest then)
+pub reads_end : {R : Type 0} (who : Who) (c : Cover) (r : R) (m : List ℕ) (before now : List Access) (n j k : ℕ) → k ≡ zero → ReadsLeft who c r m before now n j k
+    → Shows (carried who (parts_read c 0 n (Done r)) m) before now m (Some r)
 unfolding parts_read
-read_on c r then j zero rest =
-    let all : zero + rest ≡ rest = omega arith in
-    let here : j ≡ j + zero = omega arith in
-    ap (λ q. parts_read c j q then) all ∙ ap (λ q. parts_read c q rest then) here
-read_on c r then j (suc n) rest =
-    let all : suc n + rest ≡ suc (n + rest) = omega arith in
-    let on : suc j + n ≡ j + suc n = omega arith in
-    let others = read_on c r then (suc j) n rest ∙ ap (λ q. followed (parts_read c (suc j) n (Done r)) (λ _. parts_read c q rest then)) on in
-    ap (λ q. parts_read c j q then) all ∙ ap (λ p. Reads (part_place c j) c.size (λ bytes. p)) others
-
-pub reads_row : {R : Type 0} (who : Who) (c : Cover) (r : R) (m : List ℕ) (before now listed : List Access) (i n j k across next rest : ℕ) → j + across ≡ next → k ≡ across + rest → ReadsLeft who c r m before now i n j k
-    → Shows (carried who (parts_read c j across (Done r)) m) now listed m (Some r) → ReadsLeft who c r m before listed i n next rest
-reads_row {R = R} who c r m before now listed i n j k across next rest next_is k_is left row =
-    let whole : Outcome R = carried who (parts_read c i n (Done r)) m in
-    let others : R → Plan R = λ _. parts_read c (j + across) rest (Done r) in
-    let split = ap (λ q. parts_read c j q (Done r)) k_is ∙ read_on c r (Done r) j across rest in
-    let here : IsLeft whole (carried who (followed (parts_read c j across (Done r)) others) m) before now = subst (λ (p : Plan R). IsLeft whole (carried who p m) before now) split left in
-    let done : IsLeft whole (carried who (others r) m) before listed = left_followed who (parts_read c j across (Done r)) others m m whole before now listed r here row in
-    subst (λ q. IsLeft whole (carried who (parts_read c q rest (Done r)) m) before listed) next_is done
-
-pub reads_end : {R : Type 0} (who : Who) (c : Cover) (r : R) (m : List ℕ) (before now : List Access) (i n j k : ℕ) → k ≡ zero → ReadsLeft who c r m before now i n j k
-    → Shows (carried who (parts_read c i n (Done r)) m) before now m (Some r)
-unfolding parts_read
-reads_end {R = R} who c r m before now i n j k none left =
-    let whole : Outcome R = carried who (parts_read c i n (Done r)) m in
+reads_end {R = R} who c r m before now n j k none left =
+    let whole : Outcome R = carried who (parts_read c 0 n (Done r)) m in
     left_done who r m whole before now (subst (λ q. IsLeft whole (carried who (parts_read c j q (Done r)) m) before now) none left)

@@ -9,5 +9,3 @@ pub mod Steps
 pub mod Items
 pub mod Keeping
 pub mod Spots
-pub mod Words
-pub mod Looking

@@ -8,4 +8,3 @@ pub mod Store
 pub mod Cover
 pub mod Surfaces
 pub mod Renderer
-pub mod Enough

@@ -134,10 +134,6 @@ plan_in s free words (Some sub) = found_plan s free words sub (item_at sub s.ite
 unfoldable pub renderer_plan : Lists → Free → List ℕ → Plan Turned
 renderer_plan s free words = plan_in s free words s.renderer.inside
 
--- so many choice words at most are looked at
-abbrev pub LooksAt : {R : Type 0} → ℕ → (List ℕ → R) → Type 0
-LooksAt n does = (words others : List ℕ) → ((k : ℕ) → k < n → slice_index words k ≡ slice_index others k) → does words ≡ does others
-
 -- at opcode 8 the renderer waits for the semaphore
 unfoldable pub may_pass : Lists → ℕ → Bool
 may_pass s opcode = not (opcode == wait_on_semaphore && s.semaphore == 0)

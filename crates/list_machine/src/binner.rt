@@ -17,7 +17,7 @@ use crate::start::{can_start, start_program};
 use crate::state::{Kept, Primitive, Program, Work};
 use byteorder::{ByteOrder, LittleEndian};
 use field_words::Actor;
-use machine_plan::{Accesses, Free, Launch, Who, byte_at, choice_word};
+use machine_plan::{Accesses, Choices, Free, Launch, Who, byte_at};
 use packets::opcode::{
     ARRAY_PRIMITIVE_LIST, BUFFER_HANDLES, FLUSH, GL_SHADER_STATE, HALT, INCREMENT_SEMAPHORE,
     INDEXED_PRIMITIVE_LIST, START_TILE_BINNING, TILE_BINNING_MODE,
@@ -114,11 +114,11 @@ fn not_due(work: &Work) -> Work
 
 // The tile that the words choose; the number of tiles says that the primitive is done.
 #[tactic(auto, unfolding(crate::specs::Binner::chosen_tile))]
-fn chosen_tile(config: &Config, words: &[u32]) -> u32
-    ensures value { result ≡ chosen_tile config.now words.now }
+fn chosen_tile<C: Choices>(config: &Config, words: &C) -> u32
+    ensures value { result ≡ chosen_tile config.now (C.listed words.now) }
     ensures limit { result ≤ 65025 }
 {
-    choice_word(words, 0) % (tiles_of(config) + 1)
+    words.word(0) % (tiles_of(config) + 1)
 }
 
 impl JobLists {
@@ -308,11 +308,11 @@ impl JobLists {
 
     // An item is put on the tile that the words choose, or the primitive is done.
     #[tactic(auto, unfolding(crate::specs::Binner::tile_plan))]
-    fn put_chosen(
+    fn put_chosen<C: Choices>(
         &mut self,
         config: &Config,
         work: &Work,
-        words: &[u32],
+        words: &C,
         who: Who,
         memory: &mut PhysMem,
         accesses: &mut Accesses,
@@ -320,7 +320,7 @@ impl JobLists {
         requires few { length self.old.items < most_items }
         requires blocks { self.old.blocks < 2 ^ 25 }
         requires room { array_vec_len accesses.old < 240 }
-        ensures shows { Carries who (tile_plan self.old config.now work.now (chosen_tile config.now words.now))
+        ensures shows { Carries who (tile_plan self.old config.now work.now (chosen_tile config.now (C.listed words.now)))
             memory.old memory.new accesses.old accesses.new (Some self.new) }
     {
         let tile = chosen_tile(config, words);
@@ -333,17 +333,17 @@ impl JobLists {
 
     // The same with the config that is kept.
     #[tactic(auto, using(crate::proofs::Putting::item_room))]
-    fn put_item(
+    fn put_item<C: Choices>(
         &mut self,
         work: &Work,
-        words: &[u32],
+        words: &C,
         who: Who,
         memory: &mut PhysMem,
         accesses: &mut Accesses,
     )
         requires may { item_may self.old self.old.binner.kept.config ≡ true }
         requires room { array_vec_len accesses.old < 240 }
-        ensures shows { Carries who (item_plan self.old self.old.binner.kept.config work.now words.now)
+        ensures shows { Carries who (item_plan self.old self.old.binner.kept.config work.now (C.listed words.now))
             memory.old memory.new accesses.old accesses.new (Some self.new) }
     {
         match self.binner().kept.config {
@@ -354,18 +354,18 @@ impl JobLists {
 
     // A step with a primitive in work.
     #[tactic(auto, unfolding(crate::specs::Binner::work_plan, crate::specs::Binner::work_may))]
-    fn step_work(
+    fn step_work<C: Choices>(
         &mut self,
         work: &Work,
         free: &Free,
-        words: &[u32],
+        words: &C,
         who: Who,
         memory: &mut PhysMem,
         accesses: &mut Accesses,
     ) -> Option<Launch>
         requires may { work_may self.old work.now free.now ≡ true }
         requires room { array_vec_len accesses.old < 240 }
-        ensures shows { Carries who (work_plan self.old work.now free.now words.now)
+        ensures shows { Carries who (work_plan self.old work.now free.now (C.listed words.now))
             memory.old memory.new accesses.old accesses.new (Some (turned_to self.new result)) }
     {
         if work.due {
@@ -430,17 +430,17 @@ impl JobLists {
     /// and comes to the program that it starts, where it starts one. `None` comes exactly where the step is
     /// wild; then the binner is at its list's end without work.
     #[tactic(auto, unfolding(crate::specs::Binner::binner_plan, crate::specs::Binner::binner_ready))]
-    pub fn step_binner(
+    pub fn step_binner<C: Choices>(
         &mut self,
         job: u8,
         free: &Free,
-        words: &[u32],
+        words: &C,
         memory: &mut PhysMem,
         accesses: &mut Accesses,
     ) -> Option<Option<Launch>>
         requires ready { binner_ready self.old free.now ≡ Now true }
         requires room { array_vec_len accesses.old < 240 }
-        ensures shows { Carries (binner_of job) (binner_plan self.old free.now words.now)
+        ensures shows { Carries (binner_of job) (binner_plan self.old free.now (C.listed words.now))
             memory.old memory.new accesses.old accesses.new (option_map (turned_to self.new) result) }
         ensures wild { result ≡ None → self.new ≡ binner_ended self.old }
     {

@@ -130,8 +130,16 @@ pub(crate) fn cover_for(
     }
 }
 
+/// How many parts there are.
+pub(crate) fn part_count(cover: &Cover) -> u32
+    requires { IsSmall cover.now }
+    ensures value { result ≡ part_count cover.now }
+    ensures few { result ≤ 256 }
+{
+    cover.across * cover.down
+}
+
 /// Where the part that stands so far across and down lies in a surface.
-#[inline(always)]
 fn part_offset(tiling: Tiling, wide: u16, cpp: u32, x: u32, y: u32) -> u64
     requires { IsPixelSize cpp }
     ensures value { result ≡ part_offset tiling wide cpp x y }
@@ -144,30 +152,15 @@ fn part_offset(tiling: Tiling, wide: u16, cpp: u32, x: u32, y: u32) -> u64
     }
 }
 
-/// The number of the part that stands so far across and down.
-#[inline(always)]
-#[tactic(auto, using(crate::proofs::Covering::part_below))]
-pub(crate) fn part_number(cover: &Cover, column: u32, row: u32) -> u32
+/// The place of part `i`.
+#[tactic(auto, unfolding(crate::specs::Cover::part_place))]
+pub(crate) fn part_place(cover: &Cover, i: u32) -> u64
     requires small { IsSmall cover.now }
-    requires across { column < cover.now.across }
-    requires down { row < cover.now.down }
-    ensures value { result ≡ row * cover.now.across + column }
-    ensures part { result < part_count cover.now }
-{
-    row * cover.across + column
-}
-
-/// The place of the part that stands so far across and down.
-#[inline(always)]
-#[tactic(auto, using(crate::proofs::Covering::column_of, crate::proofs::Covering::row_of), unfolding(crate::specs::Cover::part_place))]
-pub(crate) fn part_place(cover: &Cover, column: u32, row: u32) -> u64
-    requires small { IsSmall cover.now }
-    requires across { column < cover.now.across }
-    requires down { row < cover.now.down }
-    ensures value { result ≡ part_place cover.now (row * cover.now.across + column) }
+    requires part { i < part_count cover.now }
+    ensures value { result ≡ part_place cover.now i }
     ensures limit { result < 2 ^ 58 }
 {
-    let x = cover.left + column;
-    let y = cover.top + row;
+    let x = cover.left + i % cover.across;
+    let y = cover.top + i / cover.across;
     cover.base as u64 + part_offset(cover.tiling, cover.wide, cover.cpp, x, y)
 }

@@ -1,5 +1,5 @@
 //! The renderer's step in a tile's list, and its whole step.
-ghost use Rattle.std.specs.Prelude.{◌≡◌, ◌+◌, ◌≤◌, ◌<◌, ◌^◌, drop, length, true, false, is_some, Some, None, IfSome, option_map};
+ghost use Rattle.std.specs.Prelude.{◌≡◌, ◌+◌, ◌≤◌, ◌<◌, ◌^◌, drop, length, true, false, Some, None, IfSome, option_map};
 ghost use Rattle.arrayvec.specs.ArrayVec.{array_vec_len};
 ghost use Rattle.machine_plan.specs.Glance.{glanced};
 ghost use Rattle.machine_plan.specs.Turn.{Carries, CarriesOver, if_tame};
@@ -11,7 +11,7 @@ use crate::job_lists::JobLists;
 use crate::start::start_program;
 use crate::state::{Found, Item, Program, SubList};
 use field_words::{Actor, Way};
-use machine_plan::{Accesses, Free, Launch, Who, choice_word, list_access};
+use machine_plan::{Accesses, Choices, Free, Launch, Who, list_access};
 use phys_mem::PhysMem;
 
 /// The first item of a tile, from item `at` on.
@@ -31,13 +31,19 @@ fn find_item(items: &[Item], sub: SubList) -> Option<Found>
 
 /// Fetches a vertex of an item, which choice word 1 chooses.
 #[tactic(auto, unfolding(crate::specs::Renderer::vertex_plan))]
-fn fetch_item(item: &Item, words: &[u32], who: Who, memory: &PhysMem, accesses: &mut Accesses)
+fn fetch_item<C: Choices>(
+    item: &Item,
+    words: &C,
+    who: Who,
+    memory: &PhysMem,
+    accesses: &mut Accesses,
+)
     requires { array_vec_len accesses.old ≤ 8 }
-    ensures { (s : Lists) → CarriesOver who (vertex_plan s item.now words.now) memory.now accesses.old accesses.new (Some (quiet s)) }
+    ensures { (s : Lists) → CarriesOver who (vertex_plan s item.now (C.listed words.now)) memory.now accesses.old accesses.new (Some (quiet s)) }
 {
     let length = item.primitive.length;
     if length != 0 {
-        let k = choice_word(words, 1) % length;
+        let k = words.word(1) % length;
         fetch_vertex(&item.primitive, item.word, k, who, memory, accesses);
     }
 }
@@ -69,22 +75,22 @@ impl JobLists {
 
     /// Does at an item what choice word 0 says.
     #[tactic(auto, unfolding(crate::specs::Renderer::choice_plan))]
-    fn choose(
+    fn choose<C: Choices>(
         &mut self,
         sub: SubList,
         found: &Found,
         free: &Free,
-        words: &[u32],
+        words: &C,
         who: Who,
         memory: &PhysMem,
         accesses: &mut Accesses,
     ) -> Option<Launch>
         requires near { found.now.number < most_items }
         requires room { array_vec_len accesses.old ≤ 8 }
-        ensures { CarriesOver who (choice_plan self.old free.now words.now sub found.now)
+        ensures { CarriesOver who (choice_plan self.old free.now (C.listed words.now) sub found.now)
             memory.now accesses.old accesses.new (Some (turned_to self.new result)) }
     {
-        let choice = choice_word(words, 0) % 4;
+        let choice = words.word(0) % 4;
         if choice == 3 {
             self.stand_at(sub.tile, found.number + 1);
             return None;
@@ -102,19 +108,19 @@ impl JobLists {
 
     /// Reads an item and does there what choice word 0 says; where there is none, leaves the tile's
     /// list.
-    fn take_found(
+    fn take_found<C: Choices>(
         &mut self,
         sub: SubList,
         found: Option<Found>,
         free: &Free,
-        words: &[u32],
+        words: &C,
         who: Who,
         memory: &PhysMem,
         accesses: &mut Accesses,
     ) -> Option<Launch>
         requires near { IfSome found (λ one. one.number < most_items) }
         requires room { array_vec_len accesses.old ≤ 4 }
-        ensures { CarriesOver who (found_plan self.old free.now words.now sub found)
+        ensures { CarriesOver who (found_plan self.old free.now (C.listed words.now) sub found)
             memory.now accesses.old accesses.new (Some (turned_to self.new result)) }
     {
         match found {
@@ -130,17 +136,17 @@ impl JobLists {
     }
 
     /// A step in a tile's list.
-    fn take_item(
+    fn take_item<C: Choices>(
         &mut self,
         sub: SubList,
         free: &Free,
-        words: &[u32],
+        words: &C,
         who: Who,
         memory: &PhysMem,
         accesses: &mut Accesses,
     ) -> Option<Launch>
         requires { array_vec_len accesses.old ≤ 4 }
-        ensures { CarriesOver who (plan_in self.old free.now words.now (Some sub))
+        ensures { CarriesOver who (plan_in self.old free.now (C.listed words.now) (Some sub))
             memory.now accesses.old accesses.new (Some (turned_to self.new result)) }
     {
         let found = find_item(self.items(), sub);
@@ -148,28 +154,21 @@ impl JobLists {
     }
 
     /// A step outside of tile lists. False comes exactly where it is wild; then the renderer's work ends.
-    fn take_listed(
+    fn take_listed<C: Choices>(
         &mut self,
         free: &Free,
-        words: &[u32],
+        words: &C,
         who: Who,
         memory: &mut PhysMem,
         accesses: &mut Accesses,
     ) -> bool
         requires below { self.old.renderer.place < self.old.renderer.end }
         requires room { array_vec_len accesses.old ≤ 4 }
-        ensures shows { Carries who (plan_in self.old free.now words.now None)
+        ensures shows { Carries who (plan_in self.old free.now (C.listed words.now) None)
             memory.old memory.new accesses.old accesses.new (if_tame result (quiet self.new)) }
         ensures wild { result ≡ false → self.new ≡ renderer_ended self.old }
     {
         self.take_packet(words, who, memory, accesses)
-    }
-
-    /// Whether the renderer is in a tile's list.
-    pub(crate) fn is_in_tile(&self) -> bool
-        ensures { result ≡ is_some self.now.renderer.inside }
-    {
-        self.renderer().inside.is_some()
     }
 
     /// Whether the renderer has work: it is below its list's end, or in a tile's list.
@@ -187,17 +186,17 @@ impl JobLists {
     /// It comes to the program that the step starts, where it starts one. `None` comes exactly where the
     /// step is wild; then a Wild access is listed behind those before it, and the renderer's work ends.
     #[tactic(auto, unfolding(crate::specs::Renderer::renderer_plan))]
-    pub fn step_renderer(
+    pub fn step_renderer<C: Choices>(
         &mut self,
         job: u8,
         free: &Free,
-        words: &[u32],
+        words: &C,
         memory: &mut PhysMem,
         accesses: &mut Accesses,
     ) -> Option<Option<Launch>>
         requires ready { glanced (renderer_ready self.old) memory.old ≡ true }
         requires room { array_vec_len accesses.old ≤ 4 }
-        ensures shows { Carries (renderer_of job) (renderer_plan self.old free.now words.now)
+        ensures shows { Carries (renderer_of job) (renderer_plan self.old free.now (C.listed words.now))
             memory.old memory.new accesses.old accesses.new (option_map (turned_to self.new) result) }
         ensures wild { result ≡ None → self.new ≡ renderer_ended self.old }
     {

@@ -4,7 +4,6 @@
 mod binner;
 mod blocks;
 mod cover;
-mod enough;
 mod fetch;
 mod inside;
 mod job_lists;
@@ -20,8 +19,3 @@ pub use state::{
     Binner, Found, Frame, Item, Kept, Load, Primitive, Program, Renderer, Spot, SubList, Work,
 };
 pub use surface::{Cover, Tile};
-
-#[cfg(test)]
-mod binner_tests;
-#[cfg(test)]
-mod render_tests;

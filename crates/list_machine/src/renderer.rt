@@ -14,7 +14,7 @@ use crate::parts::{load_waiting, store_frame, store_general, store_whole};
 use crate::reads::{end_wild, read_listed};
 use crate::state::{Frame, Load, SubList};
 use crate::surface::Tile;
-use machine_plan::{Accesses, Who, byte_at};
+use machine_plan::{Accesses, Choices, Who, byte_at};
 use packets::opcode::WAIT_ON_SEMAPHORE;
 use packets::{Config, Packet, decode, render_taken};
 use phys_mem::PhysMem;
@@ -147,16 +147,16 @@ impl JobLists {
     }
 
     /// Does what a packet says, with the renderer past it. False comes exactly where that is wild.
-    fn act(
+    fn act<C: Choices>(
         &mut self,
         packet: Packet,
-        words: &[u32],
+        words: &C,
         who: Who,
         memory: &mut PhysMem,
         accesses: &mut Accesses,
     ) -> bool
         requires { array_vec_len accesses.old ≤ 8 }
-        ensures shows { Carries who (act self.old words.now packet)
+        ensures shows { Carries who (act self.old (C.listed words.now) packet)
             memory.old memory.new accesses.old accesses.new (if_tame result self.new) }
         ensures same { result ≡ false → self.new ≡ self.old }
     {
@@ -203,17 +203,17 @@ impl JobLists {
 
     /// Does what the bytes of a packet say, with the renderer past it. False comes exactly where that is
     /// wild.
-    fn act_on(
+    fn act_on<C: Choices>(
         &mut self,
         bytes: &[u8],
-        words: &[u32],
+        words: &C,
         who: Who,
         memory: &mut PhysMem,
         accesses: &mut Accesses,
     ) -> bool
         requires length { length bytes.now ≡ render_taken (slice_index bytes.now 0) }
         requires room { array_vec_len accesses.old ≤ 8 }
-        ensures shows { Carries who (acted self.old words.now (decoded bytes.now))
+        ensures shows { Carries who (acted self.old (C.listed words.now) (decoded bytes.now))
             memory.old memory.new accesses.old accesses.new (if_tame result self.new) }
         ensures same { result ≡ false → self.new ≡ self.old }
     {
@@ -225,16 +225,16 @@ impl JobLists {
 
     /// Reads the packet at the renderer's place, goes past it and does what it says. False comes exactly
     /// where that is wild; then the renderer's work ends.
-    pub(crate) fn take_packet(
+    pub(crate) fn take_packet<C: Choices>(
         &mut self,
-        words: &[u32],
+        words: &C,
         who: Who,
         memory: &mut PhysMem,
         accesses: &mut Accesses,
     ) -> bool
         requires below { self.old.renderer.place < self.old.renderer.end }
         requires room { array_vec_len accesses.old ≤ 4 }
-        ensures shows { Carries who (packet_plan self.old words.now)
+        ensures shows { Carries who (packet_plan self.old (C.listed words.now))
             memory.old memory.new accesses.old accesses.new (if_tame result self.new) }
         ensures wild { result ≡ false → self.new ≡ renderer_ended self.old }
     {

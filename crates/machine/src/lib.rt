@@ -6,8 +6,6 @@ mod job;
 mod lists;
 mod machine;
 mod processors;
-#[cfg(test)]
-mod tests;
 
 pub use job::Start;
 pub use machine::{Machine, Stepped};

@@ -1,18 +1,16 @@
 //! The turns of binner and renderer.
-ghost use Rattle.std.specs.Prelude.{◌≡◌, ◌≤◌, ◌<◌, [], IsTrue, true, length, IfSome};
-ghost use Rattle.field_words.specs.declared.access.Actor.TheVariants.{Renderer as TheRenderer};
+ghost use Rattle.std.specs.Prelude.{◌≡◌, ◌≤◌, ◌<◌, [], IsTrue, length};
 ghost use Rattle.machine_plan.specs.Glance.{glanced};
 ghost use Rattle.list_machine.specs.Binner.{binner_ready};
 ghost use Rattle.list_machine.specs.Renderer.{renderer_ready};
 ghost use Rattle.qpu_machine.specs.Qpu.{free_in};
 ghost use Rattle.qpu_machine.specs.Bounds.{AreBounded};
 ghost use Rattle.machine.specs.State.{binner_job, renderer_job, picked_in, job_at};
-ghost use Rattle.machine.specs.Enough.{renderer_words, StepLooksAt};
 ghost use Rattle.machine.specs.Moves.{BinnerMoves, RendererMoves};
 ghost use Rattle.machine.specs.Step.{with_launch, is_ahead, binner_may, renderer_may};
 
 use crate::machine::Machine;
-use machine_plan::{Accesses, Launch};
+use machine_plan::{Accesses, Choices, Launch};
 use qpu_machine::{Qpu, free_in, start_in};
 
 /// The program that a list unit starts, if it does, begins for this job.
@@ -63,10 +61,10 @@ impl Machine {
     }
 
     /// The binner's turn, for its job; without one it does nothing.
-    pub(crate) fn take_binner_turn(&mut self, words: &[u32], accesses: &mut Accesses)
+    pub(crate) fn take_binner_turn<C: Choices>(&mut self, words: &C, accesses: &mut Accesses)
         requires empty { accesses.old.items ≡ [] }
         requires may { IsTrue (glanced (binner_may self.old.units (binner_job self.old.units)) self.old.memory) }
-        ensures { BinnerMoves self.old (binner_job self.old.units) words.now accesses.new.items self.new }
+        ensures { BinnerMoves self.old (binner_job self.old.units) (C.listed words.now) accesses.new.items self.new }
     {
         if let Some(job) = self.binner_job() {
             self.bin(job, words, accesses);
@@ -74,11 +72,11 @@ impl Machine {
     }
 
     // One step of the binner for this job.
-    fn bin(&mut self, job: usize, words: &[u32], accesses: &mut Accesses)
+    fn bin<C: Choices>(&mut self, job: usize, words: &C, accesses: &mut Accesses)
         requires empty { accesses.old.items ≡ [] }
         requires within { job < length self.old.units.jobs }
         requires ready { IsTrue (glanced (binner_ready (job_at self.old.units.jobs job) (free_in self.old.units.qpus)) self.old.memory) }
-        ensures { BinnerMoves self.old (Some (picked_in self.old.units.jobs job)) words.now accesses.new.items self.new }
+        ensures { BinnerMoves self.old (Some (picked_in self.old.units.jobs job)) (C.listed words.now) accesses.new.items self.new }
     {
         let free = free_in(self.qpus.as_slice());
         let started = self.jobs[job].step_binner(
@@ -91,24 +89,11 @@ impl Machine {
         begin(job as u8, started.unwrap_or(None), &mut self.qpus);
     }
 
-    /// How many choice words suffice for the renderer's turn, where it is known of fewer than it may look at.
-    #[inline(never)]
-    #[tactic(auto, using(crate::proofs::Words::renderer_words_look))]
-    pub(crate) fn renderer_words(&self) -> Option<u32>
-        ensures value { result ≡ renderer_words (renderer_job self.now.units) self.now.memory }
-        ensures enough { IfSome result (StepLooksAt self.now TheRenderer) }
-    {
-        match self.renderer_job() {
-            None => None,
-            Some(job) => self.jobs[job].renderer_words(&self.memory),
-        }
-    }
-
     /// The renderer's turn, for its job; without one it does nothing.
-    pub(crate) fn take_renderer_turn(&mut self, words: &[u32], accesses: &mut Accesses)
+    pub(crate) fn take_renderer_turn<C: Choices>(&mut self, words: &C, accesses: &mut Accesses)
         requires empty { accesses.old.items ≡ [] }
         requires may { IsTrue (glanced (renderer_may (renderer_job self.old.units)) self.old.memory) }
-        ensures { RendererMoves self.old (renderer_job self.old.units) words.now accesses.new.items self.new }
+        ensures { RendererMoves self.old (renderer_job self.old.units) (C.listed words.now) accesses.new.items self.new }
     {
         if let Some(job) = self.renderer_job() {
             self.render(job, words, accesses);
@@ -116,11 +101,11 @@ impl Machine {
     }
 
     // One step of the renderer for this job.
-    fn render(&mut self, job: usize, words: &[u32], accesses: &mut Accesses)
+    fn render<C: Choices>(&mut self, job: usize, words: &C, accesses: &mut Accesses)
         requires empty { accesses.old.items ≡ [] }
         requires within { job < length self.old.units.jobs }
         requires ready { IsTrue (glanced (renderer_ready (job_at self.old.units.jobs job)) self.old.memory) }
-        ensures { RendererMoves self.old (Some (picked_in self.old.units.jobs job)) words.now accesses.new.items self.new }
+        ensures { RendererMoves self.old (Some (picked_in self.old.units.jobs job)) (C.listed words.now) accesses.new.items self.new }
     {
         let free = free_in(self.qpus.as_slice());
         let started = self.jobs[job].step_renderer(

@@ -1,16 +1,15 @@
 //! The machine, its start, and which of its units may step.
 ghost use Rattle.std.specs.Prelude.{◌≡◌, ◌≤◌, ◌<◌, [], IsTrue, false, length, option_map, unwrap_or, position, IfOk, IfSome};
 ghost use Rattle.list_machine.specs.Binner.{has_binner_work};
-ghost use Rattle.list_machine.specs.Renderer.{has_renderer_work, LooksAt};
-ghost use Rattle.machine.specs.Enough.{words_enough};
+ghost use Rattle.list_machine.specs.Renderer.{has_renderer_work};
 ghost use Rattle.machine.specs.Moves.{UnitMoves};
-ghost use Rattle.machine.specs.Step.{enabled, finished, job_of, step};
+ghost use Rattle.machine.specs.Step.{enabled, finished, job_of};
 ghost use Rattle.machine.specs.State.{start_of, binner_job, renderer_job, picked_in};
 
 use crate::job::{Start, all_started, idle_qpus};
 use field_words::{Actor, NoMemory};
 use list_machine::JobLists;
-use machine_plan::Accesses;
+use machine_plan::{Accesses, Choices};
 use phys_mem::PhysMem;
 use qpu_machine::Qpu;
 use std::alloc::Global;
@@ -131,25 +130,10 @@ impl Machine {
         }
     }
 
-    /// How many choice words suffice for the unit's next step, where it is known of fewer than a step may look at: words that agree in
-    /// so many make the same step.
-    #[tactic(auto, unfolding(crate::specs::Enough::words_enough))]
-    pub fn words_enough(&self, unit: Actor) -> Option<u32>
-        ensures value { result ≡ words_enough self.now unit }
-        ensures enough { IfSome result (λ n. LooksAt n (λ words. step self.now (record { unit = unit; words = words }))) }
-    {
-        match unit {
-            Actor::Renderer => self.renderer_words(),
-            Actor::Qpu(k) => self.qpu_words(k),
-            _ => None,
-        }
-    }
-
     /// One step of this unit. What the hardware leaves open is answered by the words; a missing word is zero. `accesses` is
     /// emptied first, and then holds the step's accesses in order.
     ///
     /// `NotEnabled` comes exactly where the unit is not enabled, and then nothing else has changed. A step takes no memory.
-    #[tactic(auto, unfolding(crate::specs::Step::enabled))]
     pub fn step(&mut self, unit: Actor, words: &[u32], accesses: &mut Accesses) -> Stepped
         ensures done { IsTrue (enabled self.old unit) → result ≡ Stepped.Done }
         ensures refused { enabled self.old unit ≡ false → result ≡ Stepped.NotEnabled }
@@ -157,29 +141,37 @@ impl Machine {
         ensures emptied { result ≡ Stepped.NotEnabled → accesses.new.items ≡ [] }
         ensures moved { result ≡ Stepped.Done → UnitMoves self.old unit words.now accesses.new.items self.new }
     {
-        if !self.enabled(unit) {
-            accesses.clear();
-            return Stepped::NotEnabled;
-        }
-        self.step_enabled(unit, words, accesses);
-        Stepped::Done
+        self.step_by(unit, &words, accesses)
     }
 
-    /// The same of a unit that may step, which isn't asked again.
-    pub fn step_enabled(&mut self, unit: Actor, words: &[u32], accesses: &mut Accesses)
-        requires { IsTrue (enabled self.old unit) }
-        ensures { UnitMoves self.old unit words.now accesses.new.items self.new }
+    /// The same step, which asks for each word when it needs it.
+    #[tactic(auto, unfolding(crate::specs::Step::enabled))]
+    pub fn step_by<C: Choices>(
+        &mut self,
+        unit: Actor,
+        words: &C,
+        accesses: &mut Accesses,
+    ) -> Stepped
+        ensures done { IsTrue (enabled self.old unit) → result ≡ Stepped.Done }
+        ensures refused { enabled self.old unit ≡ false → result ≡ Stepped.NotEnabled }
+        ensures same { result ≡ Stepped.NotEnabled → self.new ≡ self.old }
+        ensures emptied { result ≡ Stepped.NotEnabled → accesses.new.items ≡ [] }
+        ensures moved { result ≡ Stepped.Done → UnitMoves self.old unit (C.listed words.now) accesses.new.items self.new }
     {
         accesses.clear();
+        if !self.enabled(unit) {
+            return Stepped::NotEnabled;
+        }
         self.take_turn(unit, words, accesses);
+        Stepped::Done
     }
 
     // This unit's turn, which may step.
     #[tactic(auto, unfolding(crate::specs::Step::enabled, crate::specs::Step::turn))]
-    fn take_turn(&mut self, unit: Actor, words: &[u32], accesses: &mut Accesses)
+    fn take_turn<C: Choices>(&mut self, unit: Actor, words: &C, accesses: &mut Accesses)
         requires empty { accesses.old.items ≡ [] }
         requires may { IsTrue (enabled self.old unit) }
-        ensures { UnitMoves self.old unit words.now accesses.new.items self.new }
+        ensures { UnitMoves self.old unit (C.listed words.now) accesses.new.items self.new }
     {
         match unit {
             Actor::Binner => self.take_binner_turn(words, accesses),

@@ -1,20 +1,16 @@
 //! The turns of the shader processors and of their texture and memory units (TMUs).
-ghost use Rattle.std.specs.Prelude.{◌≡◌, ◌≤◌, ◌<◌, [], IsTrue, length, IfSome};
-ghost use Rattle.field_words.specs.declared.access.Actor.TheVariants.{Qpu as TheQpu};
+ghost use Rattle.std.specs.Prelude.{◌≡◌, ◌≤◌, ◌<◌, [], IsTrue};
 ghost use Rattle.machine_plan.specs.Glance.{glanced};
 ghost use Rattle.std.specs.List.{list_all};
 ghost use Rattle.qpu_machine.specs.Qpu.{is_idle};
 ghost use Rattle.machine.specs.State.{item_at};
-ghost use Rattle.machine.specs.Enough.{qpu_words, StepLooksAt};
 ghost use Rattle.machine.specs.Moves.{QpuMoves, TmuMoves};
 ghost use Rattle.machine.specs.Step.{qpu_may, tmu_may, qpu_job, tmu_job};
 
 use crate::machine::Machine;
 use field_words::Actor;
-use machine_plan::{Accesses, Who};
-use qpu_machine::{
-    is_qpu_idle, is_qpu_ready, is_tmu_ready, qpu_job, step_qpu, step_tmu, tmu_job, words_enough,
-};
+use machine_plan::{Accesses, Choices, Who};
+use qpu_machine::{is_qpu_idle, is_qpu_ready, is_tmu_ready, qpu_job, step_qpu, step_tmu, tmu_job};
 
 impl Machine {
     /// Whether processor `k` may step; there are twelve.
@@ -64,24 +60,11 @@ impl Machine {
         self.qpus.iter().all(|qpu| is_qpu_idle(qpu))
     }
 
-    /// How many choice words suffice for the turn of processor `k`, where it is known of fewer than it may look at.
-    pub(crate) fn qpu_words(&self, k: u8) -> Option<u32>
-        ensures value { result ≡ qpu_words (item_at self.now.units.qpus k) self.now.memory }
-        ensures enough { IfSome result (StepLooksAt self.now (TheQpu k)) }
-    {
-        let k = k as usize;
-        if k < self.qpus.len() {
-            words_enough(&self.qpus[k], &self.memory)
-        } else {
-            None
-        }
-    }
-
     /// The turn of processor `k`, which may step.
-    pub(crate) fn take_qpu_turn(&mut self, k: u8, words: &[u32], accesses: &mut Accesses)
+    pub(crate) fn take_qpu_turn<C: Choices>(&mut self, k: u8, words: &C, accesses: &mut Accesses)
         requires empty { accesses.old.items ≡ [] }
         requires may { IsTrue (glanced (qpu_may (item_at self.old.units.qpus k)) self.old.memory) }
-        ensures { QpuMoves self.old k words.now accesses.new.items self.new }
+        ensures { QpuMoves self.old k (C.listed words.now) accesses.new.items self.new }
     {
         let who = Who {
             unit: Actor::Qpu(k),
@@ -97,10 +80,16 @@ impl Machine {
     }
 
     /// The turn of TMU `n` of processor `k`, which may step.
-    pub(crate) fn take_tmu_turn(&mut self, k: u8, n: u8, words: &[u32], accesses: &mut Accesses)
+    pub(crate) fn take_tmu_turn<C: Choices>(
+        &mut self,
+        k: u8,
+        n: u8,
+        words: &C,
+        accesses: &mut Accesses,
+    )
         requires empty { accesses.old.items ≡ [] }
         requires may { IsTrue (glanced (tmu_may (item_at self.old.units.qpus k) n) self.old.memory) }
-        ensures { TmuMoves self.old k n words.now accesses.new.items self.new }
+        ensures { TmuMoves self.old k n (C.listed words.now) accesses.new.items self.new }
     {
         let who = Who {
             unit: Actor::Tmu(k, n),

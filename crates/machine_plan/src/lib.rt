@@ -13,6 +13,6 @@ mod who;
 
 pub use accesses::Accesses;
 pub use bytes::{byte_at, list_access, put_byte, read_bytes};
-pub use choice::choice_word;
+pub use choice::Choices;
 pub use launch::{Free, Launch, Slot};
 pub use who::Who;

@@ -1,7 +1,11 @@
-//! Tests of shader rules (`shader_check`), of arithmetic (`qpu_alu`), of the memory (`phys_mem`), of shader processors (`qpu_machine`), and
-//! of replays (`replay`). A crate with tests is proved twice, so those of many crates stand in one, which has nothing else.
+//! Tests of shader rules (`shader_check`), of arithmetic (`qpu_alu`), of the memory (`phys_mem`), of shader processors (`qpu_machine`), of
+//! machines with their list units (`machine`), and of replays (`replay`). A crate with tests is proved twice, so those of many crates stand in one, which has nothing else.
 #![tactic(auto)]
 
+#[cfg(test)]
+mod instruction_tests;
+#[cfg(test)]
+mod list_unit_tests;
 #[cfg(test)]
 mod phys_mem_tests;
 #[cfg(test)]

@@ -41,7 +41,7 @@ fn step(thread: &mut Thread, memory: &PhysMem, words: &[u32]) -> (Option<Leaves>
         return (None, 0);
     }
     let mut accesses = ArrayVec::new();
-    let left = step_thread(thread, words, QPU, memory, &mut accesses);
+    let left = step_thread(thread, &words, QPU, memory, &mut accesses);
     (left, accesses.len())
 }
 
@@ -183,7 +183,7 @@ fn served(
 ) -> Option<Option<[u32; 16]>>
     requires { accesses.old.items ≡ [] }
 {
-    serve(&ask, words, QPU, memory, accesses)
+    serve(&ask, &words, QPU, memory, accesses)
 }
 
 // A direct request reads the word of each address, without its low two bits.

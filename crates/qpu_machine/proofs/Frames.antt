@@ -1,7 +1,7 @@
 -- What the units' writes leave alone.
 use Rattle.std.proofs.Common.{◌≡◌, ℕ, Bool, true, false, if◌then◌else◌, List, refl}
-use Rattle.qpu_machine.specs.Writes.{written_at, added, multiplied, written, stored, loaded, awake, past_uniform, rested}
-use Rattle.qpu_machine.specs.State.{Fate, Thread}
+use Rattle.qpu_machine.specs.Writes.{written_at, added, multiplied, written, loaded, awake, past_uniform}
+use Rattle.qpu_machine.specs.State.{Thread}
 
 -- the writes of the two units touch neither place nor setup words
 pub record Keeps (t next : Thread) : Type 0 where
@@ -13,10 +13,10 @@ pub written_keeps : (word : ℕ) (sum product words : List ℕ) (t : Thread) →
 unfolding written_at added multiplied written
 written_keeps word sum product words t = record { place = refl; setups0 = refl; setups1 = refl }
 
--- the TMUs don't touch the place
-pub loaded_place : (word uniform : ℕ) (words : List ℕ) (t : Thread) → (loaded word words (stored word uniform t)).place ≡ t.place
-unfolding stored loaded
-loaded_place word uniform words t = refl
+-- a load doesn't touch the place
+pub loaded_place : (word : ℕ) (words : List ℕ) (t : Thread) → (loaded word words t).place ≡ t.place
+unfolding loaded
+loaded_place word words t = refl
 
 pub awake_keeps : (words : List ℕ) (t : Thread) → Keeps t (awake words t)
 unfolding awake
@@ -27,8 +27,3 @@ pub fed_keeps : (takes : Bool) (t : Thread) → Keeps t (if takes then past_unif
 unfolding past_uniform
 fed_keeps true t = record { place = refl; setups0 = refl; setups1 = refl }
 fed_keeps false t = record { place = refl; setups0 = refl; setups1 = refl }
-
--- rest doesn't either
-pub rested_place : (fate : Fate) (t : Thread) → (rested fate t).place ≡ t.place
-unfolding rested
-rested_place fate t = refl

@@ -8,9 +8,3 @@ pub mod Asking
 pub mod Settling
 pub mod Starts
 pub mod Served
-pub mod Same
-pub mod Nops
-pub mod KnownRows
-pub mod Looking
-pub mod Words
-pub mod Grids

@@ -1,5 +1,5 @@
 -- The step of a TMU: the thread that gets a result has room, and the code's step is the definition's.
-use Rattle.std.proofs.Common.{◌≡◌, ◌≢◌, ◌≤◌, ◌<◌, ℕ, zero, suc, ◌+◌, ◌==◌, not, Bool, true, false, if◌then◌else◌, List, [], ◌∷◌, ◌++◌, drop, length, Option, None, Some, refl, sym, ◌∙◌, ap, subst, arith}
+use Rattle.std.proofs.Common.{◌≡◌, ◌≢◌, ◌≤◌, ◌<◌, ℕ, zero, suc, ◌+◌, ◌==◌, Bool, true, false, if◌then◌else◌, List, [], ◌∷◌, ◌++◌, drop, length, Option, None, Some, refl, sym, ◌∙◌, ap, subst, arith}
 use Rattle.std.proofs.lemmas.Grind.{common_steps}
 use Rattle.std.specs.Prelude.{option_map}
 use Rattle.machine_plan.specs.Plan.{Shows, carried}
@@ -7,18 +7,14 @@ use Rattle.machine_plan.proofs.Worlds.{shows_mapped}
 use Rattle.qpu_machine.specs.Qpu.{is_of, queued, queue_of, oldest, slot_of, with_result, dropped, given, served, serving, tmu_plan}
 use Rattle.qpu_machine.specs.{State.Access, State.Qpu, State.Request, State.Thread, State.Who, Request.ask_plan}
 use Rattle.qpu_machine.specs.Bounds.{IsNear, finished0, finished1, IsFew, IsBounded}
-use Rattle.qpu_machine.proofs.Settling.{one_if, queued_first}
+use Rattle.qpu_machine.proofs.Settling.{one_if, queued_first, own_request, active_few}
 
 rest_fewer : (second : Bool) (requests : List Request) → queued second (drop 1 requests) ≤ queued second requests
 rest_fewer second [] = omega arith
 rest_fewer second (r ∷ requests) = omega (arith, queued_first second r requests)
 
-own_by : (second : Bool) → one_if (if second then second else not second) ≡ 1
-own_by true = refl
-own_by false = refl
-
 own_is : (r : Request) → one_if (is_of r.second r) ≡ 1
-own_is r = own_by r.second
+own_is r = ap one_if (own_request r.second r.job r.ask)
 
 rest_one_less : (second : Bool) (requests : List Request) (r : Request) → oldest requests ≡ Some r → r.second ≡ second → queued second (drop 1 requests) + 1 ≡ queued second requests
 rest_one_less second [] r old own = absurd cc
@@ -27,14 +23,10 @@ rest_one_less second (x ∷ requests) r old own =
     let one : one_if (is_of second x) ≡ 1 = ap (λ (y : Request). one_if (is_of second y)) same ∙ (ap (λ b. one_if (is_of b r)) (sym own) ∙ own_is r) in
     omega (arith, queued_first second x requests, one)
 
-few_slot : (q : Qpu) (second : Bool) → IsBounded q → IsFew second (slot_of q second) q.queue0.items q.queue1.items
-few_slot q true h = h.other_few
-few_slot q false h = h.first_few
-
 pub give_room0 : (q : Qpu) (tmu : ℕ) (r : Request) → IsBounded q → oldest (queue_of q tmu) ≡ Some r → tmu ≡ 0 → finished0 (slot_of (dropped q tmu) r.second) < 8
 unfolding dropped
 give_room0 q tmu r h old is =
-    let few = few_slot q r.second h in
+    let few = active_few q r.second h in
     let old0 : oldest q.queue0.items ≡ Some r = subst (λ n. oldest (queue_of q n) ≡ Some r) is old in
     omega (arith, few.tmu0, rest_one_less r.second q.queue0.items r old0 refl)
 
@@ -45,7 +37,7 @@ other_tmu (suc n) h = grind arith
 pub give_room1 : (q : Qpu) (tmu : ℕ) (r : Request) → IsBounded q → oldest (queue_of q tmu) ≡ Some r → tmu ≢ 0 → finished1 (slot_of (dropped q tmu) r.second) < 8
 unfolding dropped
 give_room1 q tmu r h old is =
-    let few = few_slot q r.second h in
+    let few = active_few q r.second h in
     let old1 : oldest q.queue1.items ≡ Some r = subst (λ b. oldest (if b then q.queue0.items else q.queue1.items) ≡ Some r) (other_tmu tmu is) old in
     omega (arith, few.tmu1, rest_one_less r.second q.queue1.items r old1 refl)
 

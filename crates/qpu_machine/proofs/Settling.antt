@@ -108,7 +108,7 @@ queued_last : (second : Bool) (requests : List Request) (r : Request) → queued
 queued_last second [] r = grind (arith, common_steps)
 queued_last second (x ∷ requests) r = let h : queued second (requests ++ r ∷ []) ≡ queued second requests + one_if (is_of second r) = queued_last second requests r in grind (arith, common_steps, h)
 
-own_request : (second : Bool) (job : ℕ) (ask : Ask) → is_of second (record { second = second; job = job; ask = ask }) ≡ true
+pub own_request : (second : Bool) (job : ℕ) (ask : Ask) → is_of second (record { second = second; job = job; ask = ask }) ≡ true
 own_request false job ask = refl
 own_request true job ask = refl
 
@@ -194,7 +194,7 @@ queued_all (r ∷ requests) =
     let h = one_more r.second (queued false requests) (queued true requests) (length requests) (queued_all requests) in
     omega (arith, h, queued_first false r requests, queued_first true r requests)
 
-active_few : (q : Qpu) (second : Bool) → IsBounded q → IsFew second (active_of (record q { second = second })) q.queue0.items q.queue1.items
+pub active_few : (q : Qpu) (second : Bool) → IsBounded q → IsFew second (active_of (record q { second = second })) q.queue0.items q.queue1.items
 active_few q true h = h.other_few
 active_few q false h = h.first_few
 

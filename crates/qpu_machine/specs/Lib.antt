@@ -5,8 +5,6 @@ pub mod Writes
 pub mod Wild
 pub mod Step
 pub mod Start
-pub mod Grid
 pub mod Request
 pub mod Qpu
-pub mod Known
 pub mod Bounds

@@ -3,12 +3,12 @@ ghost use Rattle.std.specs.Prelude.{◌≡◌, ◌<◌, ◌≤◌, ◌+◌, ◌+
 ghost use Rattle.arrayvec.specs.ArrayVec.{array_vec_len};
 ghost use Rattle.qpu_isa.specs.Setups.{kept};
 ghost use Rattle.qpu_isa.specs.Terms.{writes_tmu};
-ghost use Rattle.qpu_machine.specs.Writes.{awake, past_uniform, add_address, mul_address, file_after, acc_after, pointer_after, written_at, added, multiplied, written, stored, loads, loaded_row, r4_after, results_after, loaded, led_to, went_on, worked, fate_of, switches, rested, four, ask_of, asked};
+ghost use Rattle.qpu_machine.specs.Writes.{awake, file_after, acc_after, written_at, added, multiplied, loads, loaded_row, r4_after, results_after, loaded, went_on, worked, fate_of, ask_of, asked};
 
 use crate::lanes::{chosen_row, chosen_rows, has_lane, mask_of, merged};
 use crate::state::{Ask, Asked, Fate, Mark, Row, Thread};
 use arrayvec::ArrayVec;
-use machine_plan::choice_word;
+use machine_plan::Choices;
 use qpu_isa::word::{
     cond, cond_add, cond_mul, imm, is_branch, is_end, is_switch, sig, waddr_add, waddr_mul, ws,
 };
@@ -16,37 +16,13 @@ use qpu_isa::writes::{add_names, writes_s, writes_tmu};
 
 /// A fresh thread takes r0 to r5 from the choice words.
 #[tactic(auto, unfolding(crate::specs::Writes::awake))]
-pub(crate) fn wake(words: &[u32], thread: &mut Thread)
-    ensures { thread.new ≡ awake words.now thread.old }
+pub(crate) fn wake<C: Choices>(words: &C, thread: &mut Thread)
+    ensures { thread.new ≡ awake (C.listed words.now) thread.old }
 {
     if thread.fresh {
         thread.acc = chosen_rows(words);
     }
     thread.fresh = false;
-}
-
-/// The uniform pointer goes past the uniform that was taken.
-#[tactic(auto, unfolding(crate::specs::Writes::past_uniform))]
-pub(crate) fn pass_uniform(thread: &mut Thread)
-    ensures { thread.new ≡ past_uniform thread.old }
-{
-    thread.uniforms = thread.uniforms.wrapping_add(4);
-}
-
-/// Where the add unit writes; a branch writes to 39, which is nothing.
-#[tactic(auto, unfolding(crate::specs::Writes::add_address))]
-pub(crate) fn add_address(word: u64) -> u8
-    ensures { result ≡ add_address word }
-{
-    if is_branch(word) { 39 } else { waddr_add(word) }
-}
-
-/// Where the multiply unit writes.
-#[tactic(auto, unfolding(crate::specs::Writes::mul_address))]
-pub(crate) fn mul_address(word: u64) -> u8
-    ensures { result ≡ mul_address word }
-{
-    if is_branch(word) { 39 } else { waddr_mul(word) }
 }
 
 // A unit's write to a file, if it is on the file's side.
@@ -62,8 +38,8 @@ fn write_file(on_side: bool, address: u8, mask: u32, value: &Row, file: &mut [Ro
 
 // A unit's write to r0 to r5.
 #[tactic(auto, unfolding(crate::specs::Writes::acc_after))]
-fn write_acc(address: u8, mask: u32, value: &Row, words: &[u32], acc: &mut [Row; 6])
-    ensures { acc.new ≡ acc_after address mask value.now words.now acc.old }
+fn write_acc<C: Choices>(address: u8, mask: u32, value: &Row, words: &C, acc: &mut [Row; 6])
+    ensures { acc.new ≡ acc_after address mask value.now (C.listed words.now) acc.old }
 {
     if 32 <= address && address < 36 {
         let row = merged(mask, &acc[address as usize - 32], value);
@@ -77,52 +53,44 @@ fn write_acc(address: u8, mask: u32, value: &Row, words: &[u32], acc: &mut [Row;
     }
 }
 
-// The uniform pointer after a unit's write.
-#[tactic(auto, unfolding(crate::specs::Writes::pointer_after))]
-fn pointer_after(address: u8, mask: u32, value: &Row, uniforms: u32) -> u32
-    ensures { result ≡ pointer_after address mask value.now uniforms }
-{
-    if address == 40 && has_lane(mask, 0) {
-        value[0]
-    } else {
-        uniforms
-    }
-}
-
 // A unit's write on the A side or the B side.
-#[tactic(auto, unfolding(crate::specs::Writes::written_at))]
-fn write_at(on_a: bool, address: u8, mask: u32, value: &Row, words: &[u32], thread: &mut Thread)
-    ensures { thread.new ≡ written_at on_a address mask value.now words.now thread.old }
+#[tactic(auto, unfolding(crate::specs::Writes::written_at, crate::specs::Writes::pointer_after))]
+fn write_at<C: Choices>(
+    on_a: bool,
+    address: u8,
+    mask: u32,
+    value: &Row,
+    words: &C,
+    thread: &mut Thread,
+)
+    ensures { thread.new ≡ written_at on_a address mask value.now (C.listed words.now) thread.old }
 {
-    thread.uniforms = pointer_after(address, mask, value, thread.uniforms);
     write_file(on_a, address, mask, value, &mut thread.a);
     write_file(!on_a, address, mask, value, &mut thread.b);
     write_acc(address, mask, value, words, &mut thread.acc);
+    if address == 40 && has_lane(mask, 0) {
+        thread.uniforms = value[0];
+    }
 }
 
-#[tactic(auto, unfolding(crate::specs::Writes::added))]
-fn add(word: u64, value: &Row, words: &[u32], thread: &mut Thread)
-    ensures { thread.new ≡ added word value.now words.now thread.old }
+// The add unit writes; a branch writes to 39, which is nothing.
+#[tactic(auto, unfolding(crate::specs::Writes::added, crate::specs::Writes::add_address))]
+fn add<C: Choices>(word: u64, value: &Row, words: &C, thread: &mut Thread)
+    ensures { thread.new ≡ added word value.now (C.listed words.now) thread.old }
 {
     let mask = mask_of(cond_add(word), words, 0);
-    write_at(!ws(word), add_address(word), mask, value, words, thread);
+    let address = if is_branch(word) { 39 } else { waddr_add(word) };
+    write_at(!ws(word), address, mask, value, words, thread);
 }
 
-#[tactic(auto, unfolding(crate::specs::Writes::multiplied))]
-fn multiply(word: u64, value: &Row, words: &[u32], thread: &mut Thread)
-    ensures { thread.new ≡ multiplied word value.now words.now thread.old }
+// The multiply unit writes.
+#[tactic(auto, unfolding(crate::specs::Writes::multiplied, crate::specs::Writes::mul_address))]
+fn multiply<C: Choices>(word: u64, value: &Row, words: &C, thread: &mut Thread)
+    ensures { thread.new ≡ multiplied word value.now (C.listed words.now) thread.old }
 {
     let mask = mask_of(cond_mul(word), words, 16);
-    write_at(ws(word), mul_address(word), mask, value, words, thread);
-}
-
-// Both units' writes.
-#[tactic(auto, unfolding(crate::specs::Writes::written))]
-fn write(word: u64, sum: &Row, product: &Row, words: &[u32], thread: &mut Thread)
-    ensures { thread.new ≡ written word sum.now product.now words.now thread.old }
-{
-    add(word, sum, words, thread);
-    multiply(word, product, words, thread);
+    let address = if is_branch(word) { 39 } else { waddr_mul(word) };
+    write_at(ws(word), address, mask, value, words, thread);
 }
 
 // The setup words that a TMU keeps.
@@ -139,17 +107,6 @@ fn keep(word: u64, tmu: u8, uniform: u32, setups: &mut ArrayVec<u32, 4>)
     }
 }
 
-// The setup words that both TMUs keep.
-#[tactic(auto, unfolding(crate::specs::Writes::stored))]
-fn store(word: u64, uniform: u32, thread: &mut Thread)
-    requires room0 { writes_tmu word 0 ≡ true → array_vec_len thread.old.setups0 < 4 }
-    requires room1 { writes_tmu word 1 ≡ true → array_vec_len thread.old.setups1 < 4 }
-    ensures { thread.new ≡ stored word uniform thread.old }
-{
-    keep(word, 0, uniform, &mut thread.setups0);
-    keep(word, 1, uniform, &mut thread.setups1);
-}
-
 /// Whether the instruction loads from this TMU.
 #[tactic(auto, unfolding(crate::specs::Writes::loads))]
 pub(crate) fn loads(word: u64, tmu: u8) -> bool
@@ -161,8 +118,8 @@ pub(crate) fn loads(word: u64, tmu: u8) -> bool
 
 // r4 after a load of the oldest of these results.
 #[tactic(auto, unfolding(crate::specs::Writes::loaded_row))]
-fn loaded_row(results: &ArrayVec<Option<Row>, 8>, words: &[u32]) -> Row
-    ensures { result ≡ loaded_row results.now.items words.now }
+fn loaded_row<C: Choices>(results: &ArrayVec<Option<Row>, 8>, words: &C) -> Row
+    ensures { result ≡ loaded_row results.now.items (C.listed words.now) }
 {
     if !results.is_empty()
         && let Some(row) = results[0]
@@ -174,14 +131,14 @@ fn loaded_row(results: &ArrayVec<Option<Row>, 8>, words: &[u32]) -> Row
 
 // What the signal loads into r4.
 #[tactic(auto, unfolding(crate::specs::Writes::r4_after))]
-fn load_r4(
+fn load_r4<C: Choices>(
     word: u64,
-    words: &[u32],
+    words: &C,
     results0: &ArrayVec<Option<Row>, 8>,
     results1: &ArrayVec<Option<Row>, 8>,
     acc: &mut [Row; 6],
 )
-    ensures { acc.new ≡ r4_after word words.now results0.now.items results1.now.items acc.old }
+    ensures { acc.new ≡ r4_after word (C.listed words.now) results0.now.items results1.now.items acc.old }
 {
     if loads(word, 0) {
         acc[4] = loaded_row(results0, words);
@@ -204,8 +161,8 @@ fn take(taken: bool, results: &mut ArrayVec<Option<Row>, 8>)
 
 // A load signal takes the oldest result into r4.
 #[tactic(auto, unfolding(crate::specs::Writes::loaded))]
-fn load(word: u64, words: &[u32], thread: &mut Thread)
-    ensures { thread.new ≡ loaded word words.now thread.old }
+fn load<C: Choices>(word: u64, words: &C, thread: &mut Thread)
+    ensures { thread.new ≡ loaded word (C.listed words.now) thread.old }
 {
     load_r4(
         word,
@@ -218,26 +175,19 @@ fn load(word: u64, words: &[u32], thread: &mut Thread)
     take(loads(word, 1), &mut thread.results1);
 }
 
-// Where a branch at this place leads.
-#[tactic(auto, unfolding(crate::specs::Writes::led_to))]
-fn led_to(word: u64, words: &[u32], place: u64) -> Option<u32>
-    requires { place < 2 ^ 62 }
-    ensures { result ≡ led_to word words.now place }
-{
-    if is_branch(word) && (cond(word) == 15 || choice_word(words, 81) % 2 == 1) {
-        return Some(((place + 32 + imm(word) as u64) % (1 << 32)) as u32);
-    }
-    None
-}
-
 // The thread goes on to its next instruction.
-#[tactic(auto, unfolding(crate::specs::Writes::went_on))]
-fn go_on(word: u64, words: &[u32], thread: &mut Thread)
+#[tactic(auto, unfolding(crate::specs::Writes::went_on, crate::specs::Writes::led_to))]
+fn go_on<C: Choices>(word: u64, words: &C, thread: &mut Thread)
     requires { thread.old.place < 2 ^ 62 }
     ensures near { thread.new.place ≤ thread.old.place + 2 ^ 33 }
-    ensures value { thread.new ≡ went_on word words.now thread.old }
+    ensures value { thread.new ≡ went_on word (C.listed words.now) thread.old }
 {
-    let to = led_to(word, words, thread.place);
+    let leads = is_branch(word) && (cond(word) == 15 || words.word(81) % 2 == 1);
+    let to = if leads {
+        Some(((thread.place + 32 + imm(word) as u64) % (1 << 32)) as u32)
+    } else {
+        None
+    };
     thread.place = match thread.last3.to {
         Some(place) => place as u64,
         None => thread.place + 8,
@@ -248,23 +198,25 @@ fn go_on(word: u64, words: &[u32], thread: &mut Thread)
 }
 
 /// What the thread keeps after the instruction, by what the two units came to.
-#[tactic(auto, using(crate::proofs::Frames::written_keeps, crate::proofs::Frames::loaded_place), unfolding(crate::specs::Writes::worked))]
-pub(crate) fn work(
+#[tactic(auto, using(crate::proofs::Frames::written_keeps, crate::proofs::Frames::loaded_place), unfolding(crate::specs::Writes::worked, crate::specs::Writes::written, crate::specs::Writes::stored))]
+pub(crate) fn work<C: Choices>(
     word: u64,
     uniform: u32,
     sum: &Row,
     product: &Row,
-    words: &[u32],
+    words: &C,
     thread: &mut Thread,
 )
     requires place { thread.old.place < 2 ^ 62 }
     requires room0 { writes_tmu word 0 ≡ true → array_vec_len thread.old.setups0 < 4 }
     requires room1 { writes_tmu word 1 ≡ true → array_vec_len thread.old.setups1 < 4 }
     ensures near { thread.new.place ≤ thread.old.place + 2 ^ 33 }
-    ensures value { thread.new ≡ worked word uniform sum.now product.now words.now thread.old }
+    ensures value { thread.new ≡ worked word uniform sum.now product.now (C.listed words.now) thread.old }
 {
-    write(word, sum, product, words, thread);
-    store(word, uniform, thread);
+    add(word, sum, words, thread);
+    multiply(word, product, words, thread);
+    keep(word, 0, uniform, &mut thread.setups0);
+    keep(word, 1, uniform, &mut thread.setups1);
     load(word, words, thread);
     go_on(word, words, thread);
 }
@@ -283,14 +235,6 @@ pub(crate) fn fate_of(thread: &Thread) -> Fate
     }
 }
 
-/// A thread that switches is fresh from then on.
-#[tactic(auto, unfolding(crate::specs::Writes::rested))]
-pub(crate) fn rest(fate: Fate, thread: &mut Thread)
-    ensures { thread.new ≡ rested fate thread.old }
-{
-    thread.fresh = fate == Fate::Switches || thread.fresh;
-}
-
 // Setup word `i`, where the uniform is the last.
 #[tactic(auto, using(crate::proofs::Results::with_last))]
 fn setup_word(setups: &ArrayVec<u32, 4>, uniform: u32, i: usize) -> u32
@@ -302,21 +246,8 @@ fn setup_word(setups: &ArrayVec<u32, 4>, uniform: u32, i: usize) -> u32
     if i == setups.len() { uniform } else { 0 }
 }
 
-// Four setup words, of which the last is the uniform.
-#[tactic(auto, unfolding(crate::specs::Writes::four))]
-fn four(setups: &ArrayVec<u32, 4>, uniform: u32) -> [u32; 4]
-    ensures { result ≡ four (setups.now.items ++ uniform ∷ []) }
-{
-    [
-        setup_word(setups, uniform, 0),
-        setup_word(setups, uniform, 1),
-        setup_word(setups, uniform, 2),
-        setup_word(setups, uniform, 3),
-    ]
-}
-
 // What a send asks this TMU for.
-#[tactic(auto, unfolding(crate::specs::Writes::ask_of, qpu_isa::specs::Terms::s_address))]
+#[tactic(auto, unfolding(crate::specs::Writes::ask_of, crate::specs::Writes::four, qpu_isa::specs::Terms::s_address))]
 fn ask_of(
     word: u64,
     tmu: u8,
@@ -329,7 +260,12 @@ fn ask_of(
     ensures { result ≡ ask_of word tmu uniform sum.now product.now setups.now.items }
 {
     if !setups.is_empty() {
-        return Ask::Texture(four(setups, uniform));
+        return Ask::Texture([
+            setup_word(setups, uniform, 0),
+            setup_word(setups, uniform, 1),
+            setup_word(setups, uniform, 2),
+            setup_word(setups, uniform, 3),
+        ]);
     }
     if add_names(word, 56 + 4 * tmu) {
         return Ask::Direct(*sum);

@@ -6,10 +6,7 @@
 #![tactic(auto)]
 
 mod effects;
-mod grid;
-mod known;
 mod lanes;
-mod modulus;
 mod operands;
 mod qpu;
 mod reads;
@@ -20,11 +17,9 @@ mod start;
 mod starting;
 mod state;
 mod step;
-mod texels;
 mod wild;
 
-pub use known::words_enough;
-pub use qpu::{is_qpu_idle, is_qpu_ready, takes_first, takes_other};
+pub use qpu::{is_qpu_idle, is_qpu_ready};
 pub use request::serve;
 pub use serving::{is_tmu_ready, step_tmu, tmu_job};
 pub use settle::{qpu_job, step_qpu};

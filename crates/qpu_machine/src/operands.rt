@@ -1,11 +1,11 @@
 //! What the two units compute with, and what they come to.
 ghost use Rattle.std.specs.Prelude.{◌≡◌, ◌≤◌, ◌<◌};
 ghost use Rattle.qpu_isa.specs.Word.{op_add_of, op_mul_of};
-ghost use Rattle.qpu_machine.specs.Operands.{read_a, small_row, read_b, operand, immediate_row, sums, add_row, is_rotated, products, mul_row};
+ghost use Rattle.qpu_machine.specs.Operands.{read_a, read_b, operand, immediate_row, sums, add_row, products, mul_row};
 
 use crate::lanes::chosen_row;
 use crate::state::{Row, Thread};
-use machine_plan::choice_word;
+use machine_plan::Choices;
 use qpu_alu::{add_result, mul_result};
 use qpu_isa::Reg;
 use qpu_isa::operands::is_plain;
@@ -16,8 +16,8 @@ use qpu_isa::writes::{is_add_packed, is_mul_packed, names};
 
 // The read of file A.
 #[tactic(auto, unfolding(crate::specs::Operands::read_a))]
-fn read_a(thread: &Thread, word: u64, uniform: u32, words: &[u32]) -> Row
-    ensures { result ≡ read_a thread.now word uniform words.now }
+fn read_a<C: Choices>(thread: &Thread, word: u64, uniform: u32, words: &C) -> Row
+    ensures { result ≡ read_a thread.now word uniform (C.listed words.now) }
 {
     let address = raddr_a(word);
     if !is_plain(word, 6) {
@@ -35,28 +35,20 @@ fn read_a(thread: &Thread, word: u64, uniform: u32, words: &[u32]) -> Row
     chosen_row(words, 33)
 }
 
-// A small immediate, by its field.
-#[tactic(auto, unfolding(crate::specs::Operands::small_row))]
-fn small_row(value: u8, words: &[u32]) -> Row
-    ensures { result ≡ small_row value words.now }
-{
-    if value < 16 {
-        return [value as u32; 16];
-    }
-    if value < 32 {
-        return [0xffff_ffe0 + value as u32; 16];
-    }
-    chosen_row(words, 49)
-}
-
-// The read of file B.
-#[tactic(auto, unfolding(crate::specs::Operands::read_b))]
-fn read_b(thread: &Thread, word: u64, uniform: u32, words: &[u32]) -> Row
-    ensures { result ≡ read_b thread.now word uniform words.now }
+// The read of file B, or a small immediate.
+#[tactic(auto, unfolding(crate::specs::Operands::read_b, crate::specs::Operands::small_row))]
+fn read_b<C: Choices>(thread: &Thread, word: u64, uniform: u32, words: &C) -> Row
+    ensures { result ≡ read_b thread.now word uniform (C.listed words.now) }
 {
     let address = raddr_b(word);
     if has_small(word) {
-        return small_row(address, words);
+        if address < 16 {
+            return [address as u32; 16];
+        }
+        if address < 32 {
+            return [0xffff_ffe0 + address as u32; 16];
+        }
+        return chosen_row(words, 49);
     }
     if address == 32 {
         return [uniform; 16];
@@ -72,9 +64,9 @@ fn read_b(thread: &Thread, word: u64, uniform: u32, words: &[u32]) -> Row
 
 // The operand of this selector.
 #[tactic(auto, unfolding(crate::specs::Operands::operand))]
-fn operand(thread: &Thread, word: u64, selector: u8, uniform: u32, words: &[u32]) -> Row
+fn operand<C: Choices>(thread: &Thread, word: u64, selector: u8, uniform: u32, words: &C) -> Row
     requires { selector < 8 }
-    ensures { result ≡ operand thread.now word selector uniform words.now }
+    ensures { result ≡ operand thread.now word selector uniform (C.listed words.now) }
 {
     if selector == 6 {
         return read_a(thread, word, uniform, words);
@@ -90,9 +82,9 @@ fn operand(thread: &Thread, word: u64, selector: u8, uniform: u32, words: &[u32]
 
 // The value of a load immediate.
 #[tactic(auto, unfolding(crate::specs::Operands::immediate_row))]
-fn immediate_row(word: u64, words: &[u32], from: u64) -> Row
+fn immediate_row<C: Choices>(word: u64, words: &C, from: u64) -> Row
     requires { from ≤ 1000 }
-    ensures { result ≡ immediate_row word words.now from }
+    ensures { result ≡ immediate_row word (C.listed words.now) from }
 {
     if mode(word) == 0 {
         return [imm(word); 16];
@@ -101,42 +93,22 @@ fn immediate_row(word: u64, words: &[u32], from: u64) -> Row
 }
 
 // The add unit's results by element.
-#[inline(always)]
 #[tactic(auto, using(crate::proofs::Fronts::front_more), unfolding(crate::specs::Operands::sums))]
-fn sums_of(op: u8, x: &Row, y: &Row, words: &[u32]) -> Row
+fn sums<C: Choices>(op: u8, x: &Row, y: &Row, words: &C) -> Row
     requires { op < 32 }
-    ensures { result ≡ sums op x.now y.now words.now }
+    ensures { result ≡ sums op x.now y.now (C.listed words.now) }
 {
     let mut row = [0; 16];
     for e in 0..16 {
-        row[e] = add_result(op, x[e], y[e]).unwrap_or(choice_word(words, 1 + e as u64));
+        row[e] = add_result(op, x[e], y[e]).unwrap_or(words.word(1 + e as u64));
     }
     row
 }
 
-// The same. Nop, add, sub, min, max, and, or and xor are each compiled for themselves, so that the operation is told once and not at
-// each element.
-fn sums(op: u8, x: &Row, y: &Row, words: &[u32]) -> Row
-    requires { op < 32 }
-    ensures { result ≡ sums op x.now y.now words.now }
-{
-    match op {
-        0 => sums_of(0, x, y, words),
-        12 => sums_of(12, x, y, words),
-        13 => sums_of(13, x, y, words),
-        18 => sums_of(18, x, y, words),
-        19 => sums_of(19, x, y, words),
-        20 => sums_of(20, x, y, words),
-        21 => sums_of(21, x, y, words),
-        22 => sums_of(22, x, y, words),
-        _ => sums_of(op, x, y, words),
-    }
-}
-
 /// What the add unit comes to.
-#[tactic(auto, using(crate::proofs::Nops::no_sums), unfolding(crate::specs::Operands::add_row))]
-pub(crate) fn add_row(thread: &Thread, word: u64, uniform: u32, words: &[u32]) -> Row
-    ensures { result ≡ add_row thread.now word uniform words.now }
+#[tactic(auto, unfolding(crate::specs::Operands::add_row))]
+pub(crate) fn add_row<C: Choices>(thread: &Thread, word: u64, uniform: u32, words: &C) -> Row
+    ensures { result ≡ add_row thread.now word uniform (C.listed words.now) }
 {
     if is_add_packed(word) {
         return chosen_row(words, 1);
@@ -144,69 +116,37 @@ pub(crate) fn add_row(thread: &Thread, word: u64, uniform: u32, words: &[u32]) -
     if is_load_imm(word) {
         return immediate_row(word, words, 1);
     }
-    let op = op_add(word);
-    if op == 0 {
-        return [0; 16];
-    }
     let x = operand(thread, word, add_a(word), uniform, words);
     let y = operand(thread, word, add_b(word), uniform, words);
-    sums(op, &x, &y, words)
-}
-
-/// Whether the multiply unit's result is rotated.
-#[tactic(auto, unfolding(crate::specs::Operands::is_rotated))]
-pub(crate) fn is_rotated(word: u64) -> bool
-    ensures { result ≡ is_rotated word }
-{
-    has_small(word) && 48 <= raddr_b(word)
+    sums(op_add(word), &x, &y, words)
 }
 
 // The multiply unit's results by element.
-#[inline(always)]
 #[tactic(auto, using(crate::proofs::Fronts::front_more), unfolding(crate::specs::Operands::products))]
-fn products_of(op: u8, x: &Row, y: &Row, words: &[u32]) -> Row
+fn products<C: Choices>(op: u8, x: &Row, y: &Row, words: &C) -> Row
     requires { op < 8 }
-    ensures { result ≡ products op x.now y.now words.now }
+    ensures { result ≡ products op x.now y.now (C.listed words.now) }
 {
     let mut row = [0; 16];
     for e in 0..16 {
-        row[e] = mul_result(op, x[e], y[e]).unwrap_or(choice_word(words, 17 + e as u64));
+        row[e] = mul_result(op, x[e], y[e]).unwrap_or(words.word(17 + e as u64));
     }
     row
 }
 
-// The same. All but fmul and v8muld, whose results are free, are each compiled for themselves.
-fn products(op: u8, x: &Row, y: &Row, words: &[u32]) -> Row
-    requires { op < 8 }
-    ensures { result ≡ products op x.now y.now words.now }
-{
-    match op {
-        0 => products_of(0, x, y, words),
-        2 => products_of(2, x, y, words),
-        4 => products_of(4, x, y, words),
-        5 => products_of(5, x, y, words),
-        6 => products_of(6, x, y, words),
-        7 => products_of(7, x, y, words),
-        _ => products_of(op, x, y, words),
-    }
-}
-
 /// What the multiply unit comes to.
-#[tactic(auto, using(crate::proofs::Nops::no_products), unfolding(crate::specs::Operands::mul_row))]
-pub(crate) fn mul_row(thread: &Thread, word: u64, uniform: u32, words: &[u32]) -> Row
-    ensures { result ≡ mul_row thread.now word uniform words.now }
+#[tactic(auto, unfolding(crate::specs::Operands::mul_row, crate::specs::Operands::is_rotated))]
+pub(crate) fn mul_row<C: Choices>(thread: &Thread, word: u64, uniform: u32, words: &C) -> Row
+    ensures { result ≡ mul_row thread.now word uniform (C.listed words.now) }
 {
-    if is_mul_packed(word) || is_rotated(word) {
+    let is_rotated = has_small(word) && 48 <= raddr_b(word);
+    if is_mul_packed(word) || is_rotated {
         return chosen_row(words, 17);
     }
     if is_load_imm(word) {
         return immediate_row(word, words, 17);
     }
-    let op = op_mul(word);
-    if op == 0 {
-        return [0; 16];
-    }
     let x = operand(thread, word, mul_a(word), uniform, words);
     let y = operand(thread, word, mul_b(word), uniform, words);
-    products(op, &x, &y, words)
+    products(op_mul(word), &x, &y, words)
 }

@@ -2,23 +2,12 @@
 ghost use Rattle.std.specs.Prelude.{◌≡◌, ◌<◌, ◌≤◌, ◌^◌, IfSome};
 ghost use Rattle.machine_plan.specs.Glance.{glanced};
 ghost use Rattle.qpu_machine.specs.Bounds.{IsBounded};
-ghost use Rattle.qpu_machine.specs.Qpu.{active_of, is_of, queued, qpu_ready, has_none, is_beside, takes_first, takes_other, is_idle};
+ghost use Rattle.qpu_machine.specs.Qpu.{active_of, queued, qpu_ready, has_none, is_beside, takes_first, takes_other, is_idle};
 
 use crate::state::{Qpu, Request, Thread};
 use crate::step::is_ready;
 use arrayvec::ArrayVec;
 use phys_mem::PhysMem;
-
-// Whether the request is the second or the first thread's.
-fn is_of(second: bool, request: &Request) -> bool
-    ensures { result ≡ is_of second request.now }
-{
-    if second {
-        request.second
-    } else {
-        !request.second
-    }
-}
 
 // How many requests of the second or of the first thread a queue has.
 fn queued(second: bool, requests: &ArrayVec<Request, 16>) -> usize
@@ -27,7 +16,7 @@ fn queued(second: bool, requests: &ArrayVec<Request, 16>) -> usize
 {
     let mut count = 0;
     for request in requests.as_slice() {
-        if is_of(second, request) {
+        if request.second == second {
             count += 1;
         }
     }
@@ -70,7 +59,7 @@ fn is_beside(thread: &Option<Thread>) -> bool
 
 /// Whether a program can start in the processor's first thread.
 #[tactic(auto, unfolding(crate::specs::Qpu::takes_first))]
-pub fn takes_first(threaded: bool, qpu: &Qpu) -> bool
+pub(crate) fn takes_first(threaded: bool, qpu: &Qpu) -> bool
     ensures { result ≡ takes_first threaded qpu.now }
 {
     if qpu.first.is_some() || !has_none(false, qpu) {
@@ -84,7 +73,7 @@ pub fn takes_first(threaded: bool, qpu: &Qpu) -> bool
 
 /// Whether a program can start in the processor's second thread.
 #[tactic(auto, unfolding(crate::specs::Qpu::takes_other))]
-pub fn takes_other(threaded: bool, qpu: &Qpu) -> bool
+pub(crate) fn takes_other(threaded: bool, qpu: &Qpu) -> bool
     ensures { result ≡ takes_other threaded qpu.now }
 {
     threaded && (qpu.other.is_none() && has_none(true, qpu)) && is_beside(&qpu.first)

@@ -12,20 +12,8 @@ use field_words::Way;
 use machine_plan::{Accesses, Who, list_access, read_bytes};
 use phys_mem::PhysMem;
 
-// The word at this place. Inside the memory it is read at once.
-#[inline(always)]
-#[tactic(auto, using(machine_plan::proofs::Words::word_read), unfolding(field_words::specs::Words::u32_at))]
-fn word_at(place: u64, memory: &PhysMem) -> u32
-    requires { place < 2 ^ 63 }
-    ensures { result ≡ u32_at (bytes_at memory.now place 4) 0 }
-{
-    if place + 4 <= u64::from(memory.len()) {
-        return memory.read_word(place as u32);
-    }
-    LittleEndian::read_u32(&read_bytes(memory, place, 4))
-}
-
 /// Reads the word at this place.
+#[tactic(auto, unfolding(field_words::specs::Words::u32_at))]
 pub(crate) fn read_word(place: u32, who: Who, memory: &PhysMem, accesses: &mut Accesses) -> u32
     requires { array_vec_len accesses.old < 270 }
     ensures value { result ≡ u32_at (bytes_at memory.now place 4) 0 }
@@ -33,17 +21,13 @@ pub(crate) fn read_word(place: u32, who: Who, memory: &PhysMem, accesses: &mut A
     ensures len { array_vec_len accesses.new ≡ array_vec_len accesses.old + 1 }
 {
     list_access(who, Way::Read, u64::from(place), 4, accesses);
-    word_at(u64::from(place), memory)
+    LittleEndian::read_u32(&read_bytes(memory, u64::from(place), 4))
 }
 
 /// The word of the instruction at this place.
-#[inline]
-#[tactic(auto, using(crate::proofs::Words::two_words))]
 pub(crate) fn instruction_at(place: u64, memory: &PhysMem) -> u64
     requires { place < 2 ^ 62 }
     ensures { result ≡ from_le_bytes w64 (bytes_at memory.now place 8) }
 {
-    let low = word_at(place, memory);
-    let high = word_at(place + 4, memory);
-    u64::from(low) + (u64::from(high) << 32)
+    LittleEndian::read_u64(&read_bytes(memory, place, 8))
 }

@@ -6,15 +6,12 @@ ghost use Rattle.qpu_machine.specs.State.{Read};
 ghost use Rattle.machine_plan.specs.Plan.{access};
 ghost use Rattle.texture_layouts.specs.Fits.{is_unlisted};
 ghost use Rattle.texture_layouts.specs.Setup.{texture_of};
-ghost use Rattle.qpu_machine.specs.Request.{direct_plan, texture_reads, is_undefined, ask_plan};
+ghost use Rattle.qpu_machine.specs.Request.{direct_plan, chosen_level, chosen_place, texture_reads, is_undefined, ask_plan};
 
-use crate::grid::grids_of;
-use crate::modulus::Modulus;
 use crate::reads::read_word;
 use crate::state::{Ask, Row};
-use crate::texels::chosen_fetch;
 use field_words::Way;
-use machine_plan::{Accesses, Who, list_access};
+use machine_plan::{Accesses, Choices, Who, list_access};
 use phys_mem::PhysMem;
 use texture_layouts::{Texture, has_child_image, has_two_strides, lacks_stride};
 
@@ -30,23 +27,49 @@ fn read_words(row: &Row, who: Who, memory: &PhysMem, accesses: &mut Accesses) ->
     found
 }
 
+// The level that read `m` chooses.
+#[tactic(auto, unfolding(crate::specs::Request::chosen_level))]
+fn chosen_level<C: Choices>(texture: &Texture, words: &C, m: u64) -> u32
+    requires { m < 128 }
+    ensures value { result ≡ chosen_level texture.now (C.listed words.now) m }
+    ensures limit { result ≤ texture.now.levels }
+{
+    words.word(4 * m) % (texture.levels() + 1)
+}
+
+// Where read `m` lies, which is in this level; `None` where that is below 0.
+#[tactic(auto, unfolding(crate::specs::Request::chosen_place, crate::specs::Request::chosen_face, crate::specs::Request::chosen_x, crate::specs::Request::chosen_y))]
+fn chosen_place<C: Choices>(texture: &Texture, level: u32, words: &C, m: u64) -> Option<u64>
+    requires few { m < 128 }
+    requires level { level ≡ chosen_level texture.now (C.listed words.now) m }
+    requires known { level ≤ texture.now.levels }
+    requires listed { is_unlisted texture.now ≡ false }
+    ensures { result ≡ chosen_place texture.now (C.listed words.now) m }
+{
+    let face = words.word(4 * m + 1) % texture.faces();
+    let x = words.word(4 * m + 2) % texture.level_width(level);
+    let y = words.word(4 * m + 3) % texture.level_height(level);
+    texture.fetch_place(face, level, x, y)
+}
+
 // Lists the 128 reads of a texture. False comes exactly where one would be below 0; then a Wild access is listed too.
-fn list_texels(
+fn list_texels<C: Choices>(
     texture: &Texture,
-    words: &[u32],
+    words: &C,
     who: Who,
     memory: &PhysMem,
     accesses: &mut Accesses,
 ) -> bool
     requires room { array_vec_len accesses.old ≤ 100 }
     requires listed { is_unlisted texture.now ≡ false }
-    ensures { CarriesOver who (texture_reads texture.now words.now 0 128) memory.now accesses.old accesses.new (if_tame result None) }
+    ensures { CarriesOver who (texture_reads texture.now (C.listed words.now) 0 128) memory.now accesses.old accesses.new (if_tame result None) }
 {
-    let grids = grids_of(texture);
-    let levels = Modulus::of_levels(texture.levels() + 1);
     for m in 0..128 {
-        match chosen_fetch(texture, &levels, &grids, words, m) {
-            Some(fetch) => list_access(who, Way::Read, fetch.place, fetch.len, accesses),
+        let level = chosen_level(texture, words, m);
+        match chosen_place(texture, level, words, m) {
+            Some(place) => {
+                list_access(who, Way::Read, place, texture.fetch_size(level), accesses);
+            }
             None => {
                 list_access(who, Way::Wild, 0, 0, accesses);
                 return false;
@@ -68,15 +91,15 @@ fn is_undefined(four: &[u32; 4], texture: &Texture) -> bool
 }
 
 // Serves a request for a texture. False comes exactly where it is wild.
-fn serve_texture(
+fn serve_texture<C: Choices>(
     four: &[u32; 4],
-    words: &[u32],
+    words: &C,
     who: Who,
     memory: &PhysMem,
     accesses: &mut Accesses,
 ) -> bool
     requires { array_vec_len accesses.old ≤ 100 }
-    ensures { CarriesOver who (ask_plan (Ask.Texture four.now) words.now) memory.now accesses.old accesses.new (if_tame result None) }
+    ensures { CarriesOver who (ask_plan (Ask.Texture four.now) (C.listed words.now)) memory.now accesses.old accesses.new (if_tame result None) }
 {
     let texture = Texture::of(four);
     if is_undefined(four, &texture) {
@@ -89,15 +112,15 @@ fn serve_texture(
 /// Serves a request, with the accesses of `who`. What the hardware leaves open is answered by the words; a missing word is
 /// zero. It comes to the words of a direct request, and for a texture to `Some(None)`, a result whose words are free. `None`
 /// comes exactly where the request is wild; then a Wild access is listed behind the reads before it.
-pub fn serve(
+pub fn serve<C: Choices>(
     ask: &Ask,
-    words: &[u32],
+    words: &C,
     who: Who,
     memory: &PhysMem,
     accesses: &mut Accesses,
 ) -> Option<Option<Row>>
     requires { array_vec_len accesses.old ≤ 100 }
-    ensures { CarriesOver who (ask_plan ask.now words.now) memory.now accesses.old accesses.new result }
+    ensures { CarriesOver who (ask_plan ask.now (C.listed words.now)) memory.now accesses.old accesses.new result }
 {
     match ask {
         Ask::Direct(row) => Some(Some(read_words(row, who, memory, accesses))),

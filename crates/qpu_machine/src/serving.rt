@@ -8,7 +8,7 @@ ghost use Rattle.qpu_machine.specs.Bounds.{IsBounded, finished0, finished1};
 use crate::request::serve;
 use crate::state::{Qpu, Request, Row, Thread};
 use arrayvec::ArrayVec;
-use machine_plan::{Accesses, Who};
+use machine_plan::{Accesses, Choices, Who};
 use phys_mem::PhysMem;
 
 /// Whether TMU `tmu` of the processor has a request, and so may step.
@@ -44,15 +44,6 @@ pub fn tmu_job(qpu: &Qpu, tmu: u8) -> u8
     }
 }
 
-// Takes the oldest request from a queue.
-fn take(requests: &mut ArrayVec<Request, 16>) -> Request
-    requires { IsTrue (is_some (oldest requests.old.items)) }
-    ensures value { oldest requests.old.items ≡ Some result }
-    ensures items { requests.new.items ≡ drop 1 requests.old.items }
-{
-    requests.remove(0)
-}
-
 // Takes the oldest request of a TMU.
 #[tactic(auto, unfolding(crate::specs::Qpu::dropped))]
 fn drop_oldest(tmu: u8, qpu: &mut Qpu) -> Request
@@ -61,9 +52,9 @@ fn drop_oldest(tmu: u8, qpu: &mut Qpu) -> Request
     ensures qpu { qpu.new ≡ dropped qpu.old tmu }
 {
     if tmu == 0 {
-        take(&mut qpu.queue0)
+        qpu.queue0.remove(0)
     } else {
-        take(&mut qpu.queue1)
+        qpu.queue1.remove(0)
     }
 }
 
@@ -101,10 +92,10 @@ fn give(tmu: u8, second: bool, row: Option<Row>, qpu: &mut Qpu)
 ///
 /// False comes exactly where the request is wild: then a Wild access is listed behind the reads before it, and the request is
 /// gone without a result.
-pub fn step_tmu(
+pub fn step_tmu<C: Choices>(
     qpu: &mut Qpu,
     tmu: u8,
-    words: &[u32],
+    words: &C,
     who: Who,
     memory: &PhysMem,
     accesses: &mut Accesses,
@@ -113,7 +104,7 @@ pub fn step_tmu(
     requires bounded { IsBounded qpu.old }
     requires room { array_vec_len accesses.old ≤ 100 }
     ensures bounded { IsBounded qpu.new }
-    ensures shows { CarriesOver who (tmu_plan qpu.old tmu words.now) memory.now accesses.old accesses.new (if_tame result qpu.new) }
+    ensures shows { CarriesOver who (tmu_plan qpu.old tmu (C.listed words.now)) memory.now accesses.old accesses.new (if_tame result qpu.new) }
     ensures wild { result ≡ false → qpu.new ≡ dropped qpu.old tmu }
 {
     let request = drop_oldest(tmu, qpu);

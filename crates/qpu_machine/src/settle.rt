@@ -9,20 +9,20 @@ ghost use Rattle.qpu_machine.specs.Bounds.{IsNear, IsBounded, SlotSteps};
 use crate::state::{Asked, Fate, Leaves, Qpu, Request, Thread};
 use crate::step::step_thread;
 use arrayvec::ArrayVec;
-use machine_plan::{Accesses, Who};
+use machine_plan::{Accesses, Choices, Who};
 use phys_mem::PhysMem;
 
 // One instruction of the thread in this slot. `None` comes where it is wild, or where no thread is there.
-fn step_slot(
+fn step_slot<C: Choices>(
     slot: &mut Option<Thread>,
-    words: &[u32],
+    words: &C,
     who: Who,
     memory: &PhysMem,
     accesses: &mut Accesses,
 ) -> Option<Leaves>
     requires near { IsNear slot.old }
     requires room { array_vec_len accesses.old ≤ 260 }
-    ensures { IfSome slot.old (SlotSteps who words.now memory.now accesses.old accesses.new slot.new result) }
+    ensures { IfSome slot.old (SlotSteps who (C.listed words.now) memory.now accesses.old accesses.new slot.new result) }
 {
     match slot {
         None => None,
@@ -87,16 +87,6 @@ fn asked_by(left: &Option<Leaves>) -> Option<Asked>
     }
 }
 
-fn rests(qpu: &Qpu) -> bool
-    ensures { result ≡ is_some (resting_of qpu.now) }
-{
-    if qpu.second {
-        qpu.first.is_some()
-    } else {
-        qpu.other.is_some()
-    }
-}
-
 // The processor after a step whose thread stands in its slot already.
 #[tactic(auto, unfolding(crate::specs::Qpu::settled, crate::specs::Qpu::settled_by))]
 fn settle(job: u8, left: &Option<Leaves>, qpu: &mut Qpu)
@@ -106,7 +96,11 @@ fn settle(job: u8, left: &Option<Leaves>, qpu: &mut Qpu)
 {
     let second = qpu.second;
     let over = gives_way(left);
-    let switches = over && rests(qpu);
+    let rests = if second {
+        qpu.first.is_some()
+    } else {
+        qpu.other.is_some()
+    };
     let asked = asked_by(left);
     enqueue(0, second, job, &asked, &mut qpu.queue0);
     enqueue(1, second, job, &asked, &mut qpu.queue1);
@@ -117,15 +111,15 @@ fn settle(job: u8, left: &Option<Leaves>, qpu: &mut Qpu)
         wake_slot(over, &mut qpu.other);
         leave_slot(left, &mut qpu.first);
     }
-    if switches {
+    if over && rests {
         qpu.second = !second;
     }
 }
 
 // One instruction of the active thread.
-fn step_active(
+fn step_active<C: Choices>(
     qpu: &mut Qpu,
-    words: &[u32],
+    words: &C,
     who: Who,
     memory: &PhysMem,
     accesses: &mut Accesses,
@@ -133,7 +127,7 @@ fn step_active(
     requires near { IsNear (active_of qpu.old) }
     requires room { array_vec_len accesses.old ≤ 260 }
     ensures kept { qpu.new ≡ with_active qpu.old (active_of qpu.new) }
-    ensures steps { IfSome (active_of qpu.old) (SlotSteps who words.now memory.now accesses.old accesses.new (active_of qpu.new) result) }
+    ensures steps { IfSome (active_of qpu.old) (SlotSteps who (C.listed words.now) memory.now accesses.old accesses.new (active_of qpu.new) result) }
 {
     if qpu.second {
         return step_slot(&mut qpu.other, words, who, memory, accesses);
@@ -157,9 +151,9 @@ pub fn qpu_job(qpu: &Qpu) -> u8
 ///
 /// False comes exactly where its instruction is wild: then a Wild access is listed behind the instruction's read, and the
 /// thread has ended.
-pub fn step_qpu(
+pub fn step_qpu<C: Choices>(
     qpu: &mut Qpu,
-    words: &[u32],
+    words: &C,
     who: Who,
     memory: &PhysMem,
     accesses: &mut Accesses,
@@ -168,7 +162,7 @@ pub fn step_qpu(
     requires bounded { IsBounded qpu.old }
     requires room { array_vec_len accesses.old ≤ 260 }
     ensures bounded { IsBounded qpu.new }
-    ensures shows { CarriesOver who (qpu_plan qpu.old words.now) memory.now accesses.old accesses.new (if_tame result qpu.new) }
+    ensures shows { CarriesOver who (qpu_plan qpu.old (C.listed words.now)) memory.now accesses.old accesses.new (if_tame result qpu.new) }
     ensures wild { result ≡ false → qpu.new ≡ qpu_stopped qpu.old }
 {
     let job = qpu_job(qpu);

@@ -10,68 +10,38 @@ ghost use Rattle.machine_plan.specs.Glance.{glanced};
 ghost use Rattle.qpu_isa.specs.Terms.{writes_tmu};
 ghost use Rattle.qpu_machine.specs.Wild.{is_wild, takes_one};
 ghost use Rattle.qpu_machine.specs.Writes.{past_uniform};
-ghost use Rattle.qpu_machine.specs.Step.{executed_with, executed, word_plan, thread_plan, is_held_by, is_held, thread_ready, turned};
+ghost use Rattle.qpu_machine.specs.Step.{executed, word_plan, thread_plan, is_held_by, is_held, thread_ready, turned};
 
-use crate::effects::{asked, fate_of, loads, pass_uniform, rest, wake, work};
+use crate::effects::{asked, fate_of, loads, wake, work};
 use crate::operands::{add_row, mul_row};
 use crate::reads::{instruction_at, read_word};
-use crate::state::{Leaves, Row, Thread};
+use crate::state::{Fate, Leaves, Thread};
 use crate::wild::{is_wild, takes_one};
 use field_words::Way;
-use machine_plan::{Accesses, Who, list_access};
+use machine_plan::{Accesses, Choices, Who, list_access};
 use phys_mem::PhysMem;
 use qpu_isa::writes::writes_s;
 
-// Executes an instruction, by what the two units came to.
-#[tactic(auto, using(crate::proofs::Frames::rested_place), unfolding(crate::specs::Step::executed_with))]
-fn execute_with(
-    word: u64,
-    uniform: u32,
-    sum: &Row,
-    product: &Row,
-    words: &[u32],
-    thread: &mut Thread,
-) -> Leaves
-    requires place { thread.old.place < 2 ^ 62 }
-    requires room0 { writes_tmu word 0 ≡ true → array_vec_len thread.old.setups0 < 4 }
-    requires room1 { writes_tmu word 1 ≡ true → array_vec_len thread.old.setups1 < 4 }
-    ensures near { thread.new.place ≤ thread.old.place + 2 ^ 33 }
-    ensures turn { executed_with word uniform sum.now product.now words.now thread.old ≡ record { thread = thread.new; leaves = result } }
-{
-    let fate = fate_of(thread);
-    let asked = asked(word, uniform, sum, product, thread);
-    work(word, uniform, sum, product, words, thread);
-    rest(fate, thread);
-    Leaves { asked, fate }
-}
-
 // Executes an instruction, with the uniform that it took.
-#[tactic(auto, unfolding(crate::specs::Step::executed))]
-fn execute(word: u64, uniform: u32, words: &[u32], thread: &mut Thread) -> Leaves
+#[tactic(auto, unfolding(crate::specs::Step::executed, crate::specs::Step::executed_with, crate::specs::Writes::rested))]
+fn execute<C: Choices>(word: u64, uniform: u32, words: &C, thread: &mut Thread) -> Leaves
     requires place { thread.old.place < 2 ^ 62 }
     requires room0 { writes_tmu word 0 ≡ true → array_vec_len thread.old.setups0 < 4 }
     requires room1 { writes_tmu word 1 ≡ true → array_vec_len thread.old.setups1 < 4 }
-    ensures turn { executed word uniform words.now thread.old ≡ record { thread = thread.new; leaves = result } }
+    ensures turn { executed word uniform (C.listed words.now) thread.old ≡ record { thread = thread.new; leaves = result } }
     ensures near { thread.new.place ≤ thread.old.place + 2 ^ 33 }
 {
     let sum = add_row(thread, word, uniform, words);
     let product = mul_row(thread, word, uniform, words);
-    execute_with(word, uniform, &sum, &product, words, thread)
-}
-
-// Takes the uniform at the thread's pointer.
-fn take_uniform(thread: &mut Thread, who: Who, memory: &PhysMem, accesses: &mut Accesses) -> u32
-    requires { array_vec_len accesses.old < 270 }
-    ensures thread { thread.new ≡ past_uniform thread.old }
-    ensures value { result ≡ u32_at (bytes_at memory.now thread.old.uniforms 4) 0 }
-    ensures items { accesses.new.items ≡ accesses.old.items ++ access who Read thread.old.uniforms 4 ∷ [] }
-{
-    let uniform = read_word(thread.uniforms, who, memory, accesses);
-    pass_uniform(thread);
-    uniform
+    let fate = fate_of(thread);
+    let asked = asked(word, uniform, &sum, &product, thread);
+    work(word, uniform, &sum, &product, words, thread);
+    thread.fresh = fate == Fate::Switches || thread.fresh;
+    Leaves { asked, fate }
 }
 
 // The uniform for this instruction, which is taken where it takes one; else 0.
+#[tactic(auto, unfolding(crate::specs::Writes::past_uniform))]
 fn uniform_for(
     thread: &mut Thread,
     word: u64,
@@ -84,18 +54,20 @@ fn uniform_for(
     ensures value { result ≡ (if takes_one thread.old word then u32_at (bytes_at memory.now thread.old.uniforms 4) 0 else 0) }
     ensures items { accesses.new.items ≡ (if takes_one thread.old word then accesses.old.items ++ access who Read thread.old.uniforms 4 ∷ [] else accesses.old.items) }
 {
-    if takes_one(thread, word) {
-        return take_uniform(thread, who, memory, accesses);
+    if !takes_one(thread, word) {
+        return 0;
     }
-    0
+    let uniform = read_word(thread.uniforms, who, memory, accesses);
+    thread.uniforms = thread.uniforms.wrapping_add(4);
+    uniform
 }
 
 // Does what an instruction says. `None` comes exactly where it is wild; then the thread is as it was.
 #[tactic(auto, using(crate::proofs::Tame::room0, crate::proofs::Tame::room1, crate::proofs::Frames::awake_keeps, crate::proofs::Frames::fed_keeps))]
-fn obey(
+fn obey<C: Choices>(
     thread: &mut Thread,
     word: u64,
-    words: &[u32],
+    words: &C,
     who: Who,
     memory: &PhysMem,
     accesses: &mut Accesses,
@@ -103,7 +75,7 @@ fn obey(
     requires place { thread.old.place < 2 ^ 62 }
     requires room { array_vec_len accesses.old < 270 }
     ensures near { IfSome result (λ leaves. (is_wild thread.old word ≡ false) × (thread.new.place ≤ thread.old.place + 2 ^ 33)) }
-    ensures shows { CarriesOver who (word_plan thread.old word words.now) memory.now accesses.old accesses.new (turned thread.new result) }
+    ensures shows { CarriesOver who (word_plan thread.old word (C.listed words.now)) memory.now accesses.old accesses.new (turned thread.new result) }
     ensures same { result ≡ None → thread.new ≡ thread.old }
 {
     if is_wild(thread, word) {
@@ -119,9 +91,9 @@ fn obey(
 /// missing word is zero. It lists its accesses behind those already listed: the read of the instruction, and of the uniform
 /// where it takes one. `None` comes exactly where the instruction is wild; then a Wild access is listed too, and the thread is
 /// as it was.
-pub fn step_thread(
+pub fn step_thread<C: Choices>(
     thread: &mut Thread,
-    words: &[u32],
+    words: &C,
     who: Who,
     memory: &PhysMem,
     accesses: &mut Accesses,
@@ -129,7 +101,7 @@ pub fn step_thread(
     requires place { thread.old.place < 2 ^ 62 }
     requires room { array_vec_len accesses.old ≤ 260 }
     ensures near { IfSome result (λ leaves. thread.new.place ≤ 2 ^ 34) }
-    ensures shows { CarriesOver who (thread_plan thread.old words.now) memory.now accesses.old accesses.new (turned thread.new result) }
+    ensures shows { CarriesOver who (thread_plan thread.old (C.listed words.now)) memory.now accesses.old accesses.new (turned thread.new result) }
     ensures same { result ≡ None → thread.new ≡ thread.old }
 {
     let _size = memory.len();

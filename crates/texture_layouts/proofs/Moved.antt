@@ -33,10 +33,6 @@ made base cube levels kind p1 p2 p3 =
       is_raster = kind == 16;
     }
 
-is_made : (p0 p1 p2 p3 : ℕ) → texture_of p0 p1 p2 p3 ≡ made (base_of p0) (is_cube_word p0) (levels_of p0) (type_of p0 p1) p1 p2 p3
-unfolding texture_of
-is_made p0 p1 p2 p3 = refl
-
 pub texture_moved : (word place p1 p2 p3 : ℕ) → place % 4096 ≡ 0 → word + place < 2 ^ 32
     → texture_of (word + place) p1 p2 p3 ≡ record (texture_of word p1 p2 p3) { base = (texture_of word p1 p2 p3).base + place }
 unfolding texture_of

@@ -36,7 +36,7 @@ fn fetch_size(tiling: Tiling, cpp: u32) -> u32
 }
 
 impl Texture {
-    ghost use Rattle.texture_layouts.specs.Setup.{tiling_at, size_below};
+    ghost use Rattle.texture_layouts.specs.Setup.{tiling_at};
     ghost use Rattle.texture_layouts.specs.Fits.{is_unlisted};
     ghost use Rattle.texture_layouts.specs.Fetch.{fetch_reach, fetch_place_of};
 
@@ -58,32 +58,15 @@ impl Texture {
     /// Where the fetch for a pixel of a level of a face begins. `None` comes exactly where that is below
     /// 0, since the levels from 1 to this one take more bytes than there are below the pixel's place in
     /// the face.
+    #[tactic(auto, unfolding(crate::specs::Fetch::fetch_place_of))]
     pub fn fetch_place(&self, face: u32, level: u32, x: u32, y: u32) -> Option<u64>
         requires face { face < 6 }
         requires level { level ≤ self.now.levels }
         requires listed { is_unlisted self.now ≡ false }
         ensures { result ≡ fetch_place_of self.now face level x y }
     {
-        self.fetch_place_above(self.size_below(level), face, level, x, y)
-    }
-
-    /// The same, for who fetches often: `below` is what the levels from 1 to this one take.
-    #[tactic(auto, unfolding(crate::specs::Fetch::fetch_place_of))]
-    pub fn fetch_place_above(
-        &self,
-        below: u64,
-        face: u32,
-        level: u32,
-        x: u32,
-        y: u32,
-    ) -> Option<u64>
-        requires below { below ≡ size_below self.now level }
-        requires face { face < 6 }
-        requires level { level ≤ self.now.levels }
-        requires listed { is_unlisted self.now ≡ false }
-        ensures { result ≡ fetch_place_of self.now face level x y }
-    {
         let reach = self.fetch_reach(face, level, x, y);
+        let below = self.size_below(level);
         if reach < below {
             return None;
         }

@@ -39,18 +39,4 @@ impl TextureRule {
             TextureRule::ChildImage => 9,
         }
     }
-
-    /// What it means that the rule stands.
-    pub fn sentence(self) -> &'static str {
-        match self {
-            TextureRule::BaseOutside => "the base is past the buffer's last word",
-            TextureRule::BoundOutside => "the base and the bound are past the buffer's last word",
-            TextureRule::TwoStrides => "a cube map has two strides",
-            TextureRule::NoStride => "a cube map has no stride",
-            TextureRule::UnlistedType => "there is no such type of texture",
-            TextureRule::FaceOutside => "a face goes past its buffer",
-            TextureRule::LevelBelow => "a level begins below its buffer",
-            TextureRule::ChildImage => "the texture has a child image",
-        }
-    }
 }

@@ -7,4 +7,4 @@ use Rattle.qpu_machine.proofs.lanes.chosen_row.Goals as goal
 
 pub returns : goal.returns
 unfolding chosen_row
-returns c = front_all (λ e. word_at c.args.words.now (c.args.from + e)) c.loop-e.e c.loop-e.row c.loop-e-test.false c.loop-e.invariant
+returns g c = front_all (λ e. word_at (g.C.Choices.listed c.args.words.now) (c.args.from + e)) c.loop-e.e c.loop-e.row c.loop-e-test.false c.loop-e.invariant

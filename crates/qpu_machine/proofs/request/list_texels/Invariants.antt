@@ -4,7 +4,7 @@ use Rattle.qpu_machine.proofs.Asking.{TextureLeft}
 use Rattle.qpu_machine.proofs.request.list_texels.Given as goal
 
 abbrev pub invariant-loop-m : goal.invariant-loop-m
-invariant-loop-m l = record {
-  left : TextureLeft l.who l.texture l.words l.memory l.initial.accesses.items l.accesses.items l.m;
+invariant-loop-m g l = record {
+  left : TextureLeft l.who l.texture (g.C.Choices.listed l.words) l.memory l.initial.accesses.items l.accesses.items l.m;
   long : array_vec_len l.accesses ≡ array_vec_len l.initial.accesses + l.m;
 }

@@ -6,6 +6,6 @@ use Rattle.qpu_machine.specs.{State.Ask, Request.direct_plan, Request.ask_plan}
 use Rattle.qpu_machine.proofs.request.serve.Goals as goal
 
 pub returns-in-Direct : goal.returns-in-Direct
-returns-in-Direct c =
-    subst (λ (ask : Ask). Shows (carried c.args.who (ask_plan ask c.args.words.now) c.args.memory.now) c.args.accesses.now.items c.read_words.new.accesses.items c.args.memory.now (Some (Some c.read_words.result))) (sym c.in-Direct.is)
+returns-in-Direct g c =
+    subst (λ (ask : Ask). Shows (carried c.args.who (ask_plan ask (g.C.Choices.listed c.args.words.now)) c.args.memory.now) c.args.accesses.now.items c.read_words.new.accesses.items c.args.memory.now (Some (Some c.read_words.result))) (sym c.in-Direct.is)
     (shows_mapped Some c.args.who (direct_plan c.in-Direct.row []) c.args.memory.now c.args.accesses.now.items c.read_words.new.accesses.items c.args.memory.now (Some c.read_words.result) c.read_words.ensures)

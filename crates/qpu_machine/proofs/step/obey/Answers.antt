@@ -5,13 +5,13 @@ use Rattle.qpu_machine.proofs.Shown.{wild_shows, fed_shows}
 use Rattle.qpu_machine.proofs.step.obey.Goals as goal
 
 pub returns-then-is_wild-clause-shows : goal.returns-then-is_wild-clause-shows
-returns-then-is_wild-clause-shows c =
-    wild_shows c.args.who c.args.thread.now c.args.word c.args.words.now c.args.memory.now c.args.accesses.now.items _ (sym c.is_wild.ensures ∙ c.if-is_wild.true) c.list_access.ensures.items
+returns-then-is_wild-clause-shows g c =
+    wild_shows c.args.who c.args.thread.now c.args.word (g.C.Choices.listed c.args.words.now) c.args.memory.now c.args.accesses.now.items _ (sym c.is_wild.ensures ∙ c.if-is_wild.true) c.list_access.ensures.items
 
 pub returns-clause-shows : goal.returns-clause-shows
-returns-clause-shows c =
+returns-clause-shows g c =
     let word = c.args.word in
-    let words = c.args.words.now in
+    let words = (g.C.Choices.listed c.args.words.now) in
     let uniform = c.uniform_for-uniform.result in
     let turn : executed word uniform words (awake words c.uniform_for-uniform.new.thread) ≡ turn_of c.execute.new.thread c.execute.result =
     ap (executed word uniform words) (sym c.wake.ensures) ∙ c.execute.ensures.turn in

@@ -4,10 +4,10 @@ use Rattle.qpu_machine.proofs.{Near.ends_near, Shown.thread_shows}
 use Rattle.qpu_machine.proofs.step.step_thread.Goals as goal
 
 pub returns-clause-shows : goal.returns-clause-shows
-returns-clause-shows c =
-    thread_shows c.args.who c.args.thread.now c.instruction_at-word.result c.args.words.now c.args.memory.now _ c.args.accesses.now.items _ _ _
+returns-clause-shows g c =
+    thread_shows c.args.who c.args.thread.now c.instruction_at-word.result (g.C.Choices.listed c.args.words.now) c.args.memory.now _ c.args.accesses.now.items _ _ _
     refl c.instruction_at-word.ensures c.list_access.ensures.items c.obey.ensures.shows
 
 pub returns-clause-near : goal.returns-clause-near
-returns-clause-near c =
+returns-clause-near g c =
     ends_near c.args.thread.now c.args.memory.now c.instruction_at-word.result c.obey.new.thread.place c.obey.result c.instruction_at-word.ensures (omega arith) c.obey.ensures.near

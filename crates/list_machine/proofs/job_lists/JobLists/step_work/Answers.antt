@@ -3,6 +3,6 @@ use Rattle.list_machine.proofs.Binning.{item_shows}
 use Rattle.list_machine.proofs.job_lists.JobLists.step_work.Goals as goal
 
 pub returns-else-work-2 : goal.returns-else-work-2
-returns-else-work-2 c = record {
-  shows = item_shows c.args.who c.args.self.now c.put_item.new.self c.args.work.now c.args.free.now c.args.words.now c.args.memory.now c.args.accesses.now.items _ _ c.if-work.false c.if-work-2.false c.put_item.ensures.shows;
+returns-else-work-2 g c = record {
+  shows = item_shows c.args.who c.args.self.now c.put_item.new.self c.args.work.now c.args.free.now (g.C.Choices.listed c.args.words.now) c.args.memory.now c.args.accesses.now.items _ _ c.if-work.false c.if-work-2.false c.put_item.ensures.shows;
 }

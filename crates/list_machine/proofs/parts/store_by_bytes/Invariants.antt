@@ -1,8 +1,0 @@
-use Rattle.std.proofs.Common.{◌≡◌, ◌+◌, ◌-◌}
-use Rattle.machine_plan.specs.Memory.{stored}
-use Rattle.list_machine.specs.Store.{chosen}
-use Rattle.list_machine.proofs.parts.store_by_bytes.Given as goal
-
-abbrev pub invariant-loop-i : goal.invariant-loop-i
-invariant-loop-i l =
-    stored l.memory (l.place + l.i) (chosen l.words (l.from + l.i) (l.size - l.i)) ≡ stored l.initial.memory l.place (chosen l.words l.from l.size)
