@@ -1,5 +1,5 @@
 -- A run that goes one step further.
-use Rattle.std.proofs.Common.{◌≡◌, ◌≤◌, ◌<◌, ℕ, suc, ◌+◌, ◌-◌, IsTrue, false, List, [], ◌∷◌, ◌++◌, length, slice_index, Option, None, Some, refl, sym, ◌∙◌, ap, subst, append-nil, append_assoc, arith}
+use Rattle.std.proofs.Common.{◌≡◌, ◌≤◌, ◌<◌, ℕ, suc, ◌+◌, ◌-◌, Bool, IsTrue, true, false, List, [], ◌∷◌, ◌++◌, length, slice_index, Option, None, Some, refl, sym, ◌∙◌, ap, subst, append-nil, append_assoc, arith}
 use Rattle.std.proofs.lemmas.List.{length-append}
 use Rattle.std.proofs.lemmas.List.Elements.{filter_passes, All-filter}
 use Rattle.field_words.specs.{declared.access.Access.Access, declared.access.Actor.Actor}
@@ -8,10 +8,9 @@ use Rattle.machine_plan.specs.{Runs.Allowed, Runs.Moved, Runs.reached, World.Mov
 use Rattle.machine.specs.{State.State, Step.Event, Step.enabled, Step.may, Step.ready, Step.step, Step.job_of, Step.finished}
 use Rattle.replay.specs.declared.trace.Ending.TheVariants.{Finished, Waiting, Spent}
 use Rattle.replay.specs.Units.{unit_count, unit_at, word_count, enabled_units, is_of, preferred, candidates}
-use Rattle.replay.specs.Run.{IsPicked, IsTurn, Follows, lines_of, numbered, accesses_of, IsEnded, IsOver, StepsBy, IsTrace, IsLog}
-use Rattle.replay.specs.{declared.logged.Log.Log, declared.logged.Logged.Logged, declared.trace.Ending.Ending, declared.trace.Trace.Trace}
-use Rattle.replay.specs.{declared.trace.TraceLine.TraceLine, declared.units.UnitKind.UnitKind, Trace.line_of, Watched.IsEnough}
-use Rattle.replay.proofs.Needing.{rest_of, length_rest, all_given}
+use Rattle.replay.specs.Run.{IsPicked, IsTurn, Follows, lines_of, numbered, accesses_of, IsEnded, IsOver, StepsBy, IsKept, HasMore, HasKept, HasTrace, HasLog}
+use Rattle.replay.specs.{declared.logged.Kept.Kept, declared.logged.Log.Log, declared.trace.Ending.Ending, declared.trace.Trace.Trace}
+use Rattle.replay.specs.{declared.trace.TraceLine.TraceLine, declared.units.UnitKind.UnitKind, Trace.line_of}
 
 -- a unit among those that may step may step, also among the favoured ones
 all_may : (s : State) → All (λ n. IsTrue (enabled s (unit_at n))) (enabled_units s)
@@ -39,16 +38,11 @@ pub record Followed (Chooses Answers : ℕ → ℕ → ℕ → Type 0) (favoured
   pub count : length events ≡ done
   pub now_is : now ≡ reached step start events
 
--- and its lines, or its accesses
-pub record Lined (Chooses Answers : ℕ → ℕ → ℕ → Type 0) (favoured : Option UnitKind) (start now : State) (done : ℕ) (lines : List TraceLine) : Type 0 where
+-- and what was kept of it
+pub record Noted (Chooses Answers : ℕ → ℕ → ℕ → Type 0) (favoured : Option UnitKind) (start now : State) (done : ℕ) (kept : Kept) : Type 0 where
   pub events : List Event
   pub followed : Followed Chooses Answers favoured start now done events
-  pub lines_are : lines ≡ lines_of start events
-
-pub record Noted (Chooses Answers : ℕ → ℕ → ℕ → Type 0) (favoured : Option UnitKind) (start now : State) (done : ℕ) (kept : List Logged) : Type 0 where
-  pub events : List Event
-  pub followed : Followed Chooses Answers favoured start now done events
-  pub kept_are : kept ≡ accesses_of 0 start events
+  pub kept_is : IsKept kept.logs start events kept
 
 follows_more : (Chooses Answers : ℕ → ℕ → ℕ → Type 0) (favoured : Option UnitKind) (i : ℕ) (s : State) (events : List Event) (event : Event) → Follows Chooses Answers favoured i s events → IsTurn Chooses Answers favoured (i + length events) (reached step s events) event → Follows Chooses Answers favoured i s (events ++ event ∷ [])
 follows_more Chooses Answers favoured i s [] event h turn = let same : i + 0 ≡ i = omega arith in (subst (λ k. IsTurn Chooses Answers favoured k s event) same turn, tt)
@@ -97,73 +91,56 @@ followed_more Chooses Answers favoured start now next done events listed line h 
       now_is = by.next_is ∙ (ap (λ s. (step s by.event).state) h.now_is ∙ sym (reached_more start events by.event));
     }
 
-pub lined_more : (Chooses Answers : ℕ → ℕ → ℕ → Type 0) (favoured : Option UnitKind) (start now next : State) (done : ℕ) (listed : List Access) (lines all : List TraceLine) (line : TraceLine) → Lined Chooses Answers favoured start now done lines
-    → StepsBy Chooses Answers favoured done now next listed line → all ≡ lines ++ line ∷ [] → Lined Chooses Answers favoured start next (done + 1) all
-lined_more Chooses Answers favoured start now next done listed lines all line h by all_is = record {
-  events = h.events ++ by.event ∷ [];
-  followed = followed_more Chooses Answers favoured start now next done h.events listed line h.followed by;
-  lines_are = all_is ∙ (ap (λ ls. ls ++ line ∷ []) h.lines_are ∙ (ap (λ l. lines_of start h.events ++ l ∷ []) (by.line_is ∙ ap (λ s. line_of by.event.unit (job_of s by.event.unit) (step s by.event).accesses) h.followed.now_is) ∙ sym (lines_more start h.events by.event)));
-}
+kept_more : (logs : Bool) (start : State) (events : List Event) (event : Event) (i : ℕ) (line : TraceLine) (listed : List Access) (kept all : Kept) → i ≡ 0 + length events
+    → line ≡ line_of event.unit (job_of (reached step start events) event.unit) (step (reached step start events) event).accesses → listed ≡ (step (reached step start events) event).accesses
+    → IsKept logs start events kept → HasMore logs i line listed kept all → IsKept logs start (events ++ event ∷ []) all
+kept_more true start events event i line listed kept all place line_is listed_is before more =
+    more ∙ (ap (λ ks. ks ++ numbered i listed) before ∙ (ap (λ k. accesses_of 0 start events ++ numbered k listed) place
+    ∙ (ap (λ l. accesses_of 0 start events ++ numbered (0 + length events) l) listed_is ∙ sym (accesses_more 0 start events event))))
+kept_more false start events event i line listed kept all place line_is listed_is before more =
+    more ∙ (ap (λ ls. ls ++ line ∷ []) before ∙ (ap (λ l. lines_of start events ++ l ∷ []) line_is ∙ sym (lines_more start events event)))
 
-pub noted_more : (Chooses Answers : ℕ → ℕ → ℕ → Type 0) (favoured : Option UnitKind) (start now next : State) (done : ℕ) (listed : List Access) (kept all : List Logged) (line : TraceLine) → Noted Chooses Answers favoured start now done kept
-    → StepsBy Chooses Answers favoured done now next listed line → all ≡ kept ++ numbered done listed → Noted Chooses Answers favoured start next (done + 1) all
-noted_more Chooses Answers favoured start now next done listed kept all line h by all_is =
-    let place : done ≡ 0 + length h.events = omega (arith, h.followed.count) in
+pub noted_more : (Chooses Answers : ℕ → ℕ → ℕ → Type 0) (favoured : Option UnitKind) (start now next : State) (done : ℕ) (listed : List Access) (kept all : Kept) (line : TraceLine) → Noted Chooses Answers favoured start now done kept
+    → StepsBy Chooses Answers favoured done now next listed line → all.logs ≡ kept.logs → HasMore kept.logs done line listed kept all → Noted Chooses Answers favoured start next (done + 1) all
+noted_more Chooses Answers favoured start now next done listed kept all line h by logs more =
+    let here = h.followed.now_is in
+    let kept_now = kept_more kept.logs start h.events by.event done line listed kept all (omega (arith, h.followed.count))
+    (by.line_is ∙ ap (λ s. line_of by.event.unit (job_of s by.event.unit) (step s by.event).accesses) here) (by.listed_is ∙ ap (λ s. (step s by.event).accesses) here) h.kept_is more in
     record {
       events = h.events ++ by.event ∷ [];
       followed = followed_more Chooses Answers favoured start now next done h.events listed line h.followed by;
-      kept_are = all_is ∙ (ap (λ ks. ks ++ numbered done listed) h.kept_are ∙ (ap (λ k. accesses_of 0 start h.events ++ numbered k listed) place
-          ∙ (ap (λ l. accesses_of 0 start h.events ++ numbered (0 + length h.events) l) (by.listed_is ∙ ap (λ s. (step s by.event).accesses) h.followed.now_is) ∙ sym (accesses_more 0 start h.events by.event))));
+      kept_is = subst (λ b. IsKept b start (h.events ++ by.event ∷ []) all) (sym logs) kept_now;
     }
 
-over_ends : (s : State) (steps done : ℕ) (ending : Ending) → IsOver s ending → IsEnded s steps done ending
+pub over_ends : (s : State) (steps done : ℕ) (ending : Ending) → IsOver s ending → IsEnded s steps done ending
 over_ends s steps done Finished h = h
 over_ends s steps done Waiting h = h
 over_ends s steps done Spent h = absurd h
 
-trace_with : (Chooses Answers : ℕ → ℕ → ℕ → Type 0) (favoured : Option UnitKind) (start now : State) (steps done : ℕ) (trace : Trace) (h : Lined Chooses Answers favoured start now done trace.lines.items) → done ≤ steps → IsEnded now steps done trace.ending → (events : List Event) × IsTrace Chooses Answers favoured start steps events trace
-trace_with Chooses Answers favoured start now steps done trace h most ends = (
+pub noted_ends : (Chooses Answers : ℕ → ℕ → ℕ → Type 0) (favoured : Option UnitKind) (start now : State) (steps done : ℕ) (kept : Kept) (ending : Ending) → Noted Chooses Answers favoured start now done kept → done ≤ steps
+    → IsEnded now steps done ending → HasKept Chooses Answers favoured start steps kept done ending
+noted_ends Chooses Answers favoured start now steps done kept ending h most ends = (
   h.events,
   record {
     run = record { allowed = h.followed.allowed; accesses = refl; last = refl };
     follows = h.followed.follows;
-    lines = h.lines_are;
     most = omega (arith, h.followed.count, most);
-    ends = subst (λ n. IsEnded (reached step start h.events) steps n trace.ending) (sym h.followed.count) (subst (λ s. IsEnded s steps done trace.ending) h.followed.now_is ends);
+    ends = subst (λ n. IsEnded (reached step start h.events) steps n ending) (sym h.followed.count) (subst (λ s. IsEnded s steps done ending) h.followed.now_is ends);
   },
+  h.kept_is,
+  sym h.followed.count,
 )
 
-pub trace_over : (Chooses Answers : ℕ → ℕ → ℕ → Type 0) (favoured : Option UnitKind) (start now : State) (steps done : ℕ) (trace : Trace) → Lined Chooses Answers favoured start now done trace.lines.items → done ≤ steps → IsOver now trace.ending → (events : List Event) × IsTrace Chooses Answers favoured start steps events trace
-trace_over Chooses Answers favoured start now steps done trace h most over = trace_with Chooses Answers favoured start now steps done trace h most (over_ends now steps done trace.ending over)
+-- the lines that were kept are a trace, and the accesses a log
+pub trace_of : (Chooses Answers : ℕ → ℕ → ℕ → Type 0) (favoured : Option UnitKind) (s : State) (steps done : ℕ) (kept : Kept) (trace : Trace) → kept.logs ≡ false → trace.lines.items ≡ kept.lines.items
+    → HasKept Chooses Answers favoured s steps kept done trace.ending → HasTrace Chooses Answers favoured s steps trace
+trace_of Chooses Answers favoured s steps done kept trace logs same h =
+    (h.0, record { by = h.1; lines = same ∙ subst (λ b. IsKept b s h.0 kept) logs h.2 })
 
-pub trace_spent : (Chooses Answers : ℕ → ℕ → ℕ → Type 0) (favoured : Option UnitKind) (start now : State) (steps done : ℕ) (trace : Trace) → Lined Chooses Answers favoured start now done trace.lines.items → done ≤ steps → IsEnded now steps done trace.ending → (events : List Event) × IsTrace Chooses Answers favoured start steps events trace
-trace_spent Chooses Answers favoured start now steps done trace h most ends = trace_with Chooses Answers favoured start now steps done trace h most ends
-
--- a trace from this state is one from the same
-pub trace_from : (Chooses Answers : ℕ → ℕ → ℕ → Type 0) (favoured : Option UnitKind) (s start : State) (steps : ℕ) (trace : Trace) → s ≡ start → (events : List Event) × IsTrace Chooses Answers favoured s steps events trace → (events : List Event) × IsTrace Chooses Answers favoured start steps events trace
-trace_from Chooses Answers favoured s start steps trace same h = subst (λ was. (events : List Event) × IsTrace Chooses Answers favoured was steps events trace) same h
-
-log_with : (Chooses Answers : ℕ → ℕ → ℕ → Type 0) (favoured : Option UnitKind) (start now : State) (steps done : ℕ) (log : Log) (h : Noted Chooses Answers favoured start now done log.accesses.items) → log.steps ≡ done → done ≤ steps → IsEnded now steps done log.ending → (events : List Event) × IsLog Chooses Answers favoured start steps events log
-log_with Chooses Answers favoured start now steps done log h count most ends = (
-  h.events,
-  record {
-    run = record { allowed = h.followed.allowed; accesses = refl; last = refl };
-    follows = h.followed.follows;
-    accesses = h.kept_are;
-    count = count ∙ sym h.followed.count;
-    most = omega (arith, h.followed.count, most);
-    ends = subst (λ n. IsEnded (reached step start h.events) steps n log.ending) (sym h.followed.count) (subst (λ s. IsEnded s steps done log.ending) h.followed.now_is ends);
-  },
-)
-
-pub log_over : (Chooses Answers : ℕ → ℕ → ℕ → Type 0) (favoured : Option UnitKind) (start now : State) (steps done : ℕ) (log : Log) → Noted Chooses Answers favoured start now done log.accesses.items → log.steps ≡ done → done ≤ steps → IsOver now log.ending → (events : List Event) × IsLog Chooses Answers favoured start steps events log
-log_over Chooses Answers favoured start now steps done log h count most over = log_with Chooses Answers favoured start now steps done log h count most (over_ends now steps done log.ending over)
-
-pub log_spent : (Chooses Answers : ℕ → ℕ → ℕ → Type 0) (favoured : Option UnitKind) (start now : State) (steps done : ℕ) (log : Log) → Noted Chooses Answers favoured start now done log.accesses.items → log.steps ≡ done → done ≤ steps → IsEnded now steps done log.ending → (events : List Event) × IsLog Chooses Answers favoured start steps events log
-log_spent Chooses Answers favoured start now steps done log h count most ends = log_with Chooses Answers favoured start now steps done log h count most ends
-
-pub log_from : (Chooses Answers : ℕ → ℕ → ℕ → Type 0) (favoured : Option UnitKind) (s start : State) (steps : ℕ) (log : Log) → s ≡ start → (events : List Event) × IsLog Chooses Answers favoured s steps events log → (events : List Event) × IsLog Chooses Answers favoured start steps events log
-log_from Chooses Answers favoured s start steps log same h = subst (λ was. (events : List Event) × IsLog Chooses Answers favoured was steps events log) same h
+pub log_of : (Chooses Answers : ℕ → ℕ → ℕ → Type 0) (favoured : Option UnitKind) (s : State) (steps done : ℕ) (kept : Kept) (log : Log) → kept.logs ≡ true → log.accesses.items ≡ kept.accesses.items → log.steps ≡ done
+    → HasKept Chooses Answers favoured s steps kept done log.ending → HasLog Chooses Answers favoured s steps log
+log_of Chooses Answers favoured s steps done kept log logs same count h =
+    (h.0, record { by = h.1; accesses = same ∙ subst (λ b. IsKept b s h.0 kept) logs h.2; count = count ∙ h.3 })
 
 -- the code's step is one that the script gave
 pub steps_by : (Chooses Answers : ℕ → ℕ → ℕ → Type 0) (favoured : Option UnitKind) (i : ℕ) (s next : State) (unit : Actor) (words : List ℕ) (listed found : List Access) (job : ℕ) (line : TraceLine)
@@ -182,17 +159,3 @@ steps_by Chooses Answers favoured i s next unit words listed found job line goes
   listed_is = listed_is ∙ moves.accesses_are;
   line_is = line_is ∙ (ap (λ j. line_of unit j listed) job_is ∙ ap (line_of unit (job_of s unit)) (listed_is ∙ moves.accesses_are));
 }
-
--- Where fewer words were asked for, which are enough, the event has those that the script says of the rest.
-pub steps_by_few : (Chooses Answers : ℕ → ℕ → ℕ → Type 0) (told : (i k : ℕ) → (word : ℕ) × Answers i k word) (favoured : Option UnitKind) (i : ℕ) (s next : State) (unit : Actor) (needed : ℕ) (given : List ℕ) (listed found : List Access) (job : ℕ) (line : TraceLine)
-    → finished s ≡ false → IsPicked Chooses i (candidates favoured (enabled_units s)) unit
-    → needed ≤ word_count unit → IsEnough s unit needed → length given ≡ needed → ((k : ℕ) → k < length given → Answers i k (slice_index given k))
-    → Moves (step s (record { unit = unit; words = given })) found next → listed ≡ found → job ≡ job_of s unit → line ≡ line_of unit job listed → StepsBy Chooses Answers favoured i s next listed line
-steps_by_few Chooses Answers told favoured i s next unit needed given listed found job line goes picked most enough long asked moves listed_is job_is line_is =
-    let more = word_count unit - needed in
-    let rest = rest_of (Answers i) (told i) (length given) more in
-    let rest_long : length rest ≡ more = length_rest (Answers i) (told i) (length given) more in
-    let both : needed + length rest ≡ word_count unit = omega (arith, rest_long, most) in
-    let all : length (given ++ rest) ≡ word_count unit = length-append given rest ∙ (ap (λ n. n + length rest) long ∙ both) in
-    steps_by Chooses Answers favoured i s next unit (given ++ rest) listed found job line goes picked all (all_given (Answers i) (told i) given more asked)
-    (subst (λ (moved : Moved State). Moves moved found next) (sym (enough given rest long both)) moves) listed_is job_is line_is

@@ -1,4 +1,3 @@
 pub mod Units
 pub mod Trace
 pub mod Run
-pub mod Watched

@@ -1,13 +1,12 @@
 -- A run by a script, which may favour a kind of unit. `Chooses step n m` says that at this step m is picked of n, `Answers step k word` that
 -- its word k is this.
-use Rattle.std.specs.Prelude.{◌≡◌, ◌≢◌, ◌≤◌, ◌<◌, ℕ, ◌+◌, ◌^◌, true, false, IsTrue, List, [], ◌∷◌, ◌++◌, length, map, slice_index, Option}
-use Rattle.std.specs.Global.{Vec}
+use Rattle.std.specs.Prelude.{◌≡◌, ◌≢◌, ◌≤◌, ◌<◌, ℕ, ◌+◌, ◌^◌, Bool, true, false, IsTrue, List, [], ◌∷◌, ◌++◌, length, map, slice_index, Option}
 use Rattle.field_words.specs.declared.access.Access.{Access}
 use Rattle.field_words.specs.declared.access.Actor.{Actor}
 use Rattle.machine_plan.specs.Runs.{found_by, reached}
 use Rattle.machine.specs.{State.State, Step.Event, Step.enabled, Step.finished, Step.job_of, Step.step, Step.IsRun}
 use Rattle.replay.specs.declared.trace.Ending.TheVariants.{Finished, Waiting, Spent}
-use Rattle.replay.specs.{declared.logged.Log.Log, declared.logged.Logged.Logged, declared.trace.Ending.Ending, declared.trace.Trace.Trace}
+use Rattle.replay.specs.{declared.logged.Kept.Kept, declared.logged.Log.Log, declared.logged.Logged.Logged, declared.trace.Ending.Ending, declared.trace.Trace.Trace}
 use Rattle.replay.specs.{declared.trace.TraceLine.TraceLine, declared.units.UnitKind.UnitKind, Trace.line_of}
 use Rattle.replay.specs.Units.{unit_at, word_count, enabled_units, candidates}
 
@@ -21,10 +20,6 @@ IsBelow Post = (step n picked : ℕ) → step < 2 ^ 64 → 1 ≤ n → n < 2 ^ 3
 
 abbrev pub MayAnswer : (ℕ → ℕ → Type 0) → Type 0
 MayAnswer Pre = (step k : ℕ) → step < 2 ^ 64 → k < 4096 → Pre step k
-
--- each step has each of these words
-abbrev pub IsTold : (ℕ → ℕ → ℕ → Type 0) → Type 0
-IsTold Gives = (step k : ℕ) → (word : ℕ) × Gives step k word
 
 -- at step i this unit was picked of these
 pub record IsPicked (Chooses : ℕ → ℕ → ℕ → Type 0) (i : ℕ) (units : List ℕ) (unit : Actor) : Type 0 where
@@ -80,36 +75,43 @@ pub record StepsBy (Chooses Answers : ℕ → ℕ → ℕ → Type 0) (favoured 
   pub listed_is : listed ≡ (step s event).accesses
   pub line_is : line ≡ line_of event.unit (job_of s event.unit) (step s event).accesses
 
--- The trace is that of the run of these events from this state, at most so many, which the script gave.
-pub record IsTrace (Chooses Answers : ℕ → ℕ → ℕ → Type 0) (favoured : Option UnitKind) (s : State) (steps : ℕ) (events : List Event) (trace : Trace) : Type 0 where
+-- The script gave the run of these events from this state, at most so many, and it ended so.
+pub record IsRunBy (Chooses Answers : ℕ → ℕ → ℕ → Type 0) (favoured : Option UnitKind) (s : State) (steps : ℕ) (events : List Event) (ending : Ending) : Type 0 where
   pub run : IsRun s events (found_by step s events) (reached step s events)
   pub follows : Follows Chooses Answers favoured 0 s events
-  pub lines : trace.lines.items ≡ lines_of s events
   pub most : length events ≤ steps
-  pub ends : IsEnded (reached step s events) steps (length events) trace.ending
+  pub ends : IsEnded (reached step s events) steps (length events) ending
+
+-- The trace is that of this run.
+pub record IsTrace (Chooses Answers : ℕ → ℕ → ℕ → Type 0) (favoured : Option UnitKind) (s : State) (steps : ℕ) (events : List Event) (trace : Trace) : Type 0 where
+  pub by : IsRunBy Chooses Answers favoured s steps events trace.ending
+  pub lines : trace.lines.items ≡ lines_of s events
 
 -- some events are those of this trace
 abbrev pub HasTrace : (Chooses Answers : ℕ → ℕ → ℕ → Type 0) → Option UnitKind → State → ℕ → Trace → Type 0
 HasTrace Chooses Answers favoured s steps trace = (events : List Event) × IsTrace Chooses Answers favoured s steps events trace
 
--- these lines and then this ending are such a trace
-abbrev pub HasLines : (Chooses Answers : ℕ → ℕ → ℕ → Type 0) → Option UnitKind → State → ℕ → Vec TraceLine → Ending → Type 0
-HasLines Chooses Answers favoured s steps lines ending = HasTrace Chooses Answers favoured s steps (record { lines = lines; ending = ending })
-
 -- The log is that of the same run: all accesses of its steps, which count from 0, how many steps there were, and how it ended.
 pub record IsLog (Chooses Answers : ℕ → ℕ → ℕ → Type 0) (favoured : Option UnitKind) (s : State) (steps : ℕ) (events : List Event) (log : Log) : Type 0 where
-  pub run : IsRun s events (found_by step s events) (reached step s events)
-  pub follows : Follows Chooses Answers favoured 0 s events
+  pub by : IsRunBy Chooses Answers favoured s steps events log.ending
   pub accesses : log.accesses.items ≡ accesses_of 0 s events
   pub count : log.steps ≡ length events
-  pub most : length events ≤ steps
-  pub ends : IsEnded (reached step s events) steps (length events) log.ending
 
 -- some events are those of this log
 abbrev pub HasLog : (Chooses Answers : ℕ → ℕ → ℕ → Type 0) → Option UnitKind → State → ℕ → Log → Type 0
 HasLog Chooses Answers favoured s steps log = (events : List Event) × IsLog Chooses Answers favoured s steps events log
 
--- these accesses of so many steps and then this ending are such a log
-abbrev pub HasAccesses : (Chooses Answers : ℕ → ℕ → ℕ → Type 0) → Option UnitKind → State → ℕ → Vec Logged → ℕ → Ending → Type 0
-HasAccesses Chooses Answers favoured s steps accesses done ending =
-    HasLog Chooses Answers favoured s steps (record { accesses = accesses; steps = done; ending = ending })
+-- what is kept of these events, where they are logged and where they aren't
+abbrev pub IsKept : Bool → State → List Event → Kept → Type 0
+IsKept true s events kept = kept.accesses.items ≡ accesses_of 0 s events
+IsKept false s events kept = kept.lines.items ≡ lines_of s events
+
+-- what is kept has one step more
+abbrev pub HasMore : Bool → (i : ℕ) → TraceLine → List Access → (before after : Kept) → Type 0
+HasMore true i line accesses before after = after.accesses.items ≡ before.accesses.items ++ numbered i accesses
+HasMore false i line accesses before after = after.lines.items ≡ before.lines.items ++ line ∷ []
+
+-- this is kept of some run of so many steps, which ended so
+abbrev pub HasKept : (Chooses Answers : ℕ → ℕ → ℕ → Type 0) → Option UnitKind → State → ℕ → Kept → ℕ → Ending → Type 0
+HasKept Chooses Answers favoured s steps kept done ending =
+    (events : List Event) × IsRunBy Chooses Answers favoured s steps events ending × IsKept kept.logs s events kept × (done ≡ length events)

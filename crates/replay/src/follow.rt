@@ -1,33 +1,30 @@
 //! The run itself.
-ghost use Rattle.std.specs.Prelude.{◌≡◌, ◌≤◌, ◌<◌, ◌^◌, ℕ, true, false, [], length, slice_index, IfOk, IfErr, IsErr};
-ghost use Rattle.machine.specs.Step.{finished, step};
+ghost use Rattle.std.specs.Prelude.{◌≡◌, ◌≤◌, false, [], length, IfOk, IfErr, IsErr};
+ghost use Rattle.machine.specs.Step.{finished};
 ghost use Rattle.replay.specs.Units.{enabled_units, candidates};
-ghost use Rattle.replay.specs.Trace.{line_of};
-ghost use Rattle.replay.specs.Run.{IsOver, IsPicked, StepsBy, HasTrace, HasLines, HasLog, HasAccesses};
+ghost use Rattle.replay.specs.Run.{IsOver, IsPicked, StepsBy, HasKept, HasTrace, HasLog};
 
-use crate::logged::{Log, Logged, put_step};
+use crate::logged::{Kept, Log, keep};
 use crate::script::Script;
 use crate::trace::{Ending, Trace, TraceLine, line_of};
-use crate::units::{UnitKind, candidates, unit_at};
-use crate::watched::Watched;
+use crate::units::{UnitKind, candidates, enabled_units, unit_at, word_count};
 use arrayvec::ArrayVec;
 use field_words::{Actor, NoMemory};
 use machine::Machine;
 use machine_plan::Accesses;
 use std::alloc::Global;
 
-/// The most choice words that a step gets.
-const MOST_WORDS: usize = 4096;
-
-// Whether a unit may step, or else why the run is over. Where one may step the machine isn't finished, so that is asked of the others
+// The units that may step, or why the run is over. Where one may step the machine isn't finished, so that is asked of the others
 // alone.
-fn look(machine: &Watched) -> Result<(), Ending>
+fn look(machine: &Machine) -> Result<ArrayVec<u8, 38>, Ending>
     ensures goes { IfOk result (λ _. finished machine.now ≡ false) }
-    ensures some { IfOk result (λ _. 1 ≤ length (enabled_units machine.now)) }
+    ensures some { IfOk result (λ units. 1 ≤ length units.items) }
+    ensures units { IfOk result (λ units. units.items ≡ enabled_units machine.now) }
     ensures over { IfErr result (IsOver machine.now) }
 {
-    if !machine.units().is_empty() {
-        return Ok(());
+    let units = enabled_units(machine);
+    if !units.is_empty() {
+        return Ok(units);
     }
     if machine.finished() {
         return Err(Ending::Finished);
@@ -60,25 +57,26 @@ fn picked<S: Script>(script: &S, favoured: Option<UnitKind>, step: u64, units: &
     }
 }
 
-// One step of the unit that the script picks. Words behind those that it may look at aren't asked for.
+// One step of the unit that the script picks, of these that may step.
 fn take_step<S: Script>(
     script: &S,
     favoured: Option<UnitKind>,
     step: u64,
-    words: &mut [u32; MOST_WORDS],
+    units: &[u8],
     accesses: &mut Accesses,
-    machine: &mut Watched,
+    machine: &mut Machine,
 ) -> TraceLine
     requires may { S.may script.now }
     requires goes { finished machine.old ≡ false }
-    requires some { 1 ≤ length (enabled_units machine.old) }
+    requires some { 1 ≤ length units.now }
+    requires few { length units.now ≤ 38 }
+    requires units { units.now ≡ enabled_units machine.old }
     ensures { StepsBy (S.picks script.now) (S.gives script.now) favoured step machine.old machine.new accesses.new.items result }
 {
-    let unit = picked(script, favoured, step, machine.units());
-    let words = &mut words[..machine.words_needed(unit) as usize];
-    script.fill(step, words);
+    let unit = picked(script, favoured, step, units);
+    let words = script.words(step, word_count(unit));
     let job = machine.job_of(unit);
-    machine.step(unit, words, accesses);
+    machine.step_by(unit, &words, accesses);
     line_of(unit, job, accesses.as_slice())
 }
 
@@ -87,9 +85,8 @@ fn go_on<S: Script>(
     script: &S,
     favoured: Option<UnitKind>,
     step: u64,
-    words: &mut [u32; MOST_WORDS],
     accesses: &mut Accesses,
-    machine: &mut Watched,
+    machine: &mut Machine,
 ) -> Result<TraceLine, Ending>
     requires may { S.may script.now }
     ensures did { IfOk result (StepsBy (S.picks script.now) (S.gives script.now) favoured step machine.old machine.new accesses.new.items) }
@@ -98,41 +95,35 @@ fn go_on<S: Script>(
 {
     match look(machine) {
         Err(ending) => Err(ending),
-        Ok(()) => Ok(take_step(script, favoured, step, words, accesses, machine)),
+        Ok(units) => Ok(take_step(script, favoured, step, units.as_slice(), accesses, machine)),
     }
 }
 
-// The steps that the script gives, at most so many.
+// The steps that the script gives, at most so many: how many there were, and why they ended.
 fn follow<S: Script>(
     script: &S,
     favoured: Option<UnitKind>,
     steps: u32,
-    lines: &mut Vec<TraceLine>,
-    machine: &mut Watched,
-) -> Result<Ending, NoMemory>
+    kept: &mut Kept,
+    machine: &mut Machine,
+) -> Result<(u32, Ending), NoMemory>
     requires may { S.may script.now }
-    requires empty { lines.old.items ≡ [] }
+    requires no_lines { kept.old.lines.items ≡ [] }
+    requires no_accesses { kept.old.accesses.items ≡ [] }
     requires few { steps ≤ 1000000 }
-    ensures { IfOk result (HasLines (S.picks script.now) (S.gives script.now) favoured machine.old steps lines.new) }
+    ensures logs { kept.new.logs ≡ kept.old.logs }
+    ensures run { IfOk result (λ end. HasKept (S.picks script.now) (S.gives script.now) favoured machine.old steps kept.new end.0 end.1) }
 {
-    let mut words = [0; MOST_WORDS];
     let mut accesses = ArrayVec::new();
     for i in 0..steps {
-        match go_on(
-            script,
-            favoured,
-            i as u64,
-            &mut words,
-            &mut accesses,
-            machine,
-        ) {
-            Err(ending) => return Ok(ending),
-            Ok(line) => lines.push(line)?,
+        match go_on(script, favoured, i as u64, &mut accesses, machine) {
+            Err(ending) => return Ok((i, ending)),
+            Ok(line) => keep(kept, i, line, accesses.as_slice())?,
         }
     }
     match look(machine) {
-        Err(ending) => Ok(ending),
-        Ok(()) => Ok(Ending::Spent),
+        Err(ending) => Ok((steps, ending)),
+        Ok(_) => Ok((steps, Ending::Spent)),
     }
 }
 
@@ -140,7 +131,7 @@ fn follow<S: Script>(
 /// it steps whenever one may. It takes its memory first; the machine is dropped at the end.
 pub fn replay<S: Script>(
     alloc: Global,
-    machine: Machine,
+    mut machine: Machine,
     script: &S,
     favoured: Option<UnitKind>,
     steps: u32,
@@ -149,50 +140,20 @@ pub fn replay<S: Script>(
     requires few { steps ≤ 1000000 }
     ensures { IfOk result (HasTrace (S.picks script.now) (S.gives script.now) favoured machine steps) }
 {
-    let mut lines = Vec::with_capacity(alloc, steps as usize)?;
-    let mut watched = Watched::new(machine);
-    let ending = follow(script, favoured, steps, &mut lines, &mut watched)?;
+    let mut kept = Kept {
+        logs: false,
+        lines: Vec::with_capacity(alloc, steps as usize)?,
+        accesses: Vec::new(alloc),
+    };
+    let (_, ending) = follow(script, favoured, steps, &mut kept, &mut machine)?;
+    let lines = kept.lines;
     Ok(Trace { lines, ending })
-}
-
-// The same steps, of which all accesses are kept; how many there were, and why they ended.
-fn note<S: Script>(
-    script: &S,
-    favoured: Option<UnitKind>,
-    steps: u32,
-    kept: &mut Vec<Logged>,
-    machine: &mut Watched,
-) -> Result<(u32, Ending), NoMemory>
-    requires may { S.may script.now }
-    requires empty { kept.old.items ≡ [] }
-    requires few { steps ≤ 1000000 }
-    ensures { IfOk result (λ end. HasAccesses (S.picks script.now) (S.gives script.now) favoured machine.old steps kept.new end.0 end.1) }
-{
-    let mut words = [0; MOST_WORDS];
-    let mut accesses = ArrayVec::new();
-    for i in 0..steps {
-        match go_on(
-            script,
-            favoured,
-            i as u64,
-            &mut words,
-            &mut accesses,
-            machine,
-        ) {
-            Err(ending) => return Ok((i, ending)),
-            Ok(_) => put_step(kept, i, accesses.as_slice())?,
-        }
-    }
-    match look(machine) {
-        Err(ending) => Ok((steps, ending)),
-        Ok(()) => Ok((steps, Ending::Spent)),
-    }
 }
 
 /// Steps the machine as [`replay`] does, and keeps all accesses of the steps. The machine is dropped at the end.
 pub fn log_run<S: Script>(
     alloc: Global,
-    machine: Machine,
+    mut machine: Machine,
     script: &S,
     favoured: Option<UnitKind>,
     steps: u32,
@@ -201,9 +162,13 @@ pub fn log_run<S: Script>(
     requires few { steps ≤ 1000000 }
     ensures { IfOk result (HasLog (S.picks script.now) (S.gives script.now) favoured machine steps) }
 {
-    let mut accesses = Vec::new(alloc);
-    let mut watched = Watched::new(machine);
-    let (steps, ending) = note(script, favoured, steps, &mut accesses, &mut watched)?;
+    let mut kept = Kept {
+        logs: true,
+        lines: Vec::new(alloc),
+        accesses: Vec::new(alloc),
+    };
+    let (steps, ending) = follow(script, favoured, steps, &mut kept, &mut machine)?;
+    let accesses = kept.accesses;
     Ok(Log {
         accesses,
         steps,

@@ -7,7 +7,6 @@ mod oracle;
 mod script;
 mod trace;
 mod units;
-mod watched;
 
 pub use follow::{log_run, replay};
 pub use logged::{Log, Logged};

@@ -1,8 +1,8 @@
-//! What is kept of a run's accesses.
+//! What is kept of a run's steps: their lines, or all their accesses.
 ghost use Rattle.std.specs.Prelude.{◌≡◌, ◌++◌, OnOk};
-ghost use Rattle.replay.specs.Run.{numbered};
+ghost use Rattle.replay.specs.Run.{numbered, HasMore};
 
-use crate::trace::Ending;
+use crate::trace::{Ending, TraceLine};
 use field_words::Access;
 use std::alloc::AllocError;
 
@@ -21,12 +21,16 @@ pub struct Log {
     pub ending: Ending,
 }
 
-/// Puts the accesses of this step to those before it.
-pub(crate) fn put_step(
-    kept: &mut Vec<Logged>,
-    step: u32,
-    accesses: &[Access],
-) -> Result<(), AllocError>
+/// What is kept of the steps so far: where they are logged all accesses, and else a line of each.
+#[derive(Drop)]
+pub(crate) struct Kept {
+    pub(crate) logs: bool,
+    pub(crate) lines: Vec<TraceLine>,
+    pub(crate) accesses: Vec<Logged>,
+}
+
+// Puts the accesses of this step to those before it.
+fn put_step(kept: &mut Vec<Logged>, step: u32, accesses: &[Access]) -> Result<(), AllocError>
     ensures { OnOk result (kept.new.items ≡ kept.old.items ++ numbered step accesses.now) }
 {
     for access in accesses {
@@ -34,6 +38,24 @@ pub(crate) fn put_step(
             step,
             access: *access,
         })?;
+    }
+    Ok(())
+}
+
+/// Keeps this step, which has this line and did these accesses.
+pub(crate) fn keep(
+    kept: &mut Kept,
+    step: u32,
+    line: TraceLine,
+    accesses: &[Access],
+) -> Result<(), AllocError>
+    ensures logs { kept.new.logs ≡ kept.old.logs }
+    ensures more { OnOk result (HasMore kept.old.logs step line accesses.now kept.old kept.new) }
+{
+    if kept.logs {
+        put_step(&mut kept.accesses, step, accesses)?;
+    } else {
+        kept.lines.push(line)?;
     }
     Ok(())
 }

@@ -3,6 +3,8 @@ ghost use Rattle.std.specs.Prelude.{◌≡◌, ◌≤◌, ◌<◌};
 ghost use Rattle.replay.specs.Run.{MayChoose, IsBelow, MayAnswer};
 
 use crate::script::Script;
+use arrayvec::ArrayVec;
+use machine_plan::Choices;
 
 /// Two closures that say how a run goes: at step `step`, `choose(step, n)` picks one of the `n` units that may step, and
 /// `answer(step, k)` is the step's choice word `k`.
@@ -26,11 +28,27 @@ impl<C: Fn(u64, u32) -> u32, F: Fn(u64, u32) -> u32> Oracle<C, F> {
     }
 }
 
-/// What is asked of the closures is what [`Oracle::new`] asks, which no value of that type can carry; and that `answer` has each word.
-impl<C: Fn(u64, u32) -> u32, F: Fn(u64, u32) -> u32> Script for Oracle<C, F> {
-    ghost use Rattle.replay.specs.Run.{MayChoose, IsBelow, MayAnswer, IsTold};
+/// The words of a step, which a closure has answered, once each: asked again it could answer otherwise.
+#[derive(Drop)]
+pub struct Answered {
+    words: ArrayVec<u32, 4096>,
+}
 
-    ghost may = { λ oracle. MayChoose (C.pre oracle.choose) × (IsBelow (C.post oracle.choose) × (MayAnswer (F.pre oracle.answer) × IsTold (F.post oracle.answer))) };
+impl Choices for Answered {
+    ghost listed = { λ answered. answered.words.items };
+
+    fn word(&self, k: u64) -> u32 {
+        self.words.as_slice().word(k)
+    }
+}
+
+/// What is asked of the closures is what [`Oracle::new`] asks, which no value of that type can carry.
+impl<C: Fn(u64, u32) -> u32, F: Fn(u64, u32) -> u32> Script for Oracle<C, F> {
+    ghost use Rattle.replay.specs.Run.{MayChoose, IsBelow, MayAnswer};
+
+    type Source = Answered;
+
+    ghost may = { λ oracle. MayChoose (C.pre oracle.choose) × (IsBelow (C.post oracle.choose) × MayAnswer (F.pre oracle.answer)) };
 
     ghost picks = { λ oracle. C.post oracle.choose };
 
@@ -40,11 +58,11 @@ impl<C: Fn(u64, u32) -> u32, F: Fn(u64, u32) -> u32> Script for Oracle<C, F> {
         (self.choose)(step, count)
     }
 
-    fn fill(&self, step: u64, words: &mut [u32]) {
-        for k in 0..words.len() {
-            words[k] = (self.answer)(step, k as u32);
+    fn words(&self, step: u64, count: u32) -> Answered {
+        let mut words = ArrayVec::new();
+        for k in 0..count {
+            words.push((self.answer)(step, k));
         }
+        Answered { words }
     }
-
-    ghost told = { λ oracle may. may.1.1.1 };
 }

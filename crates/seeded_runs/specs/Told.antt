@@ -9,8 +9,8 @@ use Rattle.relocation.specs.declared.layout.Layout.{Layout}
 use Rattle.replay.specs.{declared.logged.Log.Log, declared.trace.Trace.Trace, declared.units.UnitKind.UnitKind, Run.IsTrace, Run.IsLog}
 use Rattle.dumper.specs.Trace.{trace_text, ending_text}
 use Rattle.run_text.specs.Log.{log_text}
-use Rattle.run_picture.specs.Picture.{run_picture}
-use Rattle.svg.specs.Forest.{forest_text}
+use Rattle.pictures.specs.Run.{run_picture}
+use Rattle.pictures.specs.Forest.{forest_text}
 use Rattle.seeded_runs.specs.declared.told.Look.TheVariants.{Steps, Accesses, Picture, Seeds}
 use Rattle.seeded_runs.specs.{declared.told.Look.Look, declared.told.Trial.Trial, Seeded.Picks, Seeded.Gives}
 

@@ -15,9 +15,9 @@ use field_words::{NoMemory, Stop};
 use job_format::{Refusal, read_parts};
 use job_safety::{Accepted, accept};
 use machine::Machine;
+use pictures::run_picture;
 use relocation::Layout;
 use replay::{Trace, UnitKind};
-use run_picture::run_picture;
 use run_text::log_text;
 use std::alloc::{AllocError, Global};
 

@@ -1,5 +1,0 @@
-use Rattle.replay.proofs.Going.{Noted}
-use Rattle.replay.proofs.follow.note.Given as goal
-
-abbrev pub invariant-loop-i : goal.invariant-loop-i
-invariant-loop-i g l = Noted (g.S.Script.picks l.script) (g.S.Script.gives l.script) l.favoured l.fn.machine l.machine l.i l.kept.items

@@ -1,9 +1,0 @@
--- The words so far are answers.
-use Rattle.std.proofs.Common.{◌≡◌, ℕ, ◌<◌, length, slice_index}
-use Rattle.replay.proofs.oracle.OracleScript.fill.Given as goal
-
-abbrev pub invariant-loop-k : goal.invariant-loop-k
-invariant-loop-k g l = record {
-  given : (j : ℕ) → j < l.k → g.F.Fn.post l.self.answer (l.step, (j, tt)) (slice_index l.words j);
-  long : length l.words ≡ length l.initial.words;
-}
