@@ -94,7 +94,7 @@ fn cut_front(bytes: &[u8]) -> (&[u8], &[u8])
 
 /// The packet at the front of the bytes, and the bytes behind it that are still read: none behind a halt.
 #[inline]
-pub(crate) fn split_front(bytes: &[u8]) -> (&[u8], &[u8])
+pub fn split_front(bytes: &[u8]) -> (&[u8], &[u8])
     requires { 1 ≤ length bytes.now }
     ensures packet { result.0.now ≡ front_packet bytes.now }
     ensures rest { result.1.now ≡ behind bytes.now }

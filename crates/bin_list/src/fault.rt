@@ -1,12 +1,10 @@
 //! Why a binner list is refused.
-
-use crate::rule::sentence_of;
 use thiserror::Error;
 
 /// The first rule of a binner list that stands: B`number`, at the packet that begins `at` bytes behind the list's start.
 /// B18 and B19 stand at the list's end.
 #[derive(Clone, Copy, Debug, PartialEq, Eq, Error)]
-#[error("B{number} at byte {at} of the binner list: {}", sentence_of(*.number))]
+#[error("B{number} at byte {at} of the binner list")]
 pub struct ListFault {
     pub number: u8,
     pub at: u32,

@@ -45,29 +45,6 @@ pub enum BinRule {
     NoEnd,
 }
 
-/// What it means that the rule of each number stands, from B1 on.
-const SENTENCES: [&str; 19] = [
-    "no packet has this opcode",
-    "the packet goes past the list's end",
-    "a flush isn't the list's last byte",
-    "a start of binning follows another",
-    "a start of binning has no configuration before it",
-    "an increment of the semaphore isn't the list's last byte but one",
-    "a primitive has no shader state before it",
-    "a primitive has no start of binning before it",
-    "the handle of the index buffer names no Plain buffer",
-    "the indexes end past their buffer",
-    "first index and length of an array primitive add up to 2^32 or more",
-    "there are more shader states than declared",
-    "a shader state's word has a bit above bit 3",
-    "a configuration follows another",
-    "there are no tiles across or down",
-    "bit 7 or bit 1 of a configuration's flags is set",
-    "a tile slot has no room for so many tiles",
-    "the list has no start of binning",
-    "the list doesn't end with an increment of the semaphore and a flush",
-];
-
 impl BinRule {
     /// The number behind the letter B.
     pub fn number(self) -> u8
@@ -95,17 +72,4 @@ impl BinRule {
             BinRule::NoEnd => 19,
         }
     }
-
-    /// What it means that the rule stands.
-    pub fn sentence(self) -> &'static str {
-        sentence_of(self.number())
-    }
-}
-
-/// What it means that the rule of this number stands.
-pub(crate) fn sentence_of(number: u8) -> &'static str {
-    SENTENCES
-        .get(usize::from(number).wrapping_sub(1))
-        .copied()
-        .unwrap_or("there is no rule of this number")
 }

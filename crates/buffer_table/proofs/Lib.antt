@@ -2,6 +2,5 @@ pub mod Laxer
 pub mod Named
 pub mod Ordered
 pub mod Order
-pub mod Bits
+pub mod Sharing
 pub mod Sounds
-pub mod Taken

@@ -1,7 +1,7 @@
 -- A memory table without faults is sound.
 use Rattle.std.proofs.Common.{◌≡◌, ℕ, suc, ◌+◌, ◌-◌, ◌<◌, ◌≤◌, map, min, max, false, List, length, take, get_or, None, sym, ap, subst, arith, ◌∙◌}
 use Rattle.std.proofs.lemmas.List.{get_or-take, get_or-map, get_or_default, length-map}
-use Rattle.std.proofs.{lemmas.Bool.ltb-false, lemmas.List.Folds.list_any_at, lemmas.Grind.common_steps}
+use Rattle.std.proofs.{lemmas.Bool.ltb-false, lemmas.Bool.Decides.nat_tests, lemmas.List.Folds.list_any_at, lemmas.Grind.common_steps}
 use Rattle.field_words.specs.Questions.{first_of, each}
 use Rattle.field_words.proofs.{Questions.none_stands, Nones.front_none, Nones.rest_none, Nones.each_none}
 use Rattle.buffer_table.specs.Table.{TableModel, items_of, item_at, no_item, buffer_at, past_end, buffer_item, shares, shares_with_first, is_off_page, most_place, memory_within, item_questions, all_within, table_within}
@@ -14,6 +14,11 @@ unfolding item_questions is_off_page
 sound_item memory items k none =
     let asked = none_stands (item_questions memory items k) none in
     record { place = grind (arith, asked.0); size = grind (arith, asked.0); not_empty = grind (arith, asked.0); inside = grind (arith, asked.1.0); content = grind (arith, asked.1.1.1.0) }
+
+-- one that passes M2 has a byte
+pub some_byte : (x : Item) → is_off_page x ≡ false → 0 < x.size
+unfolding is_off_page
+some_byte x on = grind (arith, nat_tests, on)
 
 -- Two items of which the test for a common byte fails.
 apart_of : (memory : ℕ) (x y : Item) → shares y x ≡ false → IsSoundItem memory x → IsSoundItem memory y → AreApart x y

@@ -1,6 +1,5 @@
-pub mod Earlier
 pub mod Handles
-pub mod Pages
+pub mod Order
 pub mod Rules
 pub mod Sound
 pub mod Table

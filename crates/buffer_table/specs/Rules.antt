@@ -1,7 +1,6 @@
--- The rules of a memory table, and of a job's handles, by number.
+-- The rules of a memory table by number.
 use Rattle.std.specs.Prelude.{ℕ}
 use Rattle.buffer_table.specs.declared.buffer.TableRule.TheVariants.{MemorySize, OffPage, OutsideMemory, SharedByte, TooMuchContent}
-use Rattle.buffer_table.specs.{declared.buffer.HandleRule.HandleRule, declared.buffer.HandleRule.TheVariants.ForeignBuffer}
 use Rattle.buffer_table.specs.declared.buffer.TableRule.{TableRule}
 
 abbrev pub rule_number : TableRule → ℕ
@@ -10,6 +9,3 @@ rule_number OffPage = 2
 rule_number OutsideMemory = 3
 rule_number SharedByte = 4
 rule_number TooMuchContent = 5
-
-abbrev pub handle_rule_number : HandleRule → ℕ
-handle_rule_number ForeignBuffer = 1

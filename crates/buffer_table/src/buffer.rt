@@ -1,7 +1,7 @@
 //! The items of a job's memory as its file names them: buffers and the two regions; and the rules
 //! that they keep.
 ghost use Rattle.std.specs.Prelude.{◌≡◌};
-ghost use Rattle.buffer_table.specs.Rules.{rule_number, handle_rule_number};
+ghost use Rattle.buffer_table.specs.Rules.{rule_number};
 
 use thiserror::Error;
 
@@ -64,64 +64,13 @@ impl TableRule {
             TableRule::TooMuchContent => 5,
         }
     }
-
-    /// What the rule says.
-    pub fn sentence(self) -> &'static str {
-        match self {
-            TableRule::MemorySize =>
-                "the memory's size is 0, no multiple of 4,096, or over the limit (64 MiB in a file, 0xFF000000 for a driver)",
-            TableRule::OffPage => "a place or size is no multiple of 4,096, or the size is 0",
-            TableRule::OutsideMemory => "it ends past the memory",
-            TableRule::SharedByte => "a byte of it lies in an earlier item",
-            TableRule::TooMuchContent => "more content is given than it has bytes",
-        }
-    }
-}
-
-/// The rule of a job's handles.
-#[derive(Clone, Copy, Debug, PartialEq, Eq)]
-pub enum HandleRule {
-    /// The handle is no buffer's number, or names a buffer of another client.
-    ForeignBuffer,
-}
-
-impl HandleRule {
-    /// The rule's number, after the letter H.
-    pub fn number(self) -> u8
-        ensures { result ≡ handle_rule_number self }
-    {
-        match self {
-            HandleRule::ForeignBuffer => 1,
-        }
-    }
-
-    /// What the rule says.
-    pub fn sentence(self) -> &'static str {
-        match self {
-            HandleRule::ForeignBuffer => "it names no buffer of the job's client",
-        }
-    }
 }
 
 /// The first memory rule that stands: M`number` at `item`. Items are 0 the memory, 1 the lists'
 /// region, 2 the tile region, and 3 + b buffer b.
 #[derive(Clone, Copy, Debug, PartialEq, Eq, Error)]
-#[error("M{number} at item {item} of the memory table: {}", self.sentence())]
+#[error("M{number} at item {item} of the memory table")]
 pub struct TableFault {
     pub number: u8,
     pub item: u32,
-}
-
-impl TableFault {
-    /// What the rule of this number says.
-    pub fn sentence(&self) -> &'static str {
-        match self.number {
-            1 => TableRule::MemorySize.sentence(),
-            2 => TableRule::OffPage.sentence(),
-            3 => TableRule::OutsideMemory.sentence(),
-            4 => TableRule::SharedByte.sentence(),
-            5 => TableRule::TooMuchContent.sentence(),
-            _ => "there is no rule of this number",
-        }
-    }
 }

@@ -4,11 +4,10 @@
 mod buffer;
 mod handles;
 mod item;
-mod pages;
-mod places;
+mod sorted;
 mod table;
 
-pub use buffer::{Buffer, HandleRule, Kind, Regions, TableFault, TableRule};
+pub use buffer::{Buffer, Kind, Regions, TableFault, TableRule};
 pub use handles::{Handles, use_code, use_data};
 pub use item::Item;
 pub use table::{MOST_PLACE, Table, first_fault_is_least, sharing_means_a_byte};

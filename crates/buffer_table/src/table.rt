@@ -47,7 +47,6 @@ impl<'a> Table<'a> {
     /// The table of a memory of `mem_size` bytes, of which there are at most `limit`; its buffers are lent. The fault is the first of
     /// M1 to M5, by item and number. No memory is taken.
     pub fn make_within(
-        _alloc: Global,
         limit: u32,
         mem_size: u32,
         regions: Regions,
@@ -74,7 +73,7 @@ impl<'a> Table<'a> {
 
     /// The table of the memory of a job file, which has at most 64 MiB.
     pub fn make(
-        alloc: Global,
+        _alloc: Global,
         mem_size: u32,
         regions: Regions,
         buffers: &'a Vec<Buffer>,
@@ -87,7 +86,7 @@ impl<'a> Table<'a> {
         ensures sound { IfOk result (λ t. IsSound t.memory t.regions t.buffers) }
         ensures small { IfOk result (λ t. t.memory ≤ most_memory) }
     {
-        Table::make_within(alloc, MOST_MEMORY, mem_size, regions, buffers)
+        Table::make_within(MOST_MEMORY, mem_size, regions, buffers)
     }
 
     /// How many buffers there are.

@@ -67,41 +67,14 @@ impl FormatRule {
             FormatRule::LacksSlots => 7,
         }
     }
-
-    /// What the rule says.
-    pub fn sentence(self) -> &'static str {
-        match self {
-            FormatRule::NotAJobFile => "the letters VC4J or the version 1 or 2 are missing",
-            FormatRule::EndsEarly => "the file ends before the part's end",
-            FormatRule::BytesFollow => "bytes follow the last part",
-            FormatRule::OverLimit => "the number is over its limit",
-            FormatRule::WithoutMeaning => "the field holds what has no meaning",
-            FormatRule::LacksSlots => "a job has no tile slot",
-        }
-    }
 }
 
 /// The first format rule that stands: F`number` at `offset` in the file.
 #[derive(Clone, Copy, Debug, PartialEq, Eq, Error)]
-#[error("F{number} at byte {offset} of the job file: {}", self.sentence())]
+#[error("F{number} at byte {offset} of the job file")]
 pub struct FormatFault {
     pub number: u8,
     pub offset: u64,
-}
-
-impl FormatFault {
-    /// What the rule of this number says.
-    pub fn sentence(&self) -> &'static str {
-        match self.number {
-            1 => FormatRule::NotAJobFile.sentence(),
-            2 => FormatRule::EndsEarly.sentence(),
-            3 => FormatRule::BytesFollow.sentence(),
-            4 => FormatRule::OverLimit.sentence(),
-            5 => FormatRule::WithoutMeaning.sentence(),
-            7 => FormatRule::LacksSlots.sentence(),
-            _ => "there is no rule of this number",
-        }
-    }
 }
 
 impl fmt::Display for Stage {

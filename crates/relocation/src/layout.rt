@@ -8,7 +8,7 @@ use field_words::round_up;
 /// Where a job's lists lie: `place` is where they begin in memory and `slot` where the job's tile
 /// slot does, both in bytes. The others are offsets from `place`: where the binner list, the shader
 /// records, the uniforms and the renderer list begin, and where the last one ends.
-#[derive(Clone, Copy, PartialEq, Eq, Debug)]
+#[derive(Clone, Copy, Default, PartialEq, Eq, Debug)]
 pub struct Layout {
     pub place: u32,
     pub bin: u32,
@@ -21,7 +21,7 @@ pub struct Layout {
 
 /// How many bytes of each part were emitted. A part may be shorter than its room in the layout,
 /// which is counted with the sizes of its source.
-#[derive(Clone, Copy, PartialEq, Eq, Debug)]
+#[derive(Clone, Copy, Default, PartialEq, Eq, Debug)]
 pub struct Lengths {
     pub bin: u32,
     pub records: u32,

@@ -62,53 +62,12 @@ impl FrameRule {
             FrameRule::NothingWritten => 13,
         }
     }
-
-    /// What it means that the rule stands.
-    pub fn sentence(self) -> &'static str {
-        match self {
-            FrameRule::Reversed => "a smallest tile number is over its largest",
-            FrameRule::OutsideGrid => "the largest tile isn't in the binner's grid",
-            FrameRule::OutsideFrame => "the largest tile has no pixel",
-            FrameRule::UnknownFlag => "a flag is set that this surface doesn't have",
-            FrameRule::UnknownBit => "a bit is set outside the fields of the bits",
-            FrameRule::Unnamed => "the handle names no Plain buffer",
-            FrameRule::UnlistedTiling => "there is no such tiling",
-            FrameRule::UnlistedFormat => "there is no such format of such a buffer",
-            FrameRule::Unaligned => "the offset is no multiple of 16",
-            FrameRule::TooLarge => {
-                "a side is over 4,096 pixels, or the surface goes past its buffer"
-            }
-            FrameRule::FullWithBits => "full resolution is not for this surface, or has no bits",
-            FrameRule::TooLargeFull => "the last tile goes past the buffer",
-            FrameRule::NothingWritten => "nothing is written",
-        }
-    }
-
-    /// The rule of this number, where there is one.
-    pub fn numbered(number: u8) -> Option<FrameRule> {
-        Some(match number {
-            1 => FrameRule::Reversed,
-            2 => FrameRule::OutsideGrid,
-            3 => FrameRule::OutsideFrame,
-            4 => FrameRule::UnknownFlag,
-            5 => FrameRule::UnknownBit,
-            6 => FrameRule::Unnamed,
-            7 => FrameRule::UnlistedTiling,
-            8 => FrameRule::UnlistedFormat,
-            9 => FrameRule::Unaligned,
-            10 => FrameRule::TooLarge,
-            11 => FrameRule::FullWithBits,
-            12 => FrameRule::TooLargeFull,
-            13 => FrameRule::NothingWritten,
-            _ => return None,
-        })
-    }
 }
 
 /// The first rule of the frame and its surfaces that stands: G`number` at `item`. Item 0 is the
 /// frame, 1 to 6 are the surfaces in the frame's order, and 7 is the whole.
 #[derive(Clone, Copy, Debug, PartialEq, Eq, Error)]
-#[error("G{number} at {}: {}", item_name(*.item), sentence(*.number))]
+#[error("G{number} at item {item} of the frame")]
 pub struct RenderFault {
     pub number: u8,
     pub item: u8,
@@ -123,27 +82,5 @@ impl RenderFault {
             number: rule.number(),
             item,
         }
-    }
-}
-
-/// What an item is.
-fn item_name(item: u8) -> &'static str {
-    match item {
-        FRAME => "the frame",
-        1 => "surface 1",
-        2 => "surface 2",
-        3 => "surface 3",
-        4 => "surface 4",
-        5 => "surface 5",
-        6 => "surface 6",
-        _ => "the whole",
-    }
-}
-
-/// What it means that the rule of this number stands.
-fn sentence(number: u8) -> &'static str {
-    match FrameRule::numbered(number) {
-        Some(rule) => rule.sentence(),
-        None => "there is no such rule",
     }
 }

@@ -1,23 +1,12 @@
 //! What a shader is refused for.
 
-use shader_flow::ShaderRule;
 use thiserror::Error;
 
 /// A rule that a shader breaks: its number, 1 to 27, and the index of the instruction where it stands. Rules on the whole
 /// shader stand at the number of words.
 #[derive(Clone, Copy, Debug, PartialEq, Eq, Error)]
-#[error("S{number} at instruction {index}: {sentence}", sentence = self.sentence())]
+#[error("S{number} at instruction {index}")]
 pub struct ShaderFault {
     pub number: u8,
     pub index: u32,
-}
-
-impl ShaderFault {
-    /// The rule as a sentence.
-    pub fn sentence(&self) -> &'static str {
-        match ShaderRule::numbered(self.number) {
-            Some(rule) => rule.sentence(),
-            None => "no rule has this number",
-        }
-    }
 }

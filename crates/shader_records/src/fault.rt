@@ -1,13 +1,12 @@
 //! Why shader records and uniforms are refused.
 
-use crate::rule::{NO_TEXTURE, record_sentence};
 use job_format::Stage;
 use thiserror::Error;
 
 /// The first rule of records and uniforms that stands: its stage (A or U), its number, and the place in
 /// bytes, counted in the job's uniforms or else in its records.
 #[derive(Clone, Copy, Debug, PartialEq, Eq, Error)]
-#[error("{stage}{number} at byte {at} of the {}: {}", self.part(), self.sentence())]
+#[error("{stage}{number} at byte {at} of the {}", self.part())]
 pub struct RecordFault {
     pub stage: Stage,
     pub number: u8,
@@ -22,15 +21,6 @@ impl RecordFault {
             "uniforms"
         } else {
             "shader records"
-        }
-    }
-
-    /// What it means that the rule stands.
-    fn sentence(&self) -> &'static str {
-        match (self.stage, self.number) {
-            (Stage::A, number) => record_sentence(number),
-            (Stage::U, 1) => NO_TEXTURE,
-            _ => "the sample doesn't fit its buffer",
         }
     }
 }

@@ -49,37 +49,4 @@ impl RecordRule {
             RecordRule::NoTexture => 1,
         }
     }
-
-    /// What it means that the rule stands.
-    pub fn sentence(self) -> &'static str {
-        match self {
-            RecordRule::NoTexture => NO_TEXTURE,
-            rule => record_sentence(rule.number()),
-        }
-    }
-}
-
-/// What it means that U1 stands.
-pub(crate) const NO_TEXTURE: &str = "the handle of a sample names no Plain buffer";
-
-/// What it means that the rule of each number stands, from A1 on.
-const SENTENCES: [&str; 10] = [
-    "the handles before the record are cut off",
-    "the record is cut off",
-    "the handle of a shader's code names no Code buffer",
-    "the handle of an attribute names no Plain buffer",
-    "flags and fragment shader disagree on whether it switches threads",
-    "the vertex or the coordinate shader switches threads",
-    "a word for a code address isn't 0",
-    "fewer bytes of uniforms are left than the shader takes",
-    "an attribute of the first vertex ends past its buffer",
-    "an attribute of the vertex with the greatest index ends past its buffer",
-];
-
-/// What it means that rule A of this number stands.
-pub(crate) fn record_sentence(number: u8) -> &'static str {
-    SENTENCES
-        .get(usize::from(number).wrapping_sub(1))
-        .copied()
-        .unwrap_or("there is no rule of this number")
 }

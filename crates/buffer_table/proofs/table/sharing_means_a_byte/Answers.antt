@@ -1,4 +1,4 @@
-use Rattle.buffer_table.proofs.Taken.{sharing_means_byte}
+use Rattle.buffer_table.proofs.Sharing.{sharing_means_byte}
 use Rattle.buffer_table.proofs.table.sharing_means_a_byte.Goals as goal
 
 pub returns : goal.returns
