@@ -1,5 +1,5 @@
 -- What is put behind a text.
-use Rattle.std.proofs.Common.{◌≡◌, ℕ, List, ◌++◌, codes, append_assoc}
+use Rattle.std.proofs.Common.{◌≡◌, ℕ, List, ◌++◌, append_assoc}
 use Rattle.job_text.specs.Names.{of_job}
 
 pub three_parts : (out a b c : List ℕ) → ((out ++ a) ++ b) ++ c ≡ out ++ (a ++ (b ++ c))
@@ -14,11 +14,3 @@ five_parts out a b c d e = simp append_assoc
 pub of_job_more : (out : List ℕ) (job : ℕ) (text more end : List ℕ) → ((out ++ of_job job text) ++ more) ++ end ≡ out ++ of_job job (text ++ (more ++ end))
 unfolding of_job
 of_job_more out job text more end = simp append_assoc
-
-pub in_buffer : (pen buffer index : List ℕ)
-    → ((((pen ++ codes " buffer ") ++ buffer) ++ codes " instruction ") ++ index) ++ codes ": "
-    ≡ pen ++ (codes " " ++ (codes "buffer " ++ (buffer ++ (codes " instruction " ++ (index ++ codes ": ")))))
-in_buffer pen buffer index = simp append_assoc
-
-pub in_remark : (pen at number said : List ℕ) → ((pen ++ at) ++ (codes " " ++ number)) ++ said ≡ pen ++ (at ++ (codes " " ++ (number ++ said)))
-in_remark pen at number said = simp append_assoc

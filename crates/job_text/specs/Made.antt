@@ -1,6 +1,6 @@
 -- The bytes that a text holds: on each line what stands before a `#`, in words. A word is two hexadecimal digits for each byte, or a
 -- number. The lines between `asm` and `end` are assembler text, which gives the bytes of its instruction words.
-use Rattle.std.specs.Prelude.{◌≡◌, ℕ, ◌+◌, ◌*◌, ◌^◌, ◌==◌, ◌&&◌, ◌||◌, not, nat_lt, nat_le, bytes_eq, take, drop, length, map, Bool, true, false, List, [], ◌∷◌, ◌++◌, codes, Option, Some, None, Result, Ok, Err, if◌then◌else◌}
+use Rattle.std.specs.Prelude.{◌≡◌, ℕ, ◌+◌, ◌*◌, ◌==◌, ◌&&◌, ◌||◌, not, nat_lt, nat_le, bytes_eq, take, drop, length, map, Bool, true, false, List, [], ◌∷◌, ◌++◌, codes, Option, Some, None, Result, Ok, Err, if◌then◌else◌}
 use Rattle.std.specs.{Int.to_le_bytes, Int.w32, Int.w64, List.flat_map}
 use Rattle.hex.specs.Hex.{hex_digit_value}
 use Rattle.script.specs.{Lines.before, Lines.behind, Lines.lines_of, Lines.onto_line, Number.number_within}

@@ -1,6 +1,5 @@
 -- What a line says of its bytes.
 use Rattle.std.specs.Prelude.{ℕ, ◌++◌, List, [], codes, decimal, Option, Some, None, ◌==◌, if◌then◌else◌}
-use Rattle.field_words.specs.Words.{u32_at}
 use Rattle.packets.specs.Opcode.{halt, nop, flush, start_tile_binning, increment_semaphore, indexed_primitive_list, array_primitive_list, primitive_list_format, gl_shader_state, configuration_bits, flat_shade_flags, point_size, line_width, rht_x_boundary, depth_offset, clip_window, viewport_offset, clipper_xy_scaling, clipper_z_scaling, tile_binning_mode, buffer_handles}
 use Rattle.job_text.specs.declared.note.Field.TheVariants.{Magic, Version, MemorySize, ListsPlace, ListsSize, TilePlace, TileSlots, Buffers, Jobs, Place, Size, Client, Kind, Content, Flags, Handles, BinSize, RecordsSize, States, UniformsSize, Width, Height, MinX, MinY, MaxX, MaxY, HandleIndex, Offset, FrameBits, GeneralBits, SampleBits, SurfaceFlags, FirstColor, SecondColor, ClearZ, ClearStencil, Zeros, PrimitiveMode, IndexMode, Length, FirstIndex, IndexAddress, MaxIndex, ListFormat, StateWord, ConfigurationBits, FlatFlags, PointWidth, Boundary, DepthFactor, DepthUnits, ClipLeft, ClipBottom, ClipWidth, ClipHeight, CenterX, CenterY, ScaleX, ScaleY, ScaleZ, OffsetZ, ListsAddress, ListsBytes, StatesAddress, TilesAcross, TilesDown, BinnerFlags, IndexHandle, FurtherHandle, NamedHandle, RecordFlags, FurtherBytes, CodeAddress, UniformsAddress, FurtherWord, DataAddress, DataSize, Stride, VertexOffset, CoordinateOffset, HighStride}
 use Rattle.job_text.specs.declared.note.Role.TheVariants.{ColorRead, ColorWrite, ZsRead, ZsWrite, SampleColorWrite, SampleZsWrite}

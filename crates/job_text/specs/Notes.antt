@@ -1,5 +1,5 @@
 -- What a line says of its bytes.
-use Rattle.std.specs.Prelude.{◌≡◌, ℕ, ◌++◌, List, [], codes, decimal, drop, slice_index, Option, Some, None, Bool, if◌then◌else◌}
+use Rattle.std.specs.Prelude.{ℕ, ◌++◌, List, [], codes, decimal, drop, slice_index, Option, Some, None, Bool, if◌then◌else◌}
 use Rattle.field_words.specs.Words.{u32_at, u64_at}
 use Rattle.qpu_asm.specs.Printed.{word_text}
 use Rattle.qpu_isa.specs.Terms.{is_switch, is_end, writes_s}
@@ -74,7 +74,3 @@ note_text (Taken j i k stage meaning) bytes = uniform_text j i k stage meaning b
 note_text (Data b) bytes = codes "buffer " ++ (decimal b ++ codes " content")
 note_text (Instruction b i uniform) bytes = numbered_text b i ++ instruction_text (u64_at bytes 0) uniform
 note_text Unread bytes = codes "unread"
-
--- a note of bytes that are no instruction
-abbrev pub IsOther : Note → Type 0
-IsOther note = (b i : ℕ) (uniform : Option ℕ) → note ≡ Instruction b i uniform → ⊥

@@ -1,89 +1,70 @@
 //! What a line says of an instruction.
-ghost use Rattle.std.specs.Prelude.{◌≡◌, ◌++◌, codes, OnOk};
+ghost use Rattle.std.specs.Prelude.{◌≡◌, ◌++◌, OnOk};
 ghost use Rattle.job_text.specs.Notes.{taken_text, said_if, facts_text, instruction_text, numbered_text};
-ghost use Rattle.job_text.specs.{declared.note.Note.TheVariants.Instruction, Shown.remark};
 
-use crate::numbers::instruction;
-use qpu_asm::{Pen, Printer};
+use crate::numbers::put_number;
+use qpu_asm::put_word;
 use qpu_isa::word::{is_end, is_switch};
 use qpu_isa::writes::writes_s;
 use std::alloc::AllocError;
 
-// Writes the uniform that an instruction takes, where it takes one.
-fn put_taken(pen: &mut Pen, uniform: Option<usize>) -> Result<(), AllocError>
-    ensures { OnOk result (pen.new ≡ pen.old ++ taken_text uniform) }
+// Appends the uniform that an instruction takes, where it takes one.
+fn put_taken(out: &mut Vec<u8>, uniform: Option<usize>) -> Result<(), AllocError>
+    ensures { OnOk result (out.new.items ≡ out.old.items ++ taken_text uniform) }
 {
     match uniform {
         None => Ok(()),
         Some(uniform) => {
-            pen.text(b"; takes uniform ")?;
-            pen.number(uniform as u64)
+            out.extend_from_slice(b"; takes uniform ")?;
+            put_number(out, uniform)
         }
     }
 }
 
-fn put_if(pen: &mut Pen, is: bool, text: &[u8]) -> Result<(), AllocError>
-    ensures { OnOk result (pen.new ≡ pen.old ++ said_if is text.now) }
+fn put_if(out: &mut Vec<u8>, is: bool, text: &[u8]) -> Result<(), AllocError>
+    ensures { OnOk result (out.new.items ≡ out.old.items ++ said_if is text.now) }
 {
     if is {
-        pen.text(text)?;
+        out.extend_from_slice(text)?;
     }
     Ok(())
 }
 
-// Writes what an instruction does beside its operations.
+// Appends what an instruction does beside its operations.
 #[tactic(auto, unfolding(crate::specs::Notes::facts_text))]
-fn put_facts(pen: &mut Pen, word: u64) -> Result<(), AllocError>
-    ensures { OnOk result (pen.new ≡ pen.old ++ facts_text word) }
+fn put_facts(out: &mut Vec<u8>, word: u64) -> Result<(), AllocError>
+    ensures { OnOk result (out.new.items ≡ out.old.items ++ facts_text word) }
 {
-    put_if(pen, is_switch(word), b"; thread switch")?;
-    put_if(pen, writes_s(word, 0), b"; request to TMU 0")?;
-    put_if(pen, writes_s(word, 1), b"; request to TMU 1")?;
-    put_if(pen, is_end(word), b"; program end")
+    put_if(out, is_switch(word), b"; thread switch")?;
+    put_if(out, writes_s(word, 0), b"; request to TMU 0")?;
+    put_if(out, writes_s(word, 1), b"; request to TMU 1")?;
+    put_if(out, is_end(word), b"; program end")
 }
 
+/// Appends an instruction as assembler text, the uniform that it takes, and what it does beside its operations.
 #[tactic(auto, unfolding(crate::specs::Notes::instruction_text))]
-fn put_said(
-    printer: &Printer,
-    pen: &mut Pen,
+pub(crate) fn put_instruction(
+    out: &mut Vec<u8>,
     word: u64,
     uniform: Option<usize>,
 ) -> Result<(), AllocError>
-    ensures { OnOk result (pen.new ≡ pen.old ++ instruction_text word uniform) }
+    ensures { OnOk result (out.new.items ≡ out.old.items ++ instruction_text word uniform) }
 {
-    printer.text(pen, word)?;
-    put_taken(pen, uniform)?;
-    put_facts(pen, word)?;
+    put_word(out, word)?;
+    put_taken(out, uniform)?;
+    put_facts(out, word)?;
     Ok(())
 }
 
+/// Appends the number of a buffer's instruction.
 #[tactic(auto, unfolding(crate::specs::Notes::numbered_text))]
-fn put_numbered(pen: &mut Pen, buffer: u32, index: usize) -> Result<(), AllocError>
-    ensures { OnOk result (pen.new ≡ pen.old ++ (codes " " ++ numbered_text buffer index)) }
+pub(crate) fn put_numbered(out: &mut Vec<u8>, buffer: u32, index: usize) -> Result<(), AllocError>
+    ensures { OnOk result (out.new.items ≡ out.old.items ++ numbered_text buffer index) }
 {
-    pen.text(b" buffer ")?;
-    pen.number(buffer as u64)?;
-    pen.text(b" instruction ")?;
-    pen.number(index as u64)?;
-    pen.text(b": ")?;
-    Ok(())
-}
-
-/// Writes the offset of an instruction, and what it is. No line's end is in that, so none is looked for.
-pub(crate) fn put_instruction(
-    printer: &Printer,
-    pen: &mut Pen,
-    at: usize,
-    bytes: &[u8],
-    buffer: u32,
-    index: usize,
-    uniform: Option<usize>,
-) -> Result<(), AllocError>
-    ensures { OnOk result (pen.new ≡ pen.old ++ remark at bytes.now (Instruction buffer index uniform)) }
-{
-    let word = instruction(bytes);
-    pen.number(at as u64)?;
-    put_numbered(pen, buffer, index)?;
-    put_said(printer, pen, word, uniform)?;
+    out.extend_from_slice(b"buffer ")?;
+    put_number(out, buffer as usize)?;
+    out.extend_from_slice(b" instruction ")?;
+    put_number(out, index)?;
+    out.extend_from_slice(b": ")?;
     Ok(())
 }

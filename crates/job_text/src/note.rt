@@ -182,12 +182,4 @@ impl Cut {
             Cut::Code(_, size) => *size,
         }
     }
-
-    /// About how many bytes its text has.
-    pub fn text_size(&self) -> usize {
-        match self {
-            Cut::Line(piece) => piece.size.saturating_mul(2).saturating_add(64),
-            Cut::Code(_, size) => size.saturating_mul(20),
-        }
-    }
 }

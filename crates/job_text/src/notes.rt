@@ -1,12 +1,13 @@
 //! What a line says of its bytes.
 ghost use Rattle.std.specs.Prelude.{◌≡◌, ◌++◌, codes, decimal, drop, OnOk};
 ghost use Rattle.job_text.specs.Names.{named_text};
-ghost use Rattle.job_text.specs.Notes.{counted, packet_text, field_text, sized_text, meant_text, uniform_text, listed_text, note_text, IsOther};
+ghost use Rattle.job_text.specs.Notes.{counted, packet_text, field_text, sized_text, meant_text, uniform_text, listed_text, note_text};
 
+use crate::instructions::{put_instruction, put_numbered};
 use crate::meanings::{bits_style, put_size};
 use crate::names::{packet_name, put_named, put_of_job, put_part, stage_name};
 use crate::note::{Field, Meaning, Note, Part, Stage};
-use crate::numbers::{byte_at, number, put_number};
+use crate::numbers::{byte_at, instruction, number, put_number};
 use crate::rows::{put_packet_fields, put_valued};
 use crate::uniforms::put_use;
 use std::alloc::AllocError;
@@ -149,10 +150,9 @@ fn put_packet(
     Ok(())
 }
 
-/// Appends what a line says of bytes that are no instruction.
+/// Appends what a line says of its bytes.
 #[tactic(auto, unfolding(crate::specs::Notes::note_text))]
 pub(crate) fn put_note(out: &mut Vec<u8>, note: Note, bytes: &[u8]) -> Result<(), AllocError>
-    requires { IsOther note }
     ensures { OnOk result (out.new.items ≡ out.old.items ++ note_text note bytes.now) }
 {
     match note {
@@ -170,7 +170,10 @@ pub(crate) fn put_note(out: &mut Vec<u8>, note: Note, bytes: &[u8]) -> Result<()
             put_uniform(out, job, index, record, stage, meaning, bytes)?
         }
         Note::Data(buffer) => put_data(out, buffer)?,
-        Note::Instruction(..) => unreachable!(),
+        Note::Instruction(buffer, index, uniform) => {
+            put_numbered(out, buffer, index)?;
+            put_instruction(out, instruction(bytes), uniform)?
+        }
         Note::Unread => out.extend_from_slice(b"unread")?,
     }
     Ok(())

@@ -2,64 +2,38 @@
 ghost use Rattle.std.specs.Prelude.{◌≡◌, ◌≤◌, ◌<◌, ◌^◌, ◌+◌, ◌++◌, ◌-◌, codes, length, take, drop, List, IfOk, OnOk, Ok};
 ghost use Rattle.hex.specs.Hex.{encode_lower};
 ghost use Rattle.job_text.specs.declared.note.Piece.{Piece as PieceModel};
-ghost use Rattle.job_text.specs.Notes.{IsOther};
 ghost use Rattle.job_text.specs.Shown.{remark, is_in, is_past, mark_text, reason_text, line_text, lines_text, shown};
 ghost use Rattle.job_text.specs.Cuts.{AreLines};
 ghost use Rattle.job_text.specs.Made.{made};
 
 use crate::code::{Taking, next, uniform_of};
 use crate::cuts::cuts_of;
-use crate::instructions::put_instruction;
 use crate::note::{Cut, Note};
 use crate::notes::put_note;
 use crate::numbers::{instruction, put_number};
 use field_words::NoMemory;
-use qpu_asm::{Pen, Printer};
 use script::cut_at;
 use std::alloc::{AllocError, Global};
 
-/// What is made once for all lines of a file: the text of instructions, and room for what a line says.
-#[derive(Drop)]
-struct Writer {
-    printer: Printer,
-    said: Vec<u8>,
-}
-
-// Writes the offset of bytes that are no instruction, and what they are, up to a line's end.
-#[tactic(auto, unfolding(crate::specs::Shown::remark))]
-fn put_other(
-    said: &mut Vec<u8>,
-    pen: &mut Pen,
-    at: usize,
-    bytes: &[u8],
-    note: Note,
-) -> Result<(), AllocError>
-    requires { IsOther note }
-    ensures { OnOk result (pen.new ≡ pen.old ++ remark at bytes.now note) }
-{
-    said.clear();
-    put_number(said, at)?;
-    said.push(b' ')?;
-    put_note(said, note, bytes)?;
-    pen.text(cut_at(said, b'\n').first)
-}
+/// How many bytes a remark has at most, as a rule.
+const USUAL_REMARK: usize = 128;
 
 // Writes the offset of bytes and what they are, up to a line's end.
+#[tactic(auto, unfolding(crate::specs::Shown::remark))]
 fn put_remark(
-    writer: &mut Writer,
-    pen: &mut Pen,
+    alloc: Global,
+    out: &mut Vec<u8>,
     at: usize,
     bytes: &[u8],
     note: Note,
 ) -> Result<(), AllocError>
-    ensures { OnOk result (pen.new ≡ pen.old ++ remark at bytes.now note) }
+    ensures { OnOk result (out.new.items ≡ out.old.items ++ remark at bytes.now note) }
 {
-    match note {
-        Note::Instruction(buffer, index, uniform) => {
-            put_instruction(&writer.printer, pen, at, bytes, buffer, index, uniform)
-        }
-        _ => put_other(&mut writer.said, pen, at, bytes, note),
-    }
+    let mut said = Vec::with_capacity(alloc, USUAL_REMARK)?;
+    put_number(&mut said, at)?;
+    said.push(b' ')?;
+    put_note(&mut said, note, bytes)?;
+    out.extend_from_slice(cut_at(&said, b'\n').first)
 }
 
 // Whether the offset of a refusal lies in so many bytes from another on.
@@ -85,87 +59,72 @@ fn is_past(count: usize, refused: Option<u64>) -> bool
 }
 
 #[tactic(auto, unfolding(crate::specs::Shown::mark_text))]
-fn put_mark(pen: &mut Pen, is: bool) -> Result<(), AllocError>
-    ensures { OnOk result (pen.new ≡ pen.old ++ mark_text is) }
+fn put_mark(out: &mut Vec<u8>, is: bool) -> Result<(), AllocError>
+    ensures { OnOk result (out.new.items ≡ out.old.items ++ mark_text is) }
 {
     if is {
-        pen.text(b" <== refused here")?;
+        out.extend_from_slice(b" <== refused here")?;
     }
     Ok(())
 }
 
 // Writes the line of the reason.
 #[tactic(auto, unfolding(crate::specs::Shown::reason_text))]
-fn put_reason(pen: &mut Pen, is: bool, why: &[u8]) -> Result<(), AllocError>
-    ensures { OnOk result (pen.new ≡ pen.old ++ reason_text is why.now) }
+fn put_reason(out: &mut Vec<u8>, is: bool, why: &[u8]) -> Result<(), AllocError>
+    ensures { OnOk result (out.new.items ≡ out.old.items ++ reason_text is why.now) }
 {
     if is {
-        pen.text(b"# ")?;
-        pen.text(cut_at(why, b'\n').first)?;
-        pen.text(b"\n")?;
+        out.extend_from_slice(b"# ")?;
+        out.extend_from_slice(cut_at(why, b'\n').first)?;
+        out.extend_from_slice(b"\n")?;
     }
     Ok(())
 }
 
-// Writes bytes in hexadecimal. Those of most lines take no memory of their own, and those of an instruction no count of digits.
-fn put_hex(alloc: Global, pen: &mut Pen, bytes: &[u8]) -> Result<(), AllocError>
-    ensures { OnOk result (pen.new ≡ pen.old ++ encode_lower bytes.now) }
+// Writes bytes in hexadecimal.
+fn put_hex(alloc: Global, out: &mut Vec<u8>, bytes: &[u8]) -> Result<(), AllocError>
+    ensures { OnOk result (out.new.items ≡ out.old.items ++ encode_lower bytes.now) }
 {
-    if bytes.len() == 8 {
-        let mut digits = [0; 16];
-        if hex::encode_to_slice(&bytes[..8], &mut digits).is_ok() {
-            return pen.text(&digits);
-        }
-    }
-    if bytes.len() <= 32 {
-        let mut room = [0; 64];
-        let digits = &mut room[..2 * bytes.len()];
-        if hex::encode_to_slice(bytes, digits).is_ok() {
-            return pen.text(digits);
-        }
-    }
     let digits = hex::encode(alloc, bytes)?;
-    pen.text(digits.as_bytes())
+    out.extend_from_slice(digits.as_bytes())
 }
 
 // Writes a line's end, and the line of the reason where it is refused there.
-fn put_end(pen: &mut Pen, is: bool, why: &[u8]) -> Result<(), AllocError>
-    ensures { OnOk result (pen.new ≡ pen.old ++ (mark_text is ++ (codes "\n" ++ reason_text is why.now))) }
+fn put_end(out: &mut Vec<u8>, is: bool, why: &[u8]) -> Result<(), AllocError>
+    ensures { OnOk result (out.new.items ≡ out.old.items ++ (mark_text is ++ (codes "\n" ++ reason_text is why.now))) }
 {
-    put_mark(pen, is)?;
-    pen.text(b"\n")?;
-    put_reason(pen, is, why)
+    put_mark(out, is)?;
+    out.extend_from_slice(b"\n")?;
+    put_reason(out, is, why)
 }
 
 // Writes the line of some bytes.
 #[tactic(auto, unfolding(crate::specs::Shown::line_text), using(crate::proofs::Texts::four_parts))]
 fn put_line(
     alloc: Global,
-    writer: &mut Writer,
-    pen: &mut Pen,
+    out: &mut Vec<u8>,
     at: usize,
     bytes: &[u8],
     note: Note,
     refused: Option<u64>,
     why: &[u8],
 ) -> Result<(), NoMemory>
-    ensures { OnOk result (pen.new ≡ pen.old ++ line_text at bytes.now note refused why.now) }
+    ensures { OnOk result (out.new.items ≡ out.old.items ++ line_text at bytes.now note refused why.now) }
 {
     if bytes.is_empty() {
         return Ok(());
     }
-    put_hex(alloc, pen, bytes)?;
-    pen.text(b"  # ")?;
-    put_remark(writer, pen, at, bytes, note)?;
-    put_end(pen, is_in(at, bytes.len(), refused), why)?;
+    put_hex(alloc, out, bytes)?;
+    out.extend_from_slice(b"  # ")?;
+    put_remark(alloc, out, at, bytes, note)?;
+    put_end(out, is_in(at, bytes.len(), refused), why)?;
     Ok(())
 }
 
 // Writes the lines of a buffer's code, one for each instruction.
 fn put_code(
     alloc: Global,
-    writer: &mut Writer,
-    pen: &mut Pen,
+    out: &mut Vec<u8>,
     at: usize,
     code: &[u8],
     buffer: u32,
@@ -173,7 +132,7 @@ fn put_code(
     why: &[u8],
 ) -> Result<(), NoMemory>
     requires { at + length code.now < 2 ^ 64 }
-    ensures { OnOk result (AreLines pen.old pen.new at code.now refused why.now) }
+    ensures { OnOk result (AreLines out.old.items out.new.items at code.now refused why.now) }
 {
     let mut now = Taking::first();
     let mut rest = code;
@@ -183,7 +142,7 @@ fn put_code(
         let place = at + (code.len() - rest.len());
         let word = instruction(front);
         let note = Note::Instruction(buffer, number, uniform_of(now, word));
-        put_line(alloc, writer, pen, place, front, note, refused, why)?;
+        put_line(alloc, out, place, front, note, refused, why)?;
         now = next(now, word);
         number += 1;
         rest = back;
@@ -194,8 +153,7 @@ fn put_code(
 // Writes the lines of a part.
 fn put_cut(
     alloc: Global,
-    writer: &mut Writer,
-    pen: &mut Pen,
+    out: &mut Vec<u8>,
     at: usize,
     bytes: &[u8],
     cut: Cut,
@@ -203,48 +161,38 @@ fn put_cut(
     why: &[u8],
 ) -> Result<(), NoMemory>
     requires { at + length bytes.now < 2 ^ 64 }
-    ensures { OnOk result (AreLines pen.old pen.new at bytes.now refused why.now) }
+    ensures { OnOk result (AreLines out.old.items out.new.items at bytes.now refused why.now) }
 {
     match cut {
         Cut::Line(piece) => {
-            put_line(alloc, writer, pen, at, bytes, piece.note, refused, why)?;
+            put_line(alloc, out, at, bytes, piece.note, refused, why)?;
             Ok(())
         }
-        Cut::Code(buffer, _) => put_code(alloc, writer, pen, at, bytes, buffer, refused, why),
+        Cut::Code(buffer, _) => put_code(alloc, out, at, bytes, buffer, refused, why),
     }
 }
 
 // Writes the lines of bytes, part by part.
 fn put_lines(
     alloc: Global,
-    writer: &mut Writer,
-    pen: &mut Pen,
+    out: &mut Vec<u8>,
     bytes: &[u8],
     cuts: &[Cut],
     refused: Option<u64>,
     why: &[u8],
 ) -> Result<(), NoMemory>
-    ensures { OnOk result ((pieces : List PieceModel) × (pen.new ≡ pen.old ++ lines_text 0 bytes.now pieces refused why.now)) }
+    ensures { OnOk result ((pieces : List PieceModel) × (out.new.items ≡ out.old.items ++ lines_text 0 bytes.now pieces refused why.now)) }
 {
     let mut rest = bytes;
     let mut at = 0;
     for cut in cuts {
         let (front, back) = rest.split_at(cut.size().min(rest.len()));
-        put_cut(alloc, writer, pen, at, front, *cut, refused, why)?;
+        put_cut(alloc, out, at, front, *cut, refused, why)?;
         at += front.len();
         rest = back;
     }
-    put_line(alloc, writer, pen, at, rest, Note::Unread, refused, why)?;
+    put_line(alloc, out, at, rest, Note::Unread, refused, why)?;
     Ok(())
-}
-
-// About how many bytes the text of parts has.
-fn text_size(cuts: &[Cut]) -> usize {
-    let mut size = 0usize;
-    for cut in cuts {
-        size = size.saturating_add(cut.text_size());
-    }
-    size
 }
 
 /// Any bytes as lines of text: on each line some of them in hexadecimal, a `#`, their offset and what they are, if they are a
@@ -263,12 +211,8 @@ pub fn show(
     ensures again { IfOk result (λ text. made text.items ≡ Ok bytes.now) }
 {
     let cuts = cuts_of(alloc, bytes)?;
-    let mut writer = Writer {
-        printer: Printer::new(alloc, bytes.len() / 8)?,
-        said: Vec::new(alloc),
-    };
-    let mut pen = Pen::new(alloc, text_size(&cuts));
-    put_lines(alloc, &mut writer, &mut pen, bytes, &cuts, refused, why)?;
-    put_reason(&mut pen, is_past(bytes.len(), refused), why)?;
-    Ok(pen.finish()?)
+    let mut out = Vec::new(alloc);
+    put_lines(alloc, &mut out, bytes, &cuts, refused, why)?;
+    put_reason(&mut out, is_past(bytes.len(), refused), why)?;
+    Ok(out)
 }

@@ -1,7 +1,9 @@
--- The test for equal bytes.
-use Rattle.std.proofs.Common.{◌≡◌, ℕ, ◌+◌, ◌^◌, ◌<◌, true, false, ◌==◌, List, [], ◌∷◌, ◌++◌, take, drop, refl, sym, ◌∙◌, ap, inl, inr, bytes_eq, eqb-true, eq-eqb}
-use Rattle.std.proofs.{lemmas.Bool.and_parts, lemmas.Bool.cases_Bool, lemmas.Bool.false≢true, lemmas.Nat.from_le_bytes-to_le_bytes_8, Math.Seq.take-add}
-use Rattle.std.specs.Int.{from_le_bytes, to_le_bytes, w64}
+-- Equal bytes, and bytes without such a one.
+use Rattle.std.proofs.Common.{◌≡◌, ℕ, ◌<◌, true, not, ◌==◌, List, [], ◌∷◌, ◌++◌, refl, ap, arith, bytes_eq, eqb-true, eq-eqb, ◌∙◌}
+use Rattle.std.proofs.{lemmas.Bool.and_parts, lemmas.Bool.and_from, lemmas.Bool.not-true, lemmas.Bool.false≢true, lemmas.Bool.Decides.nat_tests, lemmas.List.Folds.list_all-append}
+use Rattle.std.specs.{Char.is_ascii_digit, Str.all_ascii_digits}
+use Rattle.script.specs.Lines.{before, behind}
+use Rattle.qpu_asm.specs.Walk.{lacks}
 
 pub bytes_same : (xs ys : List ℕ) → bytes_eq xs ys ≡ true → xs ≡ ys
 bytes_same [] [] is = refl
@@ -17,19 +19,24 @@ pub bytes_itself : (xs : List ℕ) → bytes_eq xs xs ≡ true
 bytes_itself [] = refl
 bytes_itself (x ∷ xs) = rw (eq-eqb x x refl) (bytes_itself xs)
 
--- eight bytes more that are the same
-pub eights_more : (xs ys : List ℕ) (at a b : ℕ) → take at xs ≡ take at ys → to_le_bytes w64 a ≡ take 8 (drop at xs) → to_le_bytes w64 b ≡ take 8 (drop at ys) → a ≡ b
-    → take (at + 8) xs ≡ take (at + 8) ys
-eights_more xs ys at a b front one two same =
-    let eight : take 8 (drop at xs) ≡ take 8 (drop at ys) = sym one ∙ (ap (to_le_bytes w64) same ∙ two) in
-    take-add at 8 xs ∙ ((λ i. front i ++ eight i) ∙ sym (take-add at 8 ys))
+pub cut_name : (mark : ℕ) (name text : List ℕ) → lacks mark name ≡ true → (before mark (name ++ mark ∷ text) ≡ name) × (behind mark (name ++ mark ∷ text) ≡ text)
+unfolding before behind lacks
+cut_name mark [] text test = rw (eq-eqb mark mark refl) (refl, refl)
+cut_name mark (byte ∷ bytes) text test =
+    let parts = and_parts (not (byte == mark)) (lacks mark bytes) test in
+    let rest = cut_name mark bytes text parts.1 in
+    rw (not-true (byte == mark) parts.0) (ap (λ b. byte ∷ b) rest.0, rest.1)
 
--- and eight that differ
-pub eights_apart : (xs ys : List ℕ) (at a b : ℕ) → to_le_bytes w64 a ≡ take 8 (drop at xs) → to_le_bytes w64 b ≡ take 8 (drop at ys) → a < 2 ^ 64 → b < 2 ^ 64
-    → (a ≡ b → ⊥) → bytes_eq xs ys ≡ false
-eights_apart xs ys at a b one two few less apart = elim (cases_Bool (bytes_eq xs ys)) [
-  | inl same ↦
-      let bytes : to_le_bytes w64 a ≡ to_le_bytes w64 b = one ∙ (ap (λ zs. take 8 (drop at zs)) (bytes_same xs ys same) ∙ sym two) in
-      absurd (apart (sym (from_le_bytes-to_le_bytes_8 a few) ∙ (ap (from_le_bytes w64) bytes ∙ from_le_bytes-to_le_bytes_8 b less)))
-  | inr other ↦ other
-]
+pub lacks_append : (at : ℕ) (xs ys : List ℕ) → lacks at xs ≡ true → lacks at ys ≡ true → lacks at (xs ++ ys) ≡ true
+unfolding lacks
+lacks_append at xs ys a b = list_all-append (λ c. not (c == at)) xs ys ∙ and_from (lacks at xs) (lacks at ys) a b
+
+digit_other : (at digit : ℕ) → at < 48 → is_ascii_digit digit ≡ true → not (digit == at) ≡ true
+digit_other at digit low is = grind (arith, nat_tests)
+
+pub digits_lack : (at : ℕ) (digits : List ℕ) → at < 48 → all_ascii_digits digits ≡ true → lacks at digits ≡ true
+unfolding lacks
+digits_lack at [] low all = refl
+digits_lack at (digit ∷ digits) low all =
+    let parts = and_parts (is_ascii_digit digit) (all_ascii_digits digits) all in
+    and_from (not (digit == at)) (lacks at digits) (digit_other at digit low parts.0) (digits_lack at digits low parts.1)

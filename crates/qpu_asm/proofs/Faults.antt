@@ -1,5 +1,6 @@
 -- The walk over a text's lines ends with what the text assembles to.
 use Rattle.std.proofs.Common.{◌≡◌, inl, inr, ℕ, ◌+◌, ◌*◌, ◌^◌, ◌<◌, Bool, true, false, nat_lt, nat_le, ◌==◌, List, [], ◌∷◌, ◌++◌, length, map, refl, sym, ◌∙◌, ap, subst, arith, Option, None, Some, Result, Ok, Err, IfErr, append_assoc, append-nil, length-append, eq-eqb, if◌then◌else◌}
+use Rattle.std.specs.Option.{option_to_list}
 use Rattle.std.proofs.{lemmas.Bool.cases_Bool, lemmas.Bool.Decides.nat_tests}
 use Rattle.field_words.specs.{Least.Stands, Least.IsLeast, declared.stop.Stop.Stop}
 use Rattle.field_words.specs.declared.stop.Stop.TheVariants.{Fault, NoMemory}
@@ -58,6 +59,41 @@ item_at spots index all partial item = elim (cases_Bool (has_value item)) [
   | inl here ↦ rw here (named_at spots index all partial (before 61 item) (behind 61 item))
   | inr other ↦ rw other (refl, refl)
 ]
+
+-- an item alone has its own mistake, where it has one
+IsAlone : List Mistake → Type 0
+IsAlone mistakes = option_to_list (least_after None mistakes) ≡ mistakes
+
+read_alone : (read : Result ℕ Mistake) → IsAlone (mistakes_in read)
+unfolding IsAlone least_after
+read_alone (Ok value) = refl
+read_alone (Err mistake) = refl
+
+value_alone : (name : List ℕ) (read : Row → Result ℕ Mistake) (rows : List Row) → IsAlone (value_mistakes name read rows)
+unfolding IsAlone least_after value_mistakes
+value_alone name read [] = refl
+value_alone name read (row ∷ rows) = elim (cases_Bool (is_row name row)) [
+  | inl here ↦ rw here (read_alone (read row))
+  | inr other ↦ rw other (value_alone name read rows)
+]
+
+item_alone : (spots : Spots) (index : ℕ) (all rows : List Row) (item : List ℕ) → IsAlone (item_mistakes spots index all rows item)
+unfolding IsAlone least_after item_mistakes named_mistakes
+item_alone spots index all rows item = elim (cases_Bool (has_value item)) [
+  | inl has ↦ elim (cases_Bool (has_row (before 61 item) rows)) [
+    | inl here ↦ rw (has, here) (value_alone (before 61 item) (read_value spots index (before 61 item) (behind 61 item)) rows)
+    | inr other ↦ rw (has, other) refl
+  ]
+  | inr none ↦ rw none refl
+]
+
+pub item_told : (spots : Spots) (index word : ℕ) (all rows : List Row) (item : List ℕ) (partial : Partial)
+    → partial ≡ read_item spots index all (record { word = word; rows = rows; fault = None }) item
+    → (partial.rows ≡ rows_after item rows) × (option_to_list partial.fault ≡ item_mistakes spots index all rows item)
+unfolding IsAlone
+item_told spots index word all rows item partial is =
+    let at = item_at spots index all (record { word = word; rows = rows; fault = None }) item in
+    (ap (λ p. p.rows) is ∙ at.0, ap (λ p. option_to_list p.fault) is ∙ (ap option_to_list at.1 ∙ item_alone spots index all rows item))
 
 items_at : (spots : Spots) (index : ℕ) (all : List Row) (partial : Partial) (items : List (List ℕ))
     → (read_items spots index all partial items).fault ≡ least_after partial.fault (items_mistakes spots index all partial.rows items)

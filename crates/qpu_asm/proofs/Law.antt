@@ -4,7 +4,7 @@ use Rattle.std.proofs.lemmas.Bool.{and_parts, and_from, not-true, false≢true, 
 use Rattle.std.proofs.{lemmas.List.Sums.AllPass-from_list_all}
 use Rattle.std.proofs.{lemmas.List.Splits.slice_split_at, lemmas.List.Splits.slice_split_none, Math.Nat.div-eq_of_lt}
 use Rattle.std.specs.{List.list_all, List.slice_split}
-use Rattle.script.specs.{Lines.before, Lines.lines_of, Number.is_number}
+use Rattle.script.specs.{Lines.lines_of, Number.is_number}
 use Rattle.qpu_isa.specs.{Word.sig_of, Fields.joined, Fields.width_of, Fields.values_of}
 use Rattle.qpu_isa.proofs.{Fields.joined-values_of, Words.above-sig}
 use Rattle.qpu_asm.specs.Table.{Named, Row, Kind, widths_of, nop_kind, alu_kind, load_imm_kind, branch_kind, alu_rows}
@@ -13,7 +13,7 @@ use Rattle.qpu_asm.specs.Walk.{Partial, lacks, skip_to, read_named, read_item, r
 use Rattle.qpu_asm.specs.Printed.{name_of, or_decimal, value_text, item_text, item_texts, kind_of, spaced, kind_text, word_text, line_text, AsmText, PrintedReturns}
 use Rattle.qpu_asm.specs.Lines.{Coded, is_full, words_of, read_line, line_of, is_comment, ends_label}
 use Rattle.qpu_asm.specs.Labels.{read_lines, spots_of}
-use Rattle.qpu_asm.proofs.{Bytes.bytes_itself, Bytes.bytes_same, Words.kept_full, Rows.kind_cases, Heads.cut_name, Heads.lacks_append, Heads.digits_lack, Assembling.words_end}
+use Rattle.qpu_asm.proofs.{Bytes.bytes_itself, Bytes.bytes_same, Words.kept_full, Rows.kind_cases, Bytes.cut_name, Bytes.lacks_append, Bytes.digits_lack, Assembling.words_end}
 use Rattle.qpu_asm.proofs.{Faults.text_assembles, Decimals.decimal_digits, Decimals.decimal_value, Decimals.decimal_number}
 
 -- a word: no space, no line feed
@@ -328,17 +328,6 @@ unfolding kind_text items_of is_word IsBelow
 kind_lacks word kind r f =
     lacks_append 10 kind.opcode (spaced (items_of word kind)) (and_parts (lacks 32 kind.opcode) (lacks 10 kind.opcode) r.opcode).1
     (spaced_lineless (items_of word kind) (items_words kind.rows (values_of (widths_of kind.rows) word) r.read f))
-
-before_lacks : (at : ℕ) (bytes : List ℕ) → lacks at bytes ≡ true → before at bytes ≡ bytes
-unfolding before lacks
-before_lacks at [] test = refl
-before_lacks at (byte ∷ bytes) test =
-    let parts = and_parts (not (byte == at)) (lacks at bytes) test in
-    rw (not-true (byte == at) parts.0) (ap (λ rest. byte ∷ rest) (before_lacks at bytes parts.1))
-
-pub word_alone : (word : ℕ) → before 10 (word_text word) ≡ word_text word
-unfolding word_text
-word_alone word = before_lacks 10 (word_text word) (kind_lacks word (kind_of word) (readable word) (word_below word))
 
 lines_step : (word : ℕ) (text : List ℕ) → read_lines (line_text word ++ text) ≡ Coded (kind_of word).opcode (items_of word (kind_of word)) ∷ read_lines text
 unfolding read_lines line_text word_text

@@ -1,77 +1,12 @@
--- Words by column, and rows by name.
-use Rattle.std.proofs.Common.{◌≡◌, ◌≢◌, ℕ, ◌+◌, ◌≤◌, ◌<◌, Bool, true, false, ◌==◌, List, [], ◌∷◌, length, get_or, slice_index, drop, refl, sym, ◌∙◌, ap, arith, ne_eqb, cond, drop-cons, add-one, Result, suc, subst, min, if◌then◌else◌}
-use Rattle.std.specs.{Prelude.slice_index_or, List.slice_split, List.onto_first}
+-- The place of a fault on its line.
+use Rattle.std.proofs.Common.{◌≡◌, ◌≢◌, ℕ, ◌+◌, ◌≤◌, ◌<◌, Bool, true, false, ◌==◌, List, [], ◌∷◌, length, slice_index, refl, sym, ◌∙◌, ap, arith, suc, subst, min, if◌then◌else◌}
+use Rattle.std.specs.{Prelude.slice_index_or}
 use Rattle.std.specs.declared.option.Option.TheVariants.{None, Some}
 use Rattle.script.specs.Lines.{before, behind, lines_of, onto_line}
-use Rattle.qpu_asm.specs.Place.{Word, words_from, placed_words, wanted_item, is_of, item_place, code_place, words_place}
-use Rattle.qpu_asm.specs.{declared.fault.Mistake.Mistake, Table.Row, Items.Spots, Items.is_row, Items.kind_named}
-use Rattle.qpu_asm.specs.{Faults.rows_behind, Faults.rows_after, Faults.value_mistakes, Faults.item_mistakes, declared.place.Opcode.Opcode}
-use Rattle.qpu_asm.specs.{Lines.is_full, Lines.Line, Lines.Coded, Seen.row_seen, Seen.rows_seen}
-use Rattle.qpu_asm.specs.declared.table.Row as code
-
--- a space before the words
-placed_space : (column : ℕ) (bytes : List ℕ) → placed_words column (32 ∷ bytes) ≡ placed_words (column + 1) bytes
-unfolding placed_words words_from is_full
-placed_space column bytes = refl
-
-pub placed_skip : (column : ℕ) (line : List ℕ) (i : ℕ) → i < length line → get_or line i 0 ≡ 32
-    → placed_words (column + (i + 1)) (drop (i + 1) line) ≡ placed_words (column + i) (drop i line)
-placed_skip column line i inside here =
-    let e : drop i line ≡ get_or line i 0 ∷ drop (i + 1) line = rw add-one (drop-cons line i 0 inside) in
-    let n : column + (i + 1) ≡ (column + i) + 1 = omega arith in
-    ap (λ c. placed_words c (drop (i + 1) line)) n
-    ∙ sym (ap (placed_words (column + i)) (e ∙ ap (λ byte. byte ∷ drop (i + 1) line) here) ∙ placed_space (column + i) (drop (i + 1) line))
-
--- parts between spaces: the first one, and others that leave the words behind it
-abbrev IsParted : List (List ℕ) → List ℕ → List ℕ → Type 0
-IsParted parts first rest = (others : List (List ℕ)) × (parts ≡ first ∷ others) × ((column : ℕ) → words_from column others ≡ placed_words column rest)
-
-parted_more : (byte : ℕ) (bytes : List ℕ) (space : Bool) → IsParted (slice_split (λ b. b == 32) bytes) (before 32 bytes) (behind 32 bytes)
-    → IsParted (cond space ([] ∷ slice_split (λ b. b == 32) bytes) (onto_first byte (slice_split (λ b. b == 32) bytes)))
-    (if space then [] else byte ∷ before 32 bytes) (if space then bytes else behind 32 bytes)
-unfolding placed_words
-parted_more byte bytes true parted = (slice_split (λ b. b == 32) bytes, refl, λ column. refl)
-parted_more byte bytes false (others, is, same) = (others, ap (onto_first byte) is, same)
-
-parted : (bytes : List ℕ) → IsParted (slice_split (λ b. b == 32) bytes) (before 32 bytes) (behind 32 bytes)
-unfolding before behind placed_words words_from is_full
-parted [] = ([], refl, λ column. refl)
-parted (byte ∷ bytes) = parted_more byte bytes (byte == 32) (parted bytes)
-
-first_full : (line : List ℕ) → 0 < length line → slice_index line 0 ≢ 32 → is_full (before 32 line) ≡ true
-unfolding before is_full
-first_full [] some apart = absurd (omega arith)
-first_full (byte ∷ bytes) some apart = rw (ne_eqb byte 32 apart) refl
-
-kept_full : (column : ℕ) (part : List ℕ) (parts : List (List ℕ)) → is_full part ≡ true
-    → words_from column (part ∷ parts) ≡ record { column = column; text = part } ∷ words_from (column + length part + 1) parts
-unfolding words_from
-kept_full column part parts full = rw full refl
-
--- the first word, and the words after it
-pub placed_first : (column : ℕ) (line first rest : List ℕ) → 0 < length line → slice_index line 0 ≢ 32 → first ≡ before 32 line → rest ≡ behind 32 line
-    → placed_words column line ≡ record { column = column; text = first } ∷ placed_words (column + length first + 1) rest
-unfolding placed_words
-placed_first column line first rest some apart first-is rest-is =
-    let parts = parted line in
-    rw (first-is, rest-is) (ap (words_from column) parts.1 ∙ (kept_full column (before 32 line) parts.0 (first_full line some apart)
-    ∙ ap (λ words. record { column = column; text = before 32 line } ∷ words) (parts.2 (column + length (before 32 line) + 1))))
-
-pub placed_none : (column : ℕ) (line : List ℕ) → length line ≤ 0 → placed_words column line ≡ []
-unfolding placed_words words_from is_full
-placed_none column [] none = refl
-placed_none column (byte ∷ bytes) none = absurd (omega arith)
-
--- rows that are read one after another
-pub value_passes : (name : List ℕ) (read : Row → Result ℕ Mistake) (rest later : List code.Row) (row : code.Row) → rest ≡ row ∷ later
-    → is_row name (row_seen row) ≡ false → value_mistakes name read (rows_seen later) ≡ value_mistakes name read (rows_seen rest)
-unfolding value_mistakes
-value_passes name read rest later row is other = rw (is, other) refl
-
-pub behind_passes : (name : List ℕ) (rest later : List code.Row) (row : code.Row) → rest ≡ row ∷ later → is_row name (row_seen row) ≡ false
-    → rows_behind name (rows_seen later) ≡ rows_behind name (rows_seen rest)
-unfolding rows_behind
-behind_passes name rest later row is other = rw (is, other) refl
+use Rattle.qpu_asm.specs.Place.{Word, placed_words, wanted_item, is_of, item_place, code_place, words_place}
+use Rattle.qpu_asm.specs.{declared.fault.Mistake.Mistake, Table.Row, Items.Spots, Items.kind_named}
+use Rattle.qpu_asm.specs.{Faults.rows_after, Faults.item_mistakes, declared.place.Opcode.Opcode, Lines.Line, Lines.Coded}
+use Rattle.qpu_asm.proofs.Words.{placed_first, placed_none}
 
 -- the first line of a text is no longer than the text
 abbrev head_or : List ℕ → List (List ℕ) → List ℕ

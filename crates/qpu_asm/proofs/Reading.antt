@@ -6,9 +6,9 @@ use Rattle.qpu_isa.specs.Fields.{joined, width_of}
 use Rattle.script.specs.Number.{number_of, is_number}
 use Rattle.qpu_asm.specs.Table.{Row, Named, widths_of, fallbacks_of, nop_kind, alu_kind, load_imm_kind, branch_kind}
 use Rattle.qpu_asm.specs.Items.{Spots, read_value, read_plain, or_number, read_number, find_named, read_target, distance, distance_to, is_row, kind_named}
-use Rattle.qpu_asm.specs.{declared.mark.Spot.Spot, declared.fault.Mistake.Mistake, Lines.is_name, Lines.is_full, Seen.row_seen, Seen.rows_seen}
+use Rattle.qpu_asm.specs.{declared.label.Spot.Spot, declared.fault.Mistake.Mistake, Lines.is_name, Seen.row_seen, Seen.rows_seen}
 use Rattle.qpu_asm.specs.declared.fault.Mistake.TheVariants.{BadOperand, OutOfRange}
-use Rattle.qpu_asm.specs.Walk.{IsOpen, is_ready, is_short, are_ready, is_part, lacks, skip_to, with_value}
+use Rattle.qpu_asm.specs.Walk.{IsOpen, is_ready, are_ready, skip_to, with_value}
 use Rattle.qpu_asm.specs.declared.table.Row as code
 use Rattle.qpu_asm.proofs.Rows.{RowFacts, row_facts, ready_parts, none_left}
 
@@ -139,7 +139,7 @@ skip_ends name read fault word rest is = rw (none_left rest is) refl
 chosen_open : (nop alu load branch : Bool)
     → IfSome (if nop then Some nop_kind else (if alu then Some alu_kind else (if load then Some load_imm_kind else (if branch then Some branch_kind else None))))
     (λ kind. IsOpen kind.above kind.rows)
-unfolding are_ready is_ready is_short is_part is_full lacks width_of
+unfolding are_ready is_ready width_of
 chosen_open true alu load branch = record { room = lit≤ tt; ready = refl }
 chosen_open false true load branch = record { room = lit≤ tt; ready = refl }
 chosen_open false false true branch = record { room = lit≤ tt; ready = refl }

@@ -3,7 +3,7 @@ use Rattle.std.specs.Prelude.{ℕ, ◌+◌, ◌-◌, ◌*◌, ◌%◌, ◌^◌, 
 use Rattle.std.specs.{List.list_any, Str.bytes_eq}
 use Rattle.script.specs.{Lines.before, Number.is_number, Number.number_of}
 use Rattle.qpu_asm.specs.declared.fault.Mistake.TheVariants.{UnknownWord, BadOperand, OutOfRange, UnknownLabel, LabelTwice}
-use Rattle.qpu_asm.specs.{declared.mark.Spot.Spot, declared.fault.Mistake.Mistake, Lines.is_name}
+use Rattle.qpu_asm.specs.{declared.label.Spot.Spot, declared.fault.Mistake.Mistake, Lines.is_name}
 use Rattle.qpu_asm.specs.Table.{Named, Row, Kind, nop_kind, alu_kind, load_imm_kind, branch_kind}
 
 -- where each label stands, where it stands anywhere

@@ -1,7 +1,7 @@
 -- The labels of a text, and where each one stands.
 use Rattle.std.specs.Prelude.{ℕ, ◌+◌, Bool, false, nat_lt, List, [], ◌∷◌, ◌++◌, map, if◌then◌else◌, Option, None, Some, bytes_eq}
 use Rattle.script.specs.Lines.{lines_of}
-use Rattle.qpu_asm.specs.{declared.mark.Spot.Spot, Lines.Line, Lines.Blank, Lines.Label, Lines.BadLabel, Lines.Coded, Lines.read_line}
+use Rattle.qpu_asm.specs.{declared.label.Spot.Spot, Lines.Line, Lines.Blank, Lines.Label, Lines.BadLabel, Lines.Coded, Lines.read_line}
 use Rattle.qpu_asm.specs.Items.{Spots}
 
 -- an instruction's line takes one index
@@ -31,6 +31,17 @@ labels_from line index (first ∷ lines) = label_on line index first ++ labels_f
 unfoldable pub spot_among : List LabelSpot → Spots
 spot_among [] name = None
 spot_among (label ∷ labels) name = if bytes_eq label.name name then Some label.spot else spot_among labels name
+
+abbrev pub or_spot : Option Spot → Option Spot → Option Spot
+or_spot None other = other
+or_spot (Some spot) other = Some spot
+
+-- the spots with what a line defines, where its label is new
+abbrev pub spots_with : Spots → ℕ → ℕ → Line → Spots
+spots_with spots line index Blank = spots
+spots_with spots line index (Label name) = λ other. or_spot (spots other) (if bytes_eq name other then Some (record { line = line; index = index }) else None)
+spots_with spots line index BadLabel = spots
+spots_with spots line index (Coded opcode items) = spots
 
 -- the label was defined before this line
 abbrev pub is_before : ℕ → Option Spot → Bool

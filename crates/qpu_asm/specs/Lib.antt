@@ -1,17 +1,10 @@
-pub mod Keys
-pub mod Marks
 pub mod Place
 pub mod Table
 pub mod Seen
-pub mod Sheets
 pub mod Lines
 pub mod Items
 pub mod Labels
-pub mod Draft
 pub mod Faults
 pub mod Assembly
 pub mod Walk
-pub mod Forms
-pub mod Targets
 pub mod Printed
-pub mod Openings

@@ -1,14 +1,14 @@
 -- What the assembler has read after each item and each line: the word so far, or the least fault so far. No part of what the
 -- crate claims.
-use Rattle.std.specs.Prelude.{ℕ, ◌+◌, ◌*◌, ◌^◌, ◌≤◌, ◌<◌, ◌≡◌, ◌==◌, Bool, true, not, ◌&&◌, ◌||◌, nat_lt, nat_le, List, [], ◌∷◌, ◌++◌, length, map, take, drop, slice_index, slice_index_or, bytes_eq, if◌then◌else◌, Option, Result, None, Some, Ok, Err}
+use Rattle.std.specs.Prelude.{ℕ, ◌+◌, ◌*◌, ◌^◌, ◌≤◌, ◌≡◌, ◌==◌, Bool, true, not, ◌&&◌, ◌||◌, nat_lt, nat_le, List, [], ◌∷◌, ◌++◌, length, if◌then◌else◌, Option, Result, None, Some, Ok, Err}
 use Rattle.std.specs.List.{list_all}
 use Rattle.qpu_isa.specs.Fields.{joined, width_of}
 use Rattle.script.specs.Lines.{before, behind}
 use Rattle.qpu_asm.specs.declared.fault.Mistake.TheVariants.{UnknownWord, BadOperand, LabelTwice}
-use Rattle.qpu_asm.specs.Items.{Spots, mistake_number, read_number, read_value, is_row, has_row, has_value, kind_named}
+use Rattle.qpu_asm.specs.Items.{Spots, mistake_number, read_value, is_row, has_row, has_value, kind_named}
 use Rattle.qpu_asm.specs.{declared.fault.AsmFault.AsmFault, declared.fault.Mistake.Mistake, Labels.is_before, Faults.fault_on}
 use Rattle.qpu_asm.specs.{Table.Row, Table.Kind, Table.fallbacks_of, Table.widths_of, Printed.item_text}
-use Rattle.qpu_asm.specs.Lines.{Line, Blank, Label, BadLabel, Coded, is_full, is_comment, ends_label, read_line}
+use Rattle.qpu_asm.specs.Lines.{Line, Blank, Label, BadLabel, Coded}
 
 -- the one with the lesser number, where there is another
 abbrev pub least_of : Mistake → Option Mistake → Mistake
@@ -26,24 +26,12 @@ pub record Partial : Type 0 where
 unfoldable pub lacks : ℕ → List ℕ → Bool
 lacks mark bytes = list_all (λ byte. not (byte == mark)) bytes
 
--- a part of a word on a line: without space and line feed
-unfoldable pub IsWord : List ℕ → Type 0
-IsWord bytes = (lacks 32 bytes ≡ true) × (lacks 10 bytes ≡ true)
-
--- a name in which no item ends: some bytes, without space, line feed and `=`
-unfoldable pub is_part : List ℕ → Bool
-is_part name = is_full name && (lacks 61 name && (lacks 32 name && lacks 10 name))
-
--- the row's name and its values' names are short
-unfoldable pub is_short : Row → Bool
-is_short row = nat_le (length row.name) 8 && list_all (λ named. nat_le (length named.name) 8) row.named
-
--- the row is short, its default and all its values fit its width, and a label's too, and no item ends in its name
+-- the row's default and all its values fit its width, and a label's too
 unfoldable pub is_ready : Row → Bool
 is_ready row =
-    is_short row && ((nat_le 1 row.width && nat_le row.width 32)
+    (nat_le 1 row.width && nat_le row.width 32)
     && ((nat_lt row.fallback (2 ^ row.width) && nat_le row.below (2 ^ row.width))
-    && (list_all (λ named. nat_lt named.value (2 ^ row.width)) row.named && ((not row.takes_label || row.width == 32) && is_part row.name))))
+    && (list_all (λ named. nat_lt named.value (2 ^ row.width)) row.named && (not row.takes_label || row.width == 32)))
 
 unfoldable pub are_ready : List Row → Bool
 are_ready rows = list_all is_ready rows
@@ -51,40 +39,6 @@ are_ready rows = list_all is_ready rows
 -- what a row writes of a value: nothing where it is the default, else its item behind a space
 abbrev pub field_text : Row → ℕ → List ℕ
 field_text row value = if value == row.fallback then [] else 32 ∷ item_text row value
-
--- what was written: all that went out, and the front of the room
-abbrev pub written : List ℕ → List ℕ → ℕ → List ℕ
-written out room end = out ++ take end room
-
--- the texts of a row's first values
-unfoldable pub AreTexts : Row → List (List ℕ) → Type 0
-AreTexts row texts = (value : ℕ) (d : List ℕ) → value < length texts → slice_index_or texts value d ≡ field_text row value
-
--- a row, and how many bits of a word lie below its field
-pub record Placed : Type 0 where
-  pub row : Row
-  pub low : ℕ
-
-abbrev pub rows_of : List Placed → List Row
-rows_of columns = map (λ column. column.row) columns
-
--- rows whose fields lie one after the other, down to the lowest bit
-unfoldable pub placed : List Row → List Placed
-placed [] = []
-placed (row ∷ rows) = record { row = row; low = width_of (widths_of rows) } ∷ placed rows
-
--- the columns' fields lie so in a word
-pub record AreColumns (columns : List Placed) : Type 0 where
-  pub places : columns ≡ placed (rows_of columns)
-  pub ready : are_ready (rows_of columns) ≡ true
-  pub wide : width_of (widths_of (rows_of columns)) ≤ 64
-
--- a kind with its opcode and its rows in columns
-pub record IsSheet (kind : Kind) (text : List ℕ) (placed : List Placed) : Type 0 where
-  pub opcode : text ≡ kind.opcode
-  pub rows : rows_of placed ≡ kind.rows
-  pub few : length placed ≤ 18
-  pub columns : AreColumns placed
 
 -- the word can take the rows' fields
 pub record IsOpen (word : ℕ) (rows : List Row) : Type 0 where
@@ -122,11 +76,6 @@ read_item spots index all partial item =
 unfoldable pub read_items : Spots → ℕ → List Row → Partial → List (List ℕ) → Partial
 read_items spots index all partial [] = partial
 read_items spots index all partial (item ∷ items) = read_items spots index all (read_item spots index all partial item) items
-
--- the items are read without a mistake
-abbrev pub AreSteps : Spots → ℕ → ℕ → List Row → List (List ℕ) → ℕ → List Row → Type 0
-AreSteps spots index word rows items after later = (all : List Row)
-    → read_items spots index all (record { word = word; rows = rows; fault = None }) items ≡ record { word = after; rows = later; fault = None }
 
 abbrev pub word_or_fault : ℕ → Option Mistake → Result ℕ Mistake
 word_or_fault word None = Ok word
@@ -168,47 +117,3 @@ unfoldable pub lines_words : Spots → ℕ → List Line → List ℕ → Result
 lines_words spots line [] words = Ok words
 lines_words spots line (first ∷ lines) words =
     if_words (line_words spots line words first) (λ more. lines_words spots (line + 1) lines more)
-
--- what is behind a text's first word on its line, with the lines below
-pub record IsAfter (text rest : List ℕ) : Type 0 where
-  pub line : behind 32 (before 10 text) ≡ before 10 rest
-  pub others : behind 10 text ≡ behind 10 rest
-  pub shorter : length rest ≤ length text
-
--- a text's first word is a number below a limit, and this is behind it
-pub record IsNumberRead (below : ℕ) (text : List ℕ) (value : ℕ) (rest : List ℕ) : Type 0 where
-  pub reads : read_number below (before 32 (before 10 text)) ≡ Ok value
-  pub after : IsAfter text rest
-
--- a text begins with a name and a mark
-unfoldable pub begins : ℕ → List ℕ → List ℕ → Bool
-begins mark text name = nat_lt (length name) (length text) && (slice_index text (length name) == mark && bytes_eq (take (length name) text) name)
-
--- what is behind a name and a mark, with which a text begins
-pub record IsBehind (mark : ℕ) (text name rest : List ℕ) : Type 0 where
-  pub begun : begins mark text name ≡ true
-  pub left : rest ≡ drop (length name + 1) text
-
--- a word of a line that is no comment's and no label's
-unfoldable pub is_opcode : List ℕ → Bool
-is_opcode word = (lacks 32 word && lacks 10 word) && (is_full word && (not (is_comment word) && not (ends_label word)))
-
--- a row of this name comes next, behind those that have their defaults in the word
-pub record IsPlace (word : ℕ) (rows : List Row) (name : List ℕ) (at : ℕ) (row : Row) (later : List Row) : Type 0 where
-  pub named : is_row name row ≡ true
-  pub still : IsOpen at (row ∷ later)
-  pub there : has_row name rows ≡ true
-  pub skips : (read : Row → Result ℕ Mistake) (fault : Option Mistake)
-      → skip_to name read fault word rows ≡ with_value row (record { word = at; rows = later; fault = fault }) (read row)
-
--- the item is read without a mistake
-abbrev pub IsStep : Spots → ℕ → ℕ → List Row → List ℕ → ℕ → List Row → Type 0
-IsStep spots index word rows item after later = (all : List Row) (fault : Option Mistake)
-    → read_item spots index all (record { word = word; rows = rows; fault = fault }) item ≡ record { word = after; rows = later; fault = fault }
-
--- the line is an instruction without a mistake
-pub record IsCoded (spots : Spots) (index : ℕ) (line : List ℕ) (word : ℕ) : Type 0 where
-  pub opcode : List ℕ
-  pub items : List (List ℕ)
-  pub reads : read_line line ≡ Coded opcode items
-  pub codes : code_of spots index opcode items ≡ Ok word

@@ -3,7 +3,7 @@ ghost use Rattle.std.specs.Prelude.{◌≡◌, ◌≤◌, ◌<◌, ◌*◌, ◌+
 ghost use Rattle.qpu_isa.specs.Fields.{joined};
 ghost use Rattle.qpu_asm.specs.Table.{widths_of, fallbacks_of};
 ghost use Rattle.qpu_asm.specs.Items.{find_named, read_number as number_read, read_plain as plain_read, distance as distance_by, read_target as target_read, is_row as row_test, has_row as row_among, kind_named as kind_by};
-ghost use Rattle.qpu_asm.specs.Walk.{least_of as least_by, with_fault as faulted, with_value as valued, skip_to as skipped, read_named as named_read, read_item as item_read, closed_word as word_by, kind_code, code_of, is_ready, IsOpen};
+ghost use Rattle.qpu_asm.specs.Walk.{least_of as least_by, with_fault as faulted, with_value as valued, skip_to as skipped, read_named as named_read, read_item as item_read, closed_word as word_by, kind_code, code_of, IsOpen};
 ghost use Rattle.qpu_asm.specs.declared.fault.Mistake.TheVariants.{BadOperand, UnknownWord};
 ghost use Rattle.qpu_asm.specs.Lines.{words_of};
 ghost use Rattle.qpu_asm.specs.Seen.{named_seen, row_seen, rows_seen, kind_seen, spots_in, value_seen};
@@ -22,7 +22,7 @@ use std::marker::Model;
 pub struct Partial {
     word: u64,
     rows: &'static [Row],
-    fault: Option<Mistake>,
+    pub fault: Option<Mistake>,
 }
 
 impl Model for Partial {
@@ -35,6 +35,38 @@ impl Model for Partial {
     ghost view = { λ p. record { word = p.word; rows = rows_seen p.rows.now; fault = p.fault } };
 
     ghost invariant = { λ p. IsOpen p.word (rows_seen p.rows.now) };
+}
+
+impl Partial {
+    /// An instruction of a kind of which no item has been read.
+    pub fn of(kind: Kind) -> Partial
+        requires { IsOpen kind.above (rows_seen kind.rows.now) }
+        ensures { result ≡ record { word = kind.above; rows = rows_seen kind.rows.now; fault = None } }
+    {
+        Partial {
+            word: kind.above,
+            rows: kind.rows,
+            fault: None,
+        }
+    }
+
+    /// The rows that may still come.
+    pub fn rows_left(&self) -> &'static [Row]
+        ensures { rows_seen result.now ≡ self.now.rows }
+    {
+        self.rows
+    }
+
+    /// The same as if the items had no mistake so far.
+    pub fn without_fault(self) -> Partial
+        ensures { result ≡ record { word = self.word; rows = self.rows; fault = None } }
+    {
+        Partial {
+            word: self.word,
+            rows: self.rows,
+            fault: None,
+        }
+    }
 }
 
 /// The word of an instruction, or the least of its faults.
@@ -75,11 +107,7 @@ fn read_items<'a>(
     ensures { result ≡ kind_code (spots_in labels.now) index (words_of items.now) (kind_seen kind) }
 {
     let mut rest = items;
-    let mut partial = Partial {
-        word: kind.above,
-        rows: kind.rows,
-        fault: None,
-    };
+    let mut partial = Partial::of(kind);
     while let Some(cut) = next_word(rest) {
         partial = put_item(labels, index, kind.rows, partial, cut.first);
         rest = cut.rest;
@@ -122,8 +150,9 @@ fn append(word: u64, width: u32, value: u64) -> u64
     word * (1 << width) + value
 }
 
+/// Reads an item, with all rows of its instruction.
 #[tactic(auto, unfolding(crate::specs::Walk::read_item, crate::specs::Items::has_value))]
-fn put_item<'a>(
+pub fn put_item<'a>(
     labels: &Labels<'a>,
     index: u32,
     all: &[Row],
@@ -208,7 +237,7 @@ fn skip_to<'a>(
     cut: Cut<'a>,
 ) -> Partial
     requires { IsOpen word (rows_seen rows.now) }
-    ensures { result ≡ skipped cut.entry.first.now (value_seen labels.now index cut.entry) fault word (rows_seen rows.now) }
+    ensures { result ≡ skipped cut.entry.first.now (value_seen (spots_in labels.now) index cut.entry) fault word (rows_seen rows.now) }
 {
     let mut rest = rows;
     let mut word = word;
@@ -290,14 +319,9 @@ pub fn is_row(name: &[u8], row: &Row) -> bool
 }
 
 #[tactic(auto, unfolding(crate::specs::Items::read_value))]
-pub fn read_value<'a>(
-    labels: &Labels<'a>,
-    index: u32,
-    cut: Cut<'a>,
-    row: &Row,
-) -> Result<u64, Mistake>
+fn read_value<'a>(labels: &Labels<'a>, index: u32, cut: Cut<'a>, row: &Row) -> Result<u64, Mistake>
     requires { row.now.below ≤ 2 ^ 32 }
-    ensures { result ≡ value_seen labels.now index cut.entry (row_seen row.now) }
+    ensures { result ≡ value_seen (spots_in labels.now) index cut.entry (row_seen row.now) }
 {
     if row.name == cut.first {
         read_plain(row, cut.rest)
@@ -319,9 +343,9 @@ fn read_target<'a>(labels: &Labels<'a>, index: u32, text: &'a [u8]) -> Result<u6
     }
 }
 
-/// From the fourth instruction after the branch to the target, in bytes.
+// From the fourth instruction after the branch to the target, in bytes.
 #[tactic(auto, unfolding(crate::specs::Items::distance))]
-pub fn distance(index: u32, target: u32) -> u64
+fn distance(index: u32, target: u32) -> u64
     ensures { result ≡ distance_by index target }
 {
     let here = 8 * (index as u64 + 4) % (1 << 32);

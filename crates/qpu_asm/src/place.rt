@@ -1,18 +1,16 @@
 //! Where on its line a fault stands, and what was expected there.
-ghost use Rattle.std.specs.Prelude.{◌≡◌, ◌≢◌, ◌<◌, ◌≤◌, ◌+◌, ◌-◌, ◌^◌, ◌∷◌, [], Some, ℕ, length, map, drop, slice_index, slice_index_or, MatchOption, IfOk, IfSome, true};
+ghost use Rattle.std.specs.Prelude.{◌≡◌, ◌≢◌, ◌<◌, ◌≤◌, ◌+◌, ◌-◌, ◌^◌, ◌∷◌, [], Some, length, map, slice_index, MatchOption, IfOk, IfSome};
 ghost use Rattle.std.specs.Option.{option_to_list};
-ghost use Rattle.qpu_asm.specs.Walk.{are_ready};
-ghost use Rattle.script.specs.Lines.{lines_of};
-ghost use Rattle.qpu_asm.specs.Faults.{rows_after, rows_behind, item_mistakes, value_mistakes};
+ghost use Rattle.qpu_asm.specs.Walk.{IsOpen};
 ghost use Rattle.qpu_asm.specs.Items.{kind_named as kind_by};
-ghost use Rattle.qpu_asm.specs.Lines.{Line as LineModel, read_line as line_read};
+ghost use Rattle.qpu_asm.specs.Lines.{read_line as line_read};
 ghost use Rattle.qpu_asm.specs.Place.{word_at, placed_words, line_at, opcode_of, wanted_number, wanted_value, wanted_item, is_of, item_place, code_place, words_place, fault_place, items_text, opcode_text, wanted_text};
-ghost use Rattle.qpu_asm.specs.Seen.{line_seen, named_seen, rows_seen, spots_in, value_seen};
+ghost use Rattle.qpu_asm.specs.Seen.{named_seen, rows_seen, spots_in};
 
-use crate::fault::{AsmFault, Mistake};
-use crate::item::{has_row, is_row, kind_named, read_value};
+use crate::fault::AsmFault;
+use crate::item::{Partial, has_row, is_row, kind_named, put_item};
 use crate::label::{Labels, find_labels};
-use crate::lines::{Line, read_line};
+use crate::lines::{Line, read_line, without_spaces};
 use crate::table::{Kind, Named, Row};
 use script::{Cut, cut_at, next_line};
 use std::alloc::{AllocError, Global};
@@ -65,35 +63,6 @@ struct Placed<'a> {
     next: u32,
 }
 
-/// What comes behind the spaces that a line begins with, and the column at which it begins.
-#[derive(Clone, Copy)]
-struct Skipped<'a> {
-    column: u32,
-    rest: &'a [u8],
-}
-
-/// Skips the spaces that a line begins with, which begins at a column.
-fn skip_spaces(line: &[u8], column: u32) -> Skipped<'_>
-    requires { column + length line.now < 2 ^ 32 }
-    ensures words { placed_words result.column result.rest.now ≡ placed_words column line.now }
-    ensures inside { result.column + length result.rest.now ≤ column + length line.now }
-    ensures shorter { length result.rest.now ≤ length line.now }
-    ensures first { slice_index result.rest.now 0 ≢ 32 }
-{
-    for (at, byte) in line.iter().enumerate() {
-        if *byte != b' ' {
-            return Skipped {
-                column: column + at as u32,
-                rest: &line[at..],
-            };
-        }
-    }
-    Skipped {
-        column: column + line.len() as u32,
-        rest: &[],
-    }
-}
-
 /// The first word of a line that begins at a column.
 fn next_placed(line: &[u8], column: u32) -> Option<Placed<'_>>
     requires { column + length line.now < 2 ^ 32 }
@@ -102,11 +71,12 @@ fn next_placed(line: &[u8], column: u32) -> Option<Placed<'_>>
     ensures shorter { IfSome result (λ placed. length placed.cut.rest.now < length line.now) }
     ensures inside { IfSome result (λ placed. placed.next + length placed.cut.rest.now ≤ column + length line.now) }
 {
-    let skipped = skip_spaces(line, column);
-    if skipped.rest.is_empty() {
+    let start = without_spaces(line);
+    if start.is_empty() {
         return None;
     }
-    Some(first_placed(skipped.rest, skipped.column))
+    let skipped = line.len() - start.len();
+    Some(first_placed(start, column + skipped as u32))
 }
 
 /// The first word of a line that begins with one.
@@ -205,81 +175,10 @@ fn wanted_item(opcode: Opcode, all: &[Row], rows: &[Row], item: &[u8]) -> Wanted
     Wanted::Item(opcode)
 }
 
-/// The mistake of the value of the row of that name.
-#[tactic(auto, unfolding(crate::specs::Faults::value_mistakes))]
-fn value_mistake<'a>(labels: &Labels<'a>, cut: Cut<'a>, rows: &[Row]) -> Option<Mistake>
-    requires { are_ready (rows_seen rows.now) ≡ true }
-    ensures { option_to_list result ≡ value_mistakes cut.entry.first.now (value_seen labels.now 0 cut.entry) (rows_seen rows.now) }
+fn is_of(kind: u8, partial: &Partial) -> bool
+    ensures { result ≡ is_of kind (option_to_list partial.now.fault) }
 {
-    let mut rest = rows;
-    while let Some((row, later)) = rest.split_first() {
-        if is_row(cut.first, row) {
-            return read_value(labels, 0, cut, row).err();
-        }
-        rest = later;
-    }
-    None
-}
-
-/// An item's mistake, where it has one.
-#[tactic(auto, unfolding(crate::specs::Faults::item_mistakes, crate::specs::Faults::named_mistakes, crate::specs::Items::has_value))]
-fn item_mistake<'a>(
-    labels: &Labels<'a>,
-    all: &[Row],
-    rows: &[Row],
-    item: &'a [u8],
-) -> Option<Mistake>
-    requires { are_ready (rows_seen rows.now) ≡ true }
-    ensures { option_to_list result ≡ item_mistakes (spots_in labels.now) 0 (rows_seen all.now) (rows_seen rows.now) item.now }
-{
-    let cut = cut_at(item, b'=');
-    if cut.first.len() >= item.len() {
-        return Some(Mistake::UnknownWord);
-    }
-    if has_row(cut.first, rows) {
-        return value_mistake(labels, cut, rows);
-    }
-    if has_row(cut.first, all) {
-        return Some(Mistake::BadOperand);
-    }
-    Some(Mistake::UnknownWord)
-}
-
-/// The rows that may still come after an item.
-#[tactic(auto, unfolding(crate::specs::Faults::rows_after, crate::specs::Faults::rows_behind, crate::specs::Items::has_row, crate::specs::Items::has_value))]
-fn rows_after(item: &[u8], rows: &'static [Row]) -> &'static [Row]
-    requires { are_ready (rows_seen rows.now) ≡ true }
-    ensures rows { rows_seen result.now ≡ rows_after item.now (rows_seen rows.now) }
-    ensures ready { are_ready (rows_seen result.now) ≡ true }
-{
-    let cut = cut_at(item, b'=');
-    if cut.first.len() >= item.len() || !has_row(cut.first, rows) {
-        return rows;
-    }
-    rows_behind(cut.first, rows)
-}
-
-/// The rows behind the one of that name.
-#[tactic(auto, unfolding(crate::specs::Faults::rows_behind))]
-fn rows_behind(name: &[u8], rows: &'static [Row]) -> &'static [Row]
-    requires { are_ready (rows_seen rows.now) ≡ true }
-    ensures rows { rows_seen result.now ≡ rows_behind name.now (rows_seen rows.now) }
-    ensures ready { are_ready (rows_seen result.now) ≡ true }
-{
-    let mut rest = rows;
-    while let Some((row, later)) = rest.split_first() {
-        if is_row(name, row) {
-            return later;
-        }
-        rest = later;
-    }
-    rest
-}
-
-fn is_of(kind: u8, mistake: Option<Mistake>) -> bool
-    ensures { result ≡ is_of kind (option_to_list mistake) }
-{
-    match mistake {
+    match partial.fault {
         Some(mistake) => mistake.number() == kind,
         None => false,
     }
@@ -290,26 +189,27 @@ fn item_place<'a>(
     labels: &Labels<'a>,
     kind: u8,
     opcode: Opcode,
-    all: &'static [Row],
+    of: Kind,
     items: &'a [u8],
     from: u32,
 ) -> Option<FaultPlace>
     requires room { from + length items.now < 2 ^ 32 }
-    requires ready { are_ready (rows_seen all.now) ≡ true }
-    ensures { result ≡ item_place (spots_in labels.now) kind opcode (rows_seen all.now) (rows_seen all.now) (placed_words from items.now) }
+    requires open { IsOpen of.above (rows_seen of.rows.now) }
+    ensures { result ≡ item_place (spots_in labels.now) kind opcode (rows_seen of.rows.now) (rows_seen of.rows.now) (placed_words from items.now) }
 {
     let mut rest = items;
     let mut column = from;
-    let mut rows = all;
+    let mut partial = Partial::of(of);
     while let Some(placed) = next_placed(rest, column) {
         let item = placed.cut.first;
-        if is_of(kind, item_mistake(labels, all, rows, item)) {
+        let rows = partial.rows_left();
+        partial = put_item(labels, 0, of.rows, partial.without_fault(), item);
+        if is_of(kind, &partial) {
             return Some(FaultPlace {
                 column: placed.column,
-                wanted: wanted_item(opcode, all, rows, item),
+                wanted: wanted_item(opcode, of.rows, rows, item),
             });
         }
-        rows = rows_after(item, rows);
         column = placed.next;
         rest = placed.cut.rest;
     }
@@ -335,7 +235,7 @@ fn code_place<'a>(
     match kind_named(opcode) {
         Some(of) => {
             let opcode = opcode_of(opcode);
-            item_place(labels, kind, opcode, of.rows, items, from).unwrap_or(first)
+            item_place(labels, kind, opcode, of, items, from).unwrap_or(first)
         }
         None => first,
     }
@@ -380,9 +280,9 @@ pub fn fault_place(alloc: Global, text: &[u8], fault: AsmFault) -> Result<FaultP
     requires { length text.now < 2 ^ 32 - 1 }
     ensures { IfOk result (λ place. place ≡ fault_place text.now fault) }
 {
-    let found = find_labels(alloc, text)?;
+    let labels = find_labels(alloc, text)?;
     let line = line_at(text, fault.line);
-    Ok(place_on(&found.labels, fault.kind, line))
+    Ok(place_on(&labels, fault.kind, line))
 }
 
 impl fmt::Display for Opcode {

@@ -8,8 +8,8 @@ pub returns : goal.returns
 unfolding facts_text
 returns c =
     let word = c.args.word in
-    let pen = c.args.pen.now in
-    let front : c.put_if-3.new.pen ++ said_if c.is_end.result (codes "; program end") ≡ pen ++ facts_text word =
+    let out = c.args.out.now.items in
+    let front : c.put_if-3.new.out.items ++ said_if c.is_end.result (codes "; program end") ≡ out ++ facts_text word =
     rw (
       c.in_ok-put_if-3.ensures,
       c.in_ok-put_if-2.ensures,
@@ -18,6 +18,6 @@ returns c =
       c.writes_s.ensures,
       c.writes_s-2.ensures,
       c.is_end.ensures,
-    ) (four_parts pen (said_if (is_switch word) (codes "; thread switch")) (said_if (writes_s word 0) (codes "; request to TMU 0"))
+    ) (four_parts out (said_if (is_switch word) (codes "; thread switch")) (said_if (writes_s word 0) (codes "; request to TMU 0"))
     (said_if (writes_s word 1) (codes "; request to TMU 1")) (said_if (is_end word) (codes "; program end"))) in
-    subst (λ (t : List ℕ). OnOk c.put_if-4.result (c.put_if-4.new.pen ≡ t)) front c.put_if-4.ensures
+    subst (λ (t : List ℕ). OnOk c.put_if-4.result (c.put_if-4.new.out.items ≡ t)) front c.put_if-4.ensures

@@ -1,10 +1,15 @@
-use Rattle.std.proofs.Common.{decimal}
+use Rattle.std.proofs.Common.{codes, decimal}
 use Rattle.job_text.specs.Notes.{numbered_text}
-use Rattle.job_text.proofs.Texts.{in_buffer}
+use Rattle.job_text.proofs.Texts.{five_parts}
 use Rattle.job_text.proofs.instructions.put_numbered.Goals as goal
 
 pub returns : goal.returns
 unfolding numbered_text
 returns c =
-    rw (c.in_ok-text-3.ensures, c.in_ok-number-2.ensures, c.in_ok-text-2.ensures, c.in_ok-number.ensures, c.in_ok-text.ensures)
-    (in_buffer c.args.pen.now (decimal c.args.buffer) (decimal c.args.index))
+    rw (
+      c.in_ok-extend_from_slice-3.ensures.items,
+      c.in_ok-put_number-2.ensures,
+      c.in_ok-extend_from_slice-2.ensures.items,
+      c.in_ok-put_number.ensures,
+      c.in_ok-extend_from_slice.ensures.items,
+    ) (five_parts c.args.out.now.items (codes "buffer ") (decimal c.args.buffer) (codes " instruction ") (decimal c.args.index) (codes ": "))

@@ -6,8 +6,8 @@ use Rattle.job_text.proofs.writing.put_code.Given as goal
 abbrev pub invariant-loop-rest : goal.invariant-loop-rest
 invariant-loop-rest l = record {
   few : l.number + length l.rest ≤ length l.code;
-  lines : (new : List ℕ) → AreLines l.pen new (l.at + (length l.code - length l.rest)) l.rest l.refused l.why
-      → AreLines l.fn.pen new l.at l.code l.refused l.why;
+  lines : (new : List ℕ) → AreLines l.out.items new (l.at + (length l.code - length l.rest)) l.rest l.refused l.why
+      → AreLines l.fn.out.items new l.at l.code l.refused l.why;
 }
 
 abbrev pub decreases-loop-rest : goal.decreases-loop-rest

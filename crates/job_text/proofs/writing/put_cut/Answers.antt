@@ -3,4 +3,4 @@ use Rattle.job_text.proofs.writing.put_cut.Goals as goal
 
 pub returns-in_ok-put_line-in-Line : goal.returns-in_ok-put_line-in-Line
 returns-in_ok-put_line-in-Line c =
-    line_lines c.args.pen.now c.put_line.new.pen c.args.bytes.now c.args.why.now c.args.refused c.args.at _ c.in_ok-put_line-in-Line.ensures
+    line_lines c.args.out.now.items c.put_line.new.out.items c.args.bytes.now c.args.why.now c.args.refused c.args.at _ c.in_ok-put_line-in-Line.ensures

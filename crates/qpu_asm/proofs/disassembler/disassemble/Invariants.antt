@@ -4,4 +4,4 @@ use Rattle.qpu_asm.specs.Printed.{line_text}
 use Rattle.qpu_asm.proofs.disassembler.disassemble.Given as goal
 
 abbrev pub invariant-loop-word : goal.invariant-loop-word
-invariant-loop-word l = l.pen ≡ flat_map line_text (take l.word-index l.words)
+invariant-loop-word l = l.text.items ≡ flat_map line_text (take l.word-index l.words)

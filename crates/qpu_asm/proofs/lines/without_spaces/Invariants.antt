@@ -1,6 +1,6 @@
-use Rattle.std.proofs.Common.{◌≡◌, drop}
-use Rattle.qpu_asm.specs.Lines.{words_of}
+use Rattle.std.proofs.Common.{◌≡◌, ℕ, ◌+◌, drop}
+use Rattle.qpu_asm.specs.Place.{placed_words}
 use Rattle.qpu_asm.proofs.lines.without_spaces.Given as goal
 
 abbrev pub invariant-loop-at : goal.invariant-loop-at
-invariant-loop-at l = words_of (drop l.at l.line) ≡ words_of l.fn.line
+invariant-loop-at l = (column : ℕ) → placed_words (column + l.at) (drop l.at l.line) ≡ placed_words column l.fn.line

@@ -1,6 +1,6 @@
-use Rattle.std.proofs.Common.{sym, ◌∙◌, arith}
-use Rattle.qpu_asm.specs.{Seen.rows_seen, Seen.spots_in}
-use Rattle.qpu_asm.proofs.Placing.{place_here, place_later, place_none}
+use Rattle.std.proofs.Common.{sym, ◌∙◌, ap, arith}
+use Rattle.qpu_asm.specs.{Seen.rows_seen, Seen.spots_in, Walk.read_item}
+use Rattle.qpu_asm.proofs.{Placing.place_here, Placing.place_later, Placing.place_none, Faults.item_told}
 use Rattle.qpu_asm.proofs.place.item_place.Goals as goal
 
 pub next_placed-requires : goal.next_placed-requires
@@ -8,22 +8,26 @@ next_placed-requires c = omega (arith, c.loop-placed.invariant.room, c.requires.
 
 pub returns-then-is_of : goal.returns-then-is_of
 returns-then-is_of c =
-    rw c.wanted_item.ensures
+    let read = read_item (spots_in c.args.labels.now) 0 (rows_seen c.args.of.rows.now) in
+    let told = item_told _ _ _ _ _ _ _ (c.put_item-partial.ensures ∙ ap (λ p. read p c.in-Some.placed.cut.first.now) c.without_fault.ensures) in
+    rw (c.wanted_item.ensures, c.rows_left-rows.ensures)
     (sym (sym c.loop-placed.invariant.same
-    ∙ place_here (spots_in c.args.labels.now) c.args.kind c.args.opcode (rows_seen c.args.all.now) (rows_seen c.loop-placed.rows.now) _ _ _ _ c.in-Some.ensures.words c.item_mistake.ensures
+    ∙ place_here (spots_in c.args.labels.now) c.args.kind c.args.opcode (rows_seen c.args.of.rows.now) c.loop-placed.partial.rows _ _ _ _ c.in-Some.ensures.words told.1
     (sym c.is_of.ensures ∙ c.if-is_of.true)))
 
 pub loop-placed-preserved : goal.loop-placed-preserved
-loop-placed-preserved c = record {
-  room = omega (arith, c.loop-placed.invariant.room, c.in-Some.ensures.inside);
-  ready = c.rows_after-rows.ensures.ready;
-  same =
-      rw c.rows_after-rows.ensures.rows
-      (place_later (spots_in c.args.labels.now) c.args.kind c.args.opcode (rows_seen c.args.all.now) (rows_seen c.loop-placed.rows.now) _ _ _ _ c.in-Some.ensures.words c.item_mistake.ensures
-      (sym c.is_of.ensures ∙ c.if-is_of.false) ∙ c.loop-placed.invariant.same);
-}
+loop-placed-preserved c =
+    let read = read_item (spots_in c.args.labels.now) 0 (rows_seen c.args.of.rows.now) in
+    let told = item_told _ _ _ _ _ _ _ (c.put_item-partial.ensures ∙ ap (λ p. read p c.in-Some.placed.cut.first.now) c.without_fault.ensures) in
+    record {
+      room = omega (arith, c.loop-placed.invariant.room, c.in-Some.ensures.inside);
+      same =
+          rw told.0
+          (place_later (spots_in c.args.labels.now) c.args.kind c.args.opcode (rows_seen c.args.of.rows.now) c.loop-placed.partial.rows _ _ _ _ c.in-Some.ensures.words told.1
+          (sym c.is_of.ensures ∙ c.if-is_of.false) ∙ c.loop-placed.invariant.same);
+    }
 
 pub returns : goal.returns
 returns c =
     sym (sym c.loop-placed.invariant.same
-    ∙ place_none (spots_in c.args.labels.now) c.args.kind c.args.opcode (rows_seen c.args.all.now) (rows_seen c.loop-placed.rows.now) _ c.in_default.ensures.words)
+    ∙ place_none (spots_in c.args.labels.now) c.args.kind c.args.opcode (rows_seen c.args.of.rows.now) c.loop-placed.partial.rows _ c.in_default.ensures.words)

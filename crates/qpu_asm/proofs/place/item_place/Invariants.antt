@@ -1,13 +1,12 @@
-use Rattle.std.proofs.Common.{◌≡◌, ◌≤◌, ◌+◌, length, true}
-use Rattle.qpu_asm.specs.{Place.placed_words, Place.item_place, Seen.rows_seen, Seen.spots_in, Walk.are_ready}
+use Rattle.std.proofs.Common.{◌≡◌, ◌≤◌, ◌+◌, length}
+use Rattle.qpu_asm.specs.{Place.placed_words, Place.item_place, Seen.rows_seen, Seen.spots_in}
 use Rattle.qpu_asm.proofs.place.item_place.Given as goal
 
--- the rows that may still come are ready, and the items that are left tell what all of them tell
+-- the items that are left tell what all of them tell
 pub record Going (l : goal.Live-loop-placed) : Type 0 where
   pub room : l.column + length l.rest ≤ l.fn.from + length l.fn.items
-  pub ready : are_ready (rows_seen l.rows) ≡ true
-  pub same : item_place (spots_in l.labels) l.kind l.opcode (rows_seen l.all) (rows_seen l.rows) (placed_words l.column l.rest)
-      ≡ item_place (spots_in l.labels) l.kind l.opcode (rows_seen l.all) (rows_seen l.all) (placed_words l.fn.from l.fn.items)
+  pub same : item_place (spots_in l.labels) l.kind l.opcode (rows_seen l.of.rows.now) l.partial.rows (placed_words l.column l.rest)
+      ≡ item_place (spots_in l.labels) l.kind l.opcode (rows_seen l.of.rows.now) (rows_seen l.of.rows.now) (placed_words l.fn.from l.fn.items)
 
 abbrev pub invariant-loop-placed : goal.invariant-loop-placed
 invariant-loop-placed l = Going l

@@ -1,7 +1,0 @@
-use Rattle.std.proofs.Common.{◌≡◌, take}
-use Rattle.std.specs.List.{list_all}
-use Rattle.qpu_asm.specs.Lines.{is_name_byte}
-use Rattle.qpu_asm.proofs.names.are_name_bytes.Given as goal
-
-abbrev pub invariant-loop-byte : goal.invariant-loop-byte
-invariant-loop-byte l = l.all ≡ list_all is_name_byte (take l.byte-index l.bytes)
