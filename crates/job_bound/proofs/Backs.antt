@@ -1,9 +1,9 @@
 -- A branch that leads back, of a shader that a handle names: there is one exactly where that shader, and so the file, has a loop. An
 -- instruction that may wait: there is one exactly where a program may.
-use Rattle.std.proofs.Common.{◌≡◌, ℕ, ◌+◌, ◌*◌, ◌<◌, Bool, false, List, length, Option, Some, None, refl, arith}
+use Rattle.std.proofs.Common.{◌≡◌, ℕ, zero, suc, ◌+◌, ◌*◌, ◌<◌, ◌≤◌, Bool, true, false, List, [], ◌∷◌, length, Option, Some, None, refl, arith, ◌∙◌}
 use Rattle.std.specs.Prelude.{slice_index}
-use Rattle.field_words.specs.Questions.{Question, first_of, each}
-use Rattle.field_words.proofs.Nones.{each_none}
+use Rattle.field_words.specs.Questions.{Question, Ask, first_of, each}
+use Rattle.field_words.proofs.{Questions.passes, Nones.each_none}
 use Rattle.shader_flow.specs.{Bounded.some_below, Flow.end_of, Flow.checked_of}
 use Rattle.shader_flow.proofs.Bounded.{some_below_none, some_below_not}
 use Rattle.job_format.specs.Model.{FileModel}
@@ -15,7 +15,21 @@ use Rattle.accepted_ends.specs.Bound.{loops, shader_named, job_loops, file_loops
 use Rattle.job_bound.specs.Back.{branch_question, branches, wait_question, wait_places, asked, handle_places, job_places, file_places, NoneWithoutLoop, NoneWhereServed}
 use Rattle.job_bound.specs.declared.named.Sought.{Sought}
 use Rattle.job_bound.specs.declared.named.Sought.TheVariants.{LeadsBack, MayWait}
-use Rattle.shader_waits.proofs.Served.{all_none, asked_none, none_asked}
+
+all_none : {F : Type 0} → (questions : ℕ → List (Question F)) (i n : ℕ) → ((k : ℕ) → i ≤ k → k < i + n → first_of (questions k) ≡ None) → first_of (each questions i n) ≡ None
+unfolding each
+all_none questions i zero none = refl
+all_none questions i (suc n) none =
+    passes (questions i) (each questions (i + 1) n) (none i (omega arith) (omega arith))
+    ∙ all_none questions (i + 1) n (λ k from below. none k (omega (arith, from)) (omega (arith, below)))
+
+asked_none : (b : Bool) (answer : ℕ) → b ≡ false → first_of (Ask b answer ∷ []) ≡ None
+asked_none true answer none = cc
+asked_none false answer none = refl
+
+none_asked : (b : Bool) (answer : ℕ) → first_of (Ask b answer ∷ []) ≡ None → b ≡ false
+none_asked true answer none = cc
+none_asked false answer none = refl
 
 -- So it is with a test of the items.
 none_from : {F : Type 0} → (questions : ℕ → List (Question F)) (test : ℕ → Bool) (n : ℕ) → ((k : ℕ) → k < n → test k ≡ false → first_of (questions k) ≡ None)

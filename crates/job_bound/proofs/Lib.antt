@@ -4,7 +4,7 @@ pub mod Items
 pub mod Lists
 pub mod Naming
 pub mod Packets
-pub mod Placed
 pub mod Settled
 pub mod Tiles
 pub mod Visits
+mod Counted

@@ -47,15 +47,15 @@ region_long f fit =
     length_placed (zeros size) (regions_parts f (length f.jobs)) (subst (λ k. PartsFit k (regions_parts f (length f.jobs))) (sym blank) fit) ∙ blank
 
 -- Where the lists of a job lie, and how long its binner list is, as they are told.
-pub layout_is : (f : FileModel) (j : ℕ) (layouts : List Layout) (layout : Layout) → layouts ≡ layouts_of f → j < length f.jobs → layout ≡ get_or layouts j layout → layout ≡ layout_of f j
+pub layout_is : (f : FileModel) (j : ℕ) (layouts : List Layout) (none : Layout) → layouts ≡ layouts_of f → j < length f.jobs → get_or layouts j none ≡ layout_of f j
 unfolding layouts_of
-layout_is f j layouts layout same inside read =
-    read ∙ ap (λ ls. get_or ls j layout) same ∙ get_or-map-range_with_len (layout_of f) 0 (length f.jobs) j j layout inside (zero-add j)
+layout_is f j layouts none same inside =
+    ap (λ ls. get_or ls j none) same ∙ get_or-map-range_with_len (layout_of f) 0 (length f.jobs) j j none inside (zero-add j)
 
-pub lengths_is : (f : FileModel) (j : ℕ) (all : List Lengths) (lengths : Lengths) → all ≡ all_lengths_of f → j < length f.jobs → lengths ≡ get_or all j lengths → lengths.bin ≡ length (bin_list_of f j)
+pub lengths_is : (f : FileModel) (j : ℕ) (all : List Lengths) (none : Lengths) → all ≡ all_lengths_of f → j < length f.jobs → (get_or all j none).bin ≡ length (bin_list_of f j)
 unfolding all_lengths_of lengths_of
-lengths_is f j all lengths same inside read =
-    ap (λ l. l.bin) (read ∙ ap (λ ls. get_or ls j lengths) same ∙ get_or-map-range_with_len (lengths_of f) 0 (length f.jobs) j j lengths inside (zero-add j))
+lengths_is f j all none same inside =
+    ap (λ l. l.bin) (ap (λ ls. get_or ls j none) same ∙ get_or-map-range_with_len (lengths_of f) 0 (length f.jobs) j j none inside (zero-add j))
 
 -- What was written into a memory stands there.
 written : (m region : List ℕ) (from at n : ℕ) → at + n ≤ length region → from + length region ≤ length m → take n (drop (from + at) (with_bytes m from region)) ≡ take n (drop at region)

@@ -1,12 +1,12 @@
 -- The shaders in buffers, and those that handles name.
-use Rattle.std.proofs.Common.{◌≡◌, ℕ, suc, ◌+◌, ◌<◌, ◌≤◌, true, ◌&&◌, not, max, List, [], ◌∷◌, ◌++◌, length, get_or, take, Some, None, refl, sym, ap, subst, arith, ◌∙◌, if◌then◌else◌, inl, inr, length-append}
-use Rattle.std.proofs.{lemmas.Bool.Decides.nat_tests, lemmas.Grind.common_steps, lemmas.List.get_or_append_left, lemmas.List.get_or_default}
-use Rattle.std.proofs.{Math.Seq.get_or-append_seam, lemmas.Bool.cases_lt, lemmas.List.Sums.sum_by_more, lemmas.List.Sums.sum-map}
+use Rattle.std.proofs.Common.{◌≡◌, ℕ, suc, ◌+◌, ◌<◌, ◌≤◌, true, ◌&&◌, not, max, List, [], ◌∷◌, ◌++◌, length, get_or, Some, None, refl, sym, ap, subst, arith, ◌∙◌, if◌then◌else◌, inl, inr, length-append}
+use Rattle.std.proofs.{lemmas.Bool.Decides.nat_tests, lemmas.Grind.common_steps, lemmas.List.get_or_append_left}
+use Rattle.std.proofs.{Math.Seq.get_or-append_seam, lemmas.Bool.cases_lt}
 use Rattle.std.specs.Prelude.{slice_index}
-use Rattle.buffer_table.specs.{declared.buffer.Buffer.Buffer, declared.buffer.Kind.Kind, Table.buffer_at, Table.past_end}
+use Rattle.buffer_table.specs.{declared.buffer.Kind.Kind, Table.buffer_at}
 use Rattle.buffer_table.specs.declared.buffer.Kind.TheVariants.{Plain, Code}
 use Rattle.buffer_table.specs.Handles.{AreNumbersOf, is_plain, is_named, code_of}
-use Rattle.job_format.specs.Model.{FileModel, JobModel}
+use Rattle.job_format.specs.Model.{FileModel}
 use Rattle.job_check.specs.{Jobs.job_of, Offsets.content_offset, Shaders.table_of, Shaders.content_of}
 use Rattle.accepted_ends.specs.Bound.{shader_in, shader_named, greatest_below}
 use Rattle.job_bound.specs.Bound.{code_for, code_in, IsProgramOf, AreProgramsUpTo, no_program}
@@ -37,16 +37,6 @@ pub greatest_none : (number : ℕ → ℕ) → greatest_below 0 number ≡ 0
 unfolding greatest_below
 greatest_none number = refl
 
--- where the contents of one buffer more stand
-pub offset_more : (f : FileModel) (b : ℕ) → b < length f.buffers → content_offset f (b + 1) ≡ content_offset f b + (buffer_at f.buffers b).content
-unfolding content_offset buffer_at
-offset_more f b below =
-    let content : Buffer → ℕ = λ x. x.content in
-    let more = sum_by_more content f.buffers b past_end below in
-    let after = sum-map content (take (b + 1) f.buffers) in
-    let before = sum-map content (take b f.buffers) in
-    omega (arith, more, after, before)
-
 -- One program more.
 pub programs_more : (f : FileModel) (n : ℕ) (programs : List Program) (program : Program) → AreProgramsUpTo f n programs → IsProgramOf (code_in f n) (content_offset f n) program
     → AreProgramsUpTo f (n + 1) (programs ++ program ∷ [])
@@ -63,12 +53,7 @@ programs_more f n programs program all one = record {
       ];
 }
 
--- A handle of a job that was read is the file's, and what is kept of the buffer that it names is kept of what it names.
-pub handle_is : (f : FileModel) (j i : ℕ) (job : JobModel) (number : ℕ) → job ≡ job_of f j → i < length (job_of f j).handles → number ≡ get_or job.handles i number
-    → number ≡ slice_index (job_of f j).handles i
-handle_is f j i job number same inside read =
-    read ∙ ap (λ one. get_or one.handles i number) same ∙ get_or_default (job_of f j).handles i number 0 inside
-
+-- What is kept of the buffer that a handle names is kept of what it names.
 pub program_is : (f : FileModel) (j i number : ℕ) (programs : List Program) → AreNumbersOf (table_of f) (job_of f j).handles → AreProgramsUpTo f (length f.buffers) programs
     → i < length (job_of f j).handles → number ≡ slice_index (job_of f j).handles i
     → (number < length programs) × IsProgramOf (shader_named f j i) (content_offset f (slice_index (job_of f j).handles i)) (get_or programs number no_program)

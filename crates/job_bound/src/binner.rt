@@ -2,7 +2,7 @@
 ghost use Rattle.std.specs.Prelude.{◌≡◌, ◌<◌, ◌≤◌, ◌+◌, ◌*◌, ◌/◌, length};
 ghost use Rattle.field_words.specs.Sizes.{most_list};
 ghost use Rattle.field_words.specs.Words.{u32_at};
-ghost use Rattle.bin_list.specs.Packets.{opcode, front_packet, behind, packets};
+ghost use Rattle.bin_list.specs.Packets.{packets};
 ghost use Rattle.list_machine.specs.Binner.{work_of};
 ghost use Rattle.list_machine.specs.Lists.{most_items};
 ghost use Rattle.ends_law.specs.Left.{IsWhole, AllWhole};
@@ -10,25 +10,11 @@ ghost use Rattle.ends_law.specs.Room.{items_within, room_in, room_of};
 ghost use Rattle.ends_law.specs.Steps.{draws, work_steps, packet_steps, bin_steps};
 ghost use Rattle.job_bound.specs.Bound.{most_program, most_packet};
 
+use bin_list::split_front;
 use byteorder::{ByteOrder, LittleEndian};
 use field_words::round_up;
-use packets::opcode::{ARRAY_PRIMITIVE_LIST, HALT, INDEXED_PRIMITIVE_LIST, TILE_BINNING_MODE};
-use packets::{Config, bin_taken, config_in};
-
-/// The packet at the front of the bytes, and the bytes behind it that are still read: none behind a halt.
-#[tactic(auto, unfolding(bin_list::specs::Packets::front_packet, bin_list::specs::Packets::behind), using(bin_list::proofs::Cutting::drop_min, bin_list::proofs::Cutting::take_min))]
-fn split_front(bytes: &[u8]) -> (&[u8], &[u8])
-    requires { 1 ≤ length bytes.now }
-    ensures packet { result.0.now ≡ front_packet bytes.now }
-    ensures rest { result.1.now ≡ behind bytes.now }
-{
-    let taken = bin_taken(bytes[0]) as usize;
-    let (packet, rest) = bytes.split_at(taken.min(bytes.len()));
-    if bytes[0] == HALT {
-        return (packet, &rest[..0]);
-    }
-    (packet, rest)
-}
+use packets::opcode::{ARRAY_PRIMITIVE_LIST, INDEXED_PRIMITIVE_LIST, TILE_BINNING_MODE};
+use packets::{Config, config_in};
 
 /// Whether the packet draws a primitive.
 #[tactic(auto, unfolding(ends_law::specs::Steps::draws))]

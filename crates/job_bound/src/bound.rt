@@ -3,7 +3,7 @@ ghost use Rattle.std.specs.Prelude.{◌≡◌, ◌<◌, ◌≤◌, ◌+◌, ◌*
 ghost use Rattle.field_words.specs.Sizes.{most_list};
 ghost use Rattle.field_words.specs.Questions.{Answers, NamesFirst, NeverHidesFault};
 ghost use Rattle.job_format.specs.File.{IsWellFormed, Fits};
-ghost use Rattle.job_format.specs.Model.{file_view};
+ghost use Rattle.job_format.specs.Parts.{parts_view};
 ghost use Rattle.render_list.specs.Frame.{IsTileSet};
 ghost use Rattle.render_list.specs.Text.{number_where};
 ghost use Rattle.list_machine.specs.Lists.{most_items};
@@ -15,13 +15,12 @@ ghost use Rattle.accepted_ends.specs.Bound.{longest_of, job_bound, bound_of};
 ghost use Rattle.job_bound.specs.Bound.{bound_in, most_program, most_job};
 
 use crate::binner::{bin_steps, room};
-use crate::jobs::job_at;
 use crate::named::{Sought, first_place, longest};
 use crate::programs::programs_of;
 use crate::renderer::frame_steps;
-use field_words::{NoMemory, Stop};
-use job_check::{Region, check_lists};
-use job_format::{Frame, JobFile, Refusal};
+use field_words::{MOST_MEMORY, NoMemory, Stop};
+use job_check::{Region, check_parts, job_at};
+use job_format::{FileParts, Frame, Refusal};
 use std::alloc::Global;
 
 /// What is known of how many steps the jobs of a file take.
@@ -41,30 +40,30 @@ pub enum Bound {
 }
 
 /// Where in the region the binner list of the job of this number begins.
-fn bin_place(file: &JobFile, number: usize, region: &Region) -> usize
-    requires region { IsRegion (file_view file.now) region.now }
+fn bin_place(file: &FileParts, number: usize, region: &Region) -> usize
+    requires region { IsRegion (parts_view file.now) region.now }
     requires inside { number < length file.now.jobs.items }
-    ensures { result ≡ region_from (file_view file.now) number + (layout_of (file_view file.now) number).bin }
+    ensures { result ≡ region_from (parts_view file.now) number + (layout_of (parts_view file.now) number).bin }
 {
-    let layout = &region.layouts[number];
+    let layout = region.layouts.as_slice()[number];
     (layout.place - file.regions.lists_place) as usize + layout.bin as usize
 }
 
 /// How many bytes the binner list of the job of this number has.
-fn bin_length(file: &JobFile, number: usize, region: &Region) -> usize
-    requires region { IsRegion (file_view file.now) region.now }
+fn bin_length(file: &FileParts, number: usize, region: &Region) -> usize
+    requires region { IsRegion (parts_view file.now) region.now }
     requires inside { number < length file.now.jobs.items }
-    ensures { result ≡ length (bin_list_of (file_view file.now) number) }
+    ensures { result ≡ length (bin_list_of (parts_view file.now) number) }
 {
-    region.lengths[number].bin as usize
+    region.lengths.as_slice()[number].bin as usize
 }
 
 /// The binner list that the hardware is given for the job of this number.
-fn bin_list<'a>(file: &JobFile, number: usize, region: &'a Region) -> &'a [u8]
-    requires faultless { IsFaultless (file_view file.now) }
-    requires region { IsRegion (file_view file.now) region.now }
+fn bin_list<'a>(file: &FileParts, number: usize, region: &'a Region) -> &'a [u8]
+    requires faultless { IsFaultless (parts_view file.now) }
+    requires region { IsRegion (parts_view file.now) region.now }
     requires inside { number < length file.now.jobs.items }
-    ensures value { result.now ≡ bin_list_of (file_view file.now) number }
+    ensures value { result.now ≡ bin_list_of (parts_view file.now) number }
     ensures short { length result.now ≤ most_list }
 {
     let from = bin_place(file, number, region);
@@ -73,18 +72,19 @@ fn bin_list<'a>(file: &JobFile, number: usize, region: &'a Region) -> &'a [u8]
 
 /// Whether the job of this number has a binner list.
 #[tactic(auto, unfolding(job_check::specs::Jobs::has_bin))]
-fn has_bin(file: &JobFile, number: usize) -> bool
-    requires { number < length file.now.jobs.items }
-    ensures { result ≡ has_bin (file_view file.now) number }
+fn has_bin(file: &FileParts, number: usize) -> bool
+    requires faultless { IsFaultless (parts_view file.now) }
+    requires inside { number < length file.now.jobs.items }
+    ensures { result ≡ has_bin (parts_view file.now) number }
 {
     job_at(file, number).bin.len() != 0
 }
 
 /// The frame of the job of this number.
-fn frame_at(file: &JobFile, number: usize) -> &Frame
-    requires faultless { IsFaultless (file_view file.now) }
+fn frame_at<'a>(file: &'a FileParts, number: usize) -> &'a Frame
+    requires faultless { IsFaultless (parts_view file.now) }
     requires inside { number < length file.now.jobs.items }
-    ensures value { result.now ≡ (job_of (file_view file.now) number).frame }
+    ensures value { result.now ≡ (job_of (parts_view file.now) number).frame }
     ensures set { IsTileSet result.now }
 {
     &job_at(file, number).frame
@@ -102,13 +102,13 @@ fn items_steps(room: u64, has_bin: bool) -> u128
 }
 
 /// The most steps of the job of this number.
-fn job_bound(file: &JobFile, number: usize, region: &Region, longest: u32) -> u128
-    requires faultless { IsFaultless (file_view file.now) }
+fn job_bound(file: &FileParts, number: usize, region: &Region, longest: u32) -> u128
+    requires faultless { IsFaultless (parts_view file.now) }
     requires inside { number < length file.now.jobs.items }
-    requires region { IsRegion (file_view file.now) region.now }
-    requires longest { longest ≡ longest_of (file_view file.now) }
+    requires region { IsRegion (parts_view file.now) region.now }
+    requires longest { longest ≡ longest_of (parts_view file.now) }
     requires few { longest ≤ most_program }
-    ensures value { result ≡ job_bound (file_view file.now) number }
+    ensures value { result ≡ job_bound (parts_view file.now) number }
     ensures limit { result ≤ most_job }
 {
     let has_bin = has_bin(file, number);
@@ -120,12 +120,12 @@ fn job_bound(file: &JobFile, number: usize, region: &Region, longest: u32) -> u1
 }
 
 /// The most steps of all jobs.
-fn all_steps(file: &JobFile, region: &Region, longest: u32) -> u128
-    requires faultless { IsFaultless (file_view file.now) }
-    requires region { IsRegion (file_view file.now) region.now }
-    requires longest { longest ≡ longest_of (file_view file.now) }
+fn all_steps(file: &FileParts, region: &Region, longest: u32) -> u128
+    requires faultless { IsFaultless (parts_view file.now) }
+    requires region { IsRegion (parts_view file.now) region.now }
+    requires longest { longest ≡ longest_of (parts_view file.now) }
     requires few { longest ≤ most_program }
-    ensures { result ≡ bound_of (file_view file.now) }
+    ensures { result ≡ bound_of (parts_view file.now) }
 {
     let mut steps = 0;
     for number in 0..file.jobs.len() {
@@ -136,10 +136,10 @@ fn all_steps(file: &JobFile, region: &Region, longest: u32) -> u128
 
 /// The bound of an accepted file with these lists.
 #[tactic(auto, unfolding(crate::specs::Bound::bound_in))]
-fn bound_with(alloc: Global, file: &JobFile, region: &Region) -> Result<Bound, NoMemory>
-    requires faultless { IsFaultless (file_view file.now) }
-    requires region { IsRegion (file_view file.now) region.now }
-    ensures { IfOk result (λ bound. bound ≡ bound_in (file_view file.now)) }
+fn bound_with(alloc: Global, file: &FileParts, region: &Region) -> Result<Bound, NoMemory>
+    requires faultless { IsFaultless (parts_view file.now) }
+    requires region { IsRegion (parts_view file.now) region.now }
+    ensures { IfOk result (λ bound. bound ≡ bound_in (parts_view file.now)) }
 {
     let programs = programs_of(alloc, file)?;
     if let Some(offset) = first_place(file, &programs, Sought::LeadsBack) {
@@ -159,12 +159,12 @@ fn bound_with(alloc: Global, file: &JobFile, region: &Region) -> Result<Bound, N
 ///
 /// # Errors
 /// The first rule that stands, with its place in the file; or want of memory, which never hides a rule of the memory table.
-pub fn find_bound(alloc: Global, file: &JobFile) -> Result<Bound, Stop<Refusal>>
-    requires well_formed { IsWellFormed (file_view file.now) }
-    requires fits { Fits (file_view file.now) }
-    ensures answers { Answers (file_stages (file_view file.now)) (λ bound. bound ≡ bound_in (file_view file.now)) result }
-    ensures memory { NeverHidesFault (table_stage (file_view file.now)) result }
+pub fn find_bound(alloc: Global, file: &FileParts) -> Result<Bound, Stop<Refusal>>
+    requires well_formed { IsWellFormed (parts_view file.now) }
+    requires fits { Fits (parts_view file.now) }
+    ensures answers { Answers (file_stages (parts_view file.now)) (λ bound. bound ≡ bound_in (parts_view file.now)) result }
+    ensures memory { NeverHidesFault (table_stage (parts_view file.now)) result }
 {
-    let region = check_lists(alloc, file)?;
+    let region = check_parts(alloc, MOST_MEMORY, file, None)?;
     Ok(bound_with(alloc, file, &region)?)
 }

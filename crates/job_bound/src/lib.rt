@@ -10,11 +10,12 @@
 mod back;
 mod binner;
 mod bound;
-mod jobs;
+mod counts;
 mod named;
 mod programs;
 mod renderer;
 mod text;
+mod wait;
 
 ghost use Rattle.job_bound.specs.Back.{NoneWithoutLoop, NoneWhereServed};
 ghost use Rattle.job_bound.specs.Law.{BoundHolds, EndHolds};
@@ -23,6 +24,7 @@ pub use bound::{Bound, find_bound};
 pub use named::Sought;
 pub use programs::Program;
 pub use text::{bound_bytes, bound_text};
+pub use wait::find_wait;
 
 /// There is a branch that leads back in a shader that a handle names exactly where the jobs of the file have a loop.
 #[tactic(auto, using(crate::proofs::Backs::none_without_loop))]

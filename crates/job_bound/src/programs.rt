@@ -1,25 +1,21 @@
 //! The shaders of a file, each looked at once.
 ghost use Rattle.std.specs.Prelude.{◌≡◌, ◌<◌, ◌≤◌, ◌^◌, length, IfOk, Some};
 ghost use Rattle.field_words.specs.Sizes.{most_code};
-ghost use Rattle.buffer_table.specs.Table.{buffer_at};
-ghost use Rattle.buffer_table.specs.declared.buffer.Kind.TheVariants.{Code as CodeKind};
 ghost use Rattle.shader_flow.specs.Flow.{EndsAt};
 ghost use Rattle.job_format.specs.File.{IsWellFormed};
-ghost use Rattle.job_format.specs.Model.{file_view};
-ghost use Rattle.job_check.specs.Offsets.{content_offset};
-ghost use Rattle.job_check.specs.Shaders.{words_of, content_of};
+ghost use Rattle.job_format.specs.Parts.{parts_view};
+ghost use Rattle.job_check.specs.Shaders.{words_of};
 ghost use Rattle.ends_law.specs.Loops.{instruction_steps, program_steps};
-ghost use Rattle.job_bound.specs.Back.{placed};
 ghost use Rattle.job_bound.specs.Bound.{code_in, most_program, IsProgramOf, AreProgramsOf};
 
 use crate::back::first_back;
+use crate::wait::find_wait;
 use buffer_table::Kind;
 use field_words::NoMemory;
-use job_check::words_of;
-use job_format::{ENTRY_SIZE, HEADER_SIZE, JOB_SIZE, JobFile};
+use job_check::{content_at, content_offset, words_of};
+use job_format::FileParts;
 use qpu_isa::writes::writes_s;
 use shader_flow::{checked, flow};
-use shader_waits::find_wait;
 use std::alloc::Global;
 
 /// What is kept of the shader in a buffer: the most steps of a program of it, where it doesn't loop, and where in the file its first
@@ -30,16 +26,6 @@ pub struct Program {
     pub steps: u32,
     pub back: Option<u64>,
     pub wait: Option<u64>,
-}
-
-/// The contents of buffer `b`.
-fn content_at(file: &JobFile, b: usize) -> &[u8]
-    requires well_formed { IsWellFormed (file_view file.now) }
-    requires inside { b < length file.now.buffers.items }
-    ensures value { result.now ≡ content_of (file_view file.now) b }
-    ensures few { (buffer_at file.now.buffers.items b).kind ≡ CodeKind → length result.now ≤ most_code }
-{
-    &file.contents[b]
 }
 
 /// The steps of an instruction: its own, and that of the texture unit which serves what it asks for.
@@ -69,17 +55,6 @@ fn program_steps(code: &[u64], end: u32) -> u32
     steps
 }
 
-/// Where in the file the instruction of this number stands, of a shader that begins at `place`.
-fn place_of(found: Option<u32>, place: u64) -> Option<u64>
-    requires { place < 2 ^ 62 }
-    ensures { result ≡ placed place found }
-{
-    match found {
-        None => None,
-        Some(at) => Some(place + 8 * u64::from(at)),
-    }
-}
-
 /// The shader that these bytes hold, which stand at `place` in the file.
 fn program_in(alloc: Global, bytes: &[u8], place: u64) -> Result<Program, NoMemory>
     requires few { length bytes.now ≤ most_code }
@@ -88,21 +63,20 @@ fn program_in(alloc: Global, bytes: &[u8], place: u64) -> Result<Program, NoMemo
 {
     let code = words_of(alloc, bytes)?;
     let end = flow(alloc, &code)?.end;
-    let wait = find_wait(alloc, &code, end)?;
     Ok(Program {
         steps: program_steps(&code, end),
         back: first_back(&code, end, place),
-        wait: place_of(wait, place),
+        wait: find_wait(alloc, &code, end, place)?,
     })
 }
 
 /// The shader in buffer `b`, whose contents stand at `place` in the file.
 #[tactic(auto, unfolding(crate::specs::Bound::code_in, buffer_table::specs::Table::buffer_at))]
-fn program_at(alloc: Global, file: &JobFile, b: usize, place: u64) -> Result<Program, NoMemory>
-    requires well_formed { IsWellFormed (file_view file.now) }
+fn program_at(alloc: Global, file: &FileParts, b: usize, place: u64) -> Result<Program, NoMemory>
+    requires well_formed { IsWellFormed (parts_view file.now) }
     requires inside { b < length file.now.buffers.items }
     requires low { place < 2 ^ 62 }
-    ensures { IfOk result (IsProgramOf (code_in (file_view file.now) b) place) }
+    ensures { IfOk result (IsProgramOf (code_in (parts_view file.now) b) place) }
 {
     match file.buffers[b].kind {
         Kind::Plain => Ok(Program {
@@ -114,27 +88,14 @@ fn program_at(alloc: Global, file: &JobFile, b: usize, place: u64) -> Result<Pro
     }
 }
 
-/// Where in the file the contents of the first buffer stand.
-#[tactic(auto, unfolding(job_check::specs::Offsets::content_offset, job_check::specs::Offsets::job_offset))]
-fn contents_place(file: &JobFile) -> u64
-    requires { IsWellFormed (file_view file.now) }
-    ensures value { result ≡ content_offset (file_view file.now) 0 }
-    ensures low { result < 2 ^ 32 }
-{
-    let entries = ENTRY_SIZE as u64 * file.buffers.len() as u64;
-    HEADER_SIZE as u64 + entries + JOB_SIZE as u64 * file.jobs.len() as u64
-}
-
 /// The shaders of all buffers, of which one may be named by many handles.
-pub fn programs_of(alloc: Global, file: &JobFile) -> Result<Vec<Program>, NoMemory>
-    requires { IsWellFormed (file_view file.now) }
-    ensures { IfOk result (λ programs. AreProgramsOf (file_view file.now) programs.items) }
+pub fn programs_of(alloc: Global, file: &FileParts) -> Result<Vec<Program>, NoMemory>
+    requires { IsWellFormed (parts_view file.now) }
+    ensures { IfOk result (λ programs. AreProgramsOf (parts_view file.now) programs.items) }
 {
     let mut programs = Vec::new(alloc);
-    let mut place = contents_place(file);
     for b in 0..file.buffers.len() {
-        programs.push(program_at(alloc, file, b, place)?)?;
-        place += u64::from(file.buffers[b].content);
+        programs.push(program_at(alloc, file, b, content_offset(file, b))?)?;
     }
     Ok(programs)
 }

@@ -10,7 +10,7 @@ ghost use Rattle.job_bound.specs.Bound.{bound_in, text_of, bound_text};
 use crate::bound::{Bound, find_bound};
 use field_words::{NoMemory, Stop};
 use job_check::format_refusal;
-use job_format::{Refusal, read_job};
+use job_format::{Refusal, read_parts};
 use std::alloc::Global;
 
 /// The lines that are printed of a bound.
@@ -43,7 +43,7 @@ pub fn bound_bytes(alloc: Global, bytes: &[u8]) -> Result<Bound, Stop<Refusal>>
     ensures format { NeverHidesFault (answered format_refused (format_questions bytes.now)) result }
     ensures spelled { IsOk result → IsFileOf bytes.now (file_at bytes.now) }
 {
-    match read_job(alloc, bytes) {
+    match read_parts(alloc, bytes) {
         Ok(file) => find_bound(alloc, &file),
         Err(stop) => Err(format_refusal(stop)),
     }

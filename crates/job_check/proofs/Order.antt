@@ -2,19 +2,13 @@
 use Rattle.std.proofs.Common.{◌≡◌, ℕ, true, false, inl, inr, ◌+◌, ◌<◌, ◌≤◌, List, ◌++◌, Some, None, Result, Ok, Err, IfOk, refl, sym, subst, ◌∙◌}
 use Rattle.std.proofs.lemmas.Bool.{le-ltb, lt-ltb, cases_lt, false≢true}
 use Rattle.std.specs.Result.{IsErrAnd}
-use Rattle.field_words.specs.{declared.stop.Stop.Stop, declared.stop.Stop.TheVariants.Fault, declared.stop.Stop.TheVariants.NoMemory}
+use Rattle.field_words.specs.{declared.stop.Stop.Stop}
 use Rattle.field_words.specs.Questions.{Question, first_of, Refuses, Answers}
-use Rattle.field_words.proofs.{Questions.passes, Questions.stops, Questions.stands_none, Nones.front_none}
+use Rattle.field_words.proofs.{Questions.stands_none, Nones.front_none}
 use Rattle.job_format.specs.{Model.FileModel, declared.rule.Stage.TheVariants.X}
 use Rattle.relocation.specs.Layout.{region_end}
 use Rattle.job_check.specs.Faults.{refused, layout_stage, table_stage, shaders_stage, jobs_stages, file_stages, stages_within}
 use Rattle.job_check.specs.{Jobs.layout_of, Offsets.job_offset, Offsets.layout_offset}
-
--- Rules after the front of which none stands change no answer.
-pub answers_front : {X F : Type 0} (front rest : List (Question F)) (P : X → Type 0) (result : Result X (Stop F)) → first_of rest ≡ None → Answers front P result → Answers (front ++ rest) P result
-answers_front front rest P (Ok made) none answers = (passes front rest answers.0 ∙ none, answers.1)
-answers_front front rest P (Err (Fault f)) none answers = stops front rest f answers
-answers_front front rest P (Err NoMemory) none answers = tt
 
 -- What leaves by a `?` is the fault that it was.
 pub exits : {X F : Type 0} (questions : List (Question F)) (P : X → Type 0) (result : Result X (Stop F)) (stop : Stop F) → IsErrAnd result (λ e. e ≡ stop) → Refuses questions stop → Answers questions P result

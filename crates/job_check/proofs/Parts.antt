@@ -1,6 +1,6 @@
 -- Putting the contents of buffers one after the other.
 use Rattle.std.proofs.Common.{◌≡◌, ℕ, ◌+◌, ◌<◌, ◌≤◌, List, [], ◌∷◌, length, get_or, map, drop, sym, ap, subst, ◌∙◌}
-use Rattle.std.proofs.{lemmas.List.drop_more, Math.Seq.drop-length}
+use Rattle.std.proofs.{lemmas.List.drop_more}
 use Rattle.field_words.specs.Writes.{with_bytes}
 use Rattle.field_words.proofs.Writes.{length-with_bytes}
 use Rattle.buffer_table.specs.declared.buffer.Buffer.{Buffer}
@@ -28,11 +28,6 @@ fit_step size f buffers xs k d x hb hx e fit =
     let two : ContentsFit size (get_or buffers k d ∷ drop (k + 1) buffers) (f (get_or xs k x) ∷ map f (drop (k + 1) xs)) =
     subst (λ ys. ContentsFit size (get_or buffers k d ∷ drop (k + 1) buffers) (map f ys)) (drop_more xs k x hx) one in
     subst (λ y. ContentsFit size (get_or buffers k d ∷ drop (k + 1) buffers) (f y ∷ map f (drop (k + 1) xs))) (sym e) two
-
-pub parts_end : {X : Type 0} (f : X → List ℕ) (buffers : List Buffer) (xs : List X)
-    → content_parts (drop (length buffers) buffers) (map f (drop (length buffers) xs)) ≡ []
-unfolding content_parts
-parts_end f buffers xs = ap (λ bs. content_parts bs (map f (drop (length buffers) xs))) (drop-length buffers)
 
 -- contents that are shorter than their buffers' room fit
 pub same_size : (memory : List ℕ) (place : ℕ) (bytes : List ℕ) (size : ℕ) → place + length bytes ≤ length memory → length memory ≡ size

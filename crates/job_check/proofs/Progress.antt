@@ -8,10 +8,10 @@ use Rattle.field_words.proofs.Questions.{each_on, each_stop, each_end}
 use Rattle.buffer_table.specs.Sound.{IsSound}
 use Rattle.job_format.specs.{declared.rule.Refusal.Refusal, Model.FileModel}
 use Rattle.relocation.specs.{declared.layout.Layout.Layout, declared.layout.Lengths.Lengths, Layout.region_end, Layout.begins_after}
-use Rattle.job_check.specs.Emit.{PartsFit, list_parts, lengths_of, all_lengths_of, InOrder, IsInside, IsPlacedFor, ArePlaced}
-use Rattle.job_check.specs.Region.{region_size, region_from, region_parts, regions_parts, region_of, IsRegion, IsSingle}
-use Rattle.job_check.specs.{declared.region.Region.Region, declared.region.Single.Single, Faults.job_stages}
-use Rattle.job_check.specs.Jobs.{lists_room, lists_begin, layout_of, end_of, layouts_of}
+use Rattle.job_check.specs.Emit.{PartsFit, list_parts, lengths_of, all_lengths_of, InOrder, IsInside, IsPlacedFor}
+use Rattle.job_check.specs.Region.{region_size, region_from, region_parts, regions_parts, region_of, IsRegion}
+use Rattle.job_check.specs.{declared.region.Region.Region, Faults.job_stages}
+use Rattle.job_check.specs.Jobs.{lists_room, lists_begin, layout_of, layouts_of}
 use Rattle.job_check.proofs.Regions.{emitted_grown, fit_more, fit_moved, fit_append, size_more, size_before, from_is, zeros_long}
 use Rattle.job_check.proofs.{Emission.placed-append, Layouts.layout_order, Layouts.next_inside, Windows.length_placed}
 
@@ -131,50 +131,19 @@ refused f n bytes layouts lengths place (Fault refusal) so_far below refuses = s
 refused f n bytes layouts lengths place NoMemory so_far below refuses = tt
 
 -- All have passed: no rule stands of any, and the bytes are the region.
-record Passed (f : FileModel) (bytes : List ℕ) : Type 0 where
-  pub none_stands : first_of (each (job_stages f) 0 (length f.jobs)) ≡ None
-  pub bytes_are : bytes ≡ region_of f
-  pub fits : f.regions.lists_place + length (region_of f) ≤ region_end f.regions
-
-passed : (f : FileModel) (n : ℕ) (bytes : List ℕ) (layouts : List Layout) (lengths : List Lengths) (place : ℕ)
-    → SoFar f n bytes layouts lengths place → n ≡ length f.jobs → Passed f bytes
-unfolding region_of
-passed f n bytes layouts lengths place so_far end =
-    let bytes_are = so_far.bytes_are ∙ ap (λ k. emitted (region_size f k) (regions_parts f k)) end in
-    let long : length (region_of f) ≡ region_size f n = sym (ap length bytes_are) ∙ so_far.size in record {
-      none_stands = sym so_far.asked ∙ each_end (job_stages f) n (length f.jobs) (omega (arith, end));
-      bytes_are = bytes_are;
-      fits = omega (arith, long, so_far.room);
-    }
-
 pub all : (f : FileModel) (n : ℕ) (place : ℕ) (region : Region) → SoFar f n region.bytes.items region.layouts.items region.lengths.items place → n ≡ length f.jobs
     → (first_of (each (job_stages f) 0 (length f.jobs)) ≡ None) × IsRegion f region
-unfolding layouts_of all_lengths_of
+unfolding layouts_of all_lengths_of region_of
 all f n place region so_far end =
-    let whole = passed f n region.bytes.items region.layouts.items region.lengths.items place so_far end in (
-      whole.none_stands,
+    let bytes_are = so_far.bytes_are ∙ ap (λ k. emitted (region_size f k) (regions_parts f k)) end in
+    let long : length (region_of f) ≡ region_size f n = sym (ap length bytes_are) ∙ so_far.size in (
+      sym so_far.asked ∙ each_end (job_stages f) n (length f.jobs) (omega (arith, end)),
       record {
-        bytes_are = whole.bytes_are;
+        bytes_are = bytes_are;
         layouts_are = so_far.layouts_are ∙ ap (λ k. map (layout_of f) (range_with_len 0 k)) end;
         lengths_are = so_far.lengths_are ∙ ap (λ k. map (lengths_of f) (range_with_len 0 k)) end;
-        fits = whole.fits;
+        fits = omega (arith, long, so_far.room);
         parts_fit = subst (λ k. PartsFit (region_size f k) (regions_parts f k)) end so_far.fit;
         each_job = so_far.inside;
       },
-    )
-
--- the only one has
-pub only : (f : FileModel) (bytes : List ℕ) (single : Single) → SoFar f 0 bytes [] [] f.regions.lists_place → IsSound f.mem_size f.regions f.buffers → length f.jobs ≡ 1
-    → first_of (job_stages f 0) ≡ None → ArePlaced f 0 single.lists
-    → single.bytes.items ≡ placed (bytes ++ zeros (region_size f 1 - length bytes)) (region_parts f 0) → PartsFit (layout_of f 0).end (list_parts f 0)
-    → end_of single.lists.layout ≤ region_end f.regions
-    → (first_of (each (job_stages f) 0 (length f.jobs)) ≡ None) × IsSingle f single
-only f bytes single before sound one passes is put fit inside =
-    let layout = single.lists.layout in
-    let long = single.lists.lengths in
-    let begin = begins_after layout.place layout.end in
-    let so_far = next f 0 bytes single.bytes.items [] [] f.regions.lists_place begin layout long before sound (omega (arith, one)) passes is put fit inside refl in
-    let whole = passed f 1 single.bytes.items (layout ∷ []) (long ∷ []) begin so_far (sym one) in (
-      whole.none_stands,
-      record { bytes_are = whole.bytes_are; placed = is; fits = whole.fits; inside = so_far.inside.0 },
     )

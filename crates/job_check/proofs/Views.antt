@@ -1,17 +1,16 @@
 -- What a job in view gives its methods.
-use Rattle.std.proofs.Common.{◌≡◌, ℕ, ◌+◌, ◌≤◌, Bool, true, false, List, [], ◌++◌, length, take, drop, is_some, Some, None, Option, refl, sym, ap, subst, arith, add-zero, ◌∙◌}
+use Rattle.std.proofs.Common.{◌≡◌, ℕ, ◌+◌, ◌≤◌, Bool, true, false, List, [], ◌++◌, length, take, drop, is_some, Some, None, Option, refl, sym, ap, arith, add-zero, ◌∙◌}
 use Rattle.std.proofs.lemmas.List.{take-append-drop}
 use Rattle.std.specs.Prelude.{if◌then◌else◌}
-use Rattle.field_words.specs.{Writes.placed, Writes.with_bytes, declared.stop.Stop.Stop}
-use Rattle.field_words.specs.Questions.{first_of, answered, Refuses}
+use Rattle.field_words.specs.{Writes.placed, Writes.with_bytes}
+use Rattle.field_words.specs.Questions.{first_of, answered}
 use Rattle.field_words.proofs.Questions.{answered_none, answered_some}
-use Rattle.phys_mem.specs.Window.{window_of, with_window}
 use Rattle.buffer_table.specs.Table.{TableModel}
-use Rattle.job_format.specs.{declared.file.Frame.Frame, declared.rule.Refusal.Refusal, Model.FileModel, Model.JobModel}
-use Rattle.relocation.specs.{declared.layout.Layout.Layout, declared.layout.Lengths.Lengths, Layout.region_end}
+use Rattle.job_format.specs.{declared.file.Frame.Frame, Model.FileModel, Model.JobModel}
+use Rattle.relocation.specs.{declared.layout.Layout.Layout, declared.layout.Lengths.Lengths}
 use Rattle.render_list.specs.{Frame.IsTileSet, Frame.IsSetupFor, Length.render_length, Text.render_text}
 use Rattle.render_list.proofs.Length.{length_render}
-use Rattle.bin_list.specs.{declared.info.BinInfo.BinInfo, declared.state.State.State, declared.fault.ListFault.ListFault, Seen.seen_before}
+use Rattle.bin_list.specs.{declared.info.BinInfo.BinInfo, declared.state.State.State, Seen.seen_before}
 use Rattle.bin_list.specs.{Packets.packets, Packets.passed, States.states_of, Emitted.bin_text, Info.IsInfo, Rules.bin_questions}
 use Rattle.qpu_isa.specs.Shader.{ShaderModel}
 use Rattle.shader_records.specs.{declared.fault.RecordFault.RecordFault, Inputs.InputModel, Rules.all_questions, Emitted.streams_place}
@@ -20,8 +19,8 @@ use Rattle.shader_records.proofs.Lengths.{length_records, length_uniforms, offse
 use Rattle.job_check.specs.Jobs.{job_of, has_bin, grid_from, grid_of, slot_of, places_in, render_list_of, layout_of, states_in, input_for, bin_list_of, records_of, streams_of}
 use Rattle.job_check.specs.Faults.{bin_refused, bin_stage, record_refused, records_stage, surfaces_stage, lists_stages}
 use Rattle.job_check.specs.{Shaders.table_of, Context.InView, Context.IsContext, Told.IsBinOf}
-use Rattle.job_check.specs.Emit.{PartsFit, list_parts, later_parts, moved, memory_parts, lengths_of}
-use Rattle.job_check.proofs.{Layouts.room_is, Layouts.layout_numbers, Layouts.layout_apart, Layouts.lists_inside, Windows.window_placed}
+use Rattle.job_check.specs.Emit.{PartsFit, list_parts, later_parts, lengths_of}
+use Rattle.job_check.proofs.{Layouts.room_is, Layouts.layout_numbers, Layouts.layout_apart}
 
 -- there is a grid exactly where there is a binner list
 some_if : {X : Type 0} (b : Bool) (x : X) → is_some (if b then Some x else None) ≡ b
@@ -85,13 +84,6 @@ bin_none v job table shaders handles layout h some none =
     let same = bin_questions_are v job table shaders handles layout h in
     ap first_of (bin_stage_is v.file v.number some)
     ∙ answered_none (bin_refused v.file v.number) (bin_questions (job_of v.file v.number).bin (job_of v.file v.number).declared (table_of v.file) (job_of v.file v.number).handles) (sym (ap first_of same) ∙ none)
-
-pub bin_some : (v : InView) (job : JobModel) (table : TableModel) (shaders : List (Option ShaderModel)) (handles : List ℕ) (layout : Layout) (fault : ListFault) → IsContext v job table shaders handles layout
-    → has_bin v.file v.number ≡ true → first_of (bin_questions job.bin job.declared table handles) ≡ Some fault → first_of (bin_stage v.file v.number) ≡ Some (bin_refused v.file v.number fault)
-bin_some v job table shaders handles layout fault h some stands =
-    let same = bin_questions_are v job table shaders handles layout h in
-    ap first_of (bin_stage_is v.file v.number some)
-    ∙ answered_some (bin_refused v.file v.number) (bin_questions (job_of v.file v.number).bin (job_of v.file v.number).declared (table_of v.file) (job_of v.file v.number).handles) fault (sym (ap first_of same) ∙ stands)
 
 pub bin_text_is : (v : InView) (job : JobModel) (table : TableModel) (shaders : List (Option ShaderModel)) (handles : List ℕ) (layout : Layout) → IsContext v job table shaders handles layout
     → has_bin v.file v.number ≡ true → bin_text job.bin job.declared table handles layout ≡ bin_list_of v.file v.number
@@ -196,10 +188,6 @@ pub unbinned_none : (f : FileModel) (j : ℕ) → has_bin f j ≡ false → firs
 unfolding lists_stages bin_stage records_stage
 unbinned_none f j none surfaces = rw none surfaces
 
-pub unbinned_stops : (f : FileModel) (j : ℕ) (stop : Stop Refusal) → has_bin f j ≡ false → Refuses (surfaces_stage f j) stop → Refuses (lists_stages f j) stop
-unfolding lists_stages bin_stage records_stage
-unbinned_stops f j stop none surfaces = rw none surfaces
-
 pub render_alone : (f : FileModel) (j : ℕ) (out : List ℕ) → has_bin f j ≡ false
     → with_bytes out (layout_of f j).render (render_list_of f j) ≡ placed out (list_parts f j)
 unfolding list_parts later_parts
@@ -236,21 +224,6 @@ parts_fit f j bin records streams render =
         (omega (arith, streams, apart.third, render), (omega (arith, render), tt)),
       ),
     )
-
--- the window of lists that end inside their region lies inside the memory
-pub window_fits : (v : InView) (job : JobModel) (table : TableModel) (shaders : List (Option ShaderModel)) (handles : List ℕ) (layout : Layout) → IsContext v job table shaders handles layout
-    → (layout_of v.file v.number).place + (layout_of v.file v.number).end ≤ region_end v.file.regions → layout.place + layout.end ≤ v.file.mem_size
-window_fits v job table shaders handles layout h fits =
-    omega (arith, ap (λ l. l.place) h.layout_is, ap (λ l. l.end) h.layout_is, fits, lists_inside v.file h.sound)
-
--- lists written in the window stand in the memory
-pub placed_lists : (v : InView) (layout : Layout) → layout ≡ layout_of v.file v.number → (memory : List ℕ) → layout.place + layout.end ≤ length memory
-    → PartsFit (layout_of v.file v.number).end (list_parts v.file v.number)
-    → with_window memory layout.place (placed (window_of memory layout.place layout.end) (list_parts v.file v.number)) ≡ placed memory (memory_parts v.file v.number)
-unfolding memory_parts
-placed_lists v layout same memory room fit =
-    window_placed memory layout.place layout.end (list_parts v.file v.number) room (subst (λ (l : Layout). PartsFit l.end (list_parts v.file v.number)) (sym same) fit)
-    ∙ ap (λ l. placed memory (moved l.place (list_parts v.file v.number))) same
 
 abbrev pub lengths : ℕ → ℕ → ℕ → ℕ → Lengths
 lengths bin records uniforms render = record { bin = bin; records = records; uniforms = uniforms; render = render }

@@ -7,12 +7,6 @@ use Rattle.phys_mem.specs.Window.{window_of, with_window}
 use Rattle.phys_mem.proofs.Parts.{window_long}
 use Rattle.job_check.specs.Emit.{PartsFit, moved}
 
--- A text written into a window is that text written into the memory.
-pub window_written : (m : List ℕ) (place len at : ℕ) (text : List ℕ) → place + len ≤ length m → at + length text ≤ len
-    → with_window m place (with_bytes (window_of m place len) at text) ≡ with_bytes m (place + at) text
-window_written m place len at text fits room =
-    same_lists _ _ (grind (arith, places)) (λ k d h. grind (arith, places))
-
 pub length_placed : (memory : List ℕ) (parts : List Part) → PartsFit (length memory) parts → length (placed memory parts) ≡ length memory
 length_placed memory [] fit = refl
 length_placed memory (part ∷ parts) fit =
@@ -45,6 +39,3 @@ window_placed m place len (part ∷ parts) fits fit =
     ap (λ w. with_window m place (placed w parts)) (written_shows m place len part.place part.bytes fits fit.0)
     ∙ written_hidden m place part.place part.bytes inside (omega (arith, long, fits)) (omega (arith, long, fit.0))
     ∙ window_placed after place len parts room fit.1
-
-pub length_with_window : (m : List ℕ) (place : ℕ) (inside : List ℕ) → place + length inside ≤ length m → length (with_window m place inside) ≡ length m
-length_with_window m place inside fits = grind (arith, places)

@@ -6,9 +6,9 @@ use Rattle.field_words.specs.{Questions.first_of, Writes.Part, Writes.emitted}
 use Rattle.job_format.specs.Model.{FileModel}
 use Rattle.qpu_isa.specs.Shader.{ShaderModel}
 use Rattle.relocation.specs.Layout.{region_end}
-use Rattle.job_check.specs.{declared.region.Region.Region, declared.region.Single.Single, Shaders.AreShadersIn, Faults.shaders_stage}
+use Rattle.job_check.specs.{declared.region.Region.Region, Shaders.AreShadersIn, Faults.shaders_stage}
 use Rattle.job_check.specs.{Jobs.layout_of, Jobs.end_of, Jobs.layouts_of, Emit.all_lengths_of}
-use Rattle.job_check.specs.Emit.{PartsFit, IsInside, ArePlaced, list_parts, moved}
+use Rattle.job_check.specs.Emit.{PartsFit, IsInside, list_parts, moved}
 
 -- how many bytes the lists of the first n jobs take, with what lies between them
 unfoldable pub region_size : FileModel → ℕ → ℕ
@@ -39,13 +39,6 @@ pub record IsRegion (f : FileModel) (region : Region) : Type 0 where
   pub fits : f.regions.lists_place + length (region_of f) ≤ region_end f.regions
   pub parts_fit : PartsFit (region_size f (length f.jobs)) (regions_parts f (length f.jobs))
   pub each_job : AllByRecursion (IsInside (region_end f.regions)) region.layouts.items
-
--- The same of an accepted file of one job.
-pub record IsSingle (f : FileModel) (single : Single) : Type 0 where
-  pub bytes_are : single.bytes.items ≡ region_of f
-  pub placed : ArePlaced f 0 single.lists
-  pub fits : f.regions.lists_place + length (region_of f) ≤ region_end f.regions
-  pub inside : IsInside (region_end f.regions) single.lists.layout
 
 -- Shaders that were checked before: no rule stands of any, and what is kept of them is what is told.
 pub record AreChecked (f : FileModel) (shaders : List (Option ShaderModel)) : Type 0 where

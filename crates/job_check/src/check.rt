@@ -11,7 +11,8 @@ ghost use Rattle.job_check.specs.Emit.{fresh_memory_of, memory_of, Emits, IsPlac
 ghost use Rattle.job_check.specs.Region.{IsRegion};
 
 use super::emit::put_contents;
-use super::region::{Region, check_lists, check_parts};
+use super::region::{Region, check_parts};
+use super::stages::table_stage;
 use field_words::{MOST_MEMORY, NoMemory, Stop};
 use job_format::{FileParts, JobFile, Refusal};
 use phys_mem::PhysMem;
@@ -53,25 +54,20 @@ fn make_memory(alloc: Global, parts: &FileParts, region: &Region) -> Result<Phys
 }
 
 /// An accepted file with its memory.
-fn with_memory(alloc: Global, parts: &FileParts, region: Region) -> Result<Checked, NoMemory>
+fn with_memory(alloc: Global, parts: &FileParts, region: &Region) -> Result<Checked, NoMemory>
     requires well_formed { IsWellFormed (parts_view parts.now) }
     requires sound { IsSound parts.now.mem_size parts.now.regions parts.now.buffers.items }
     requires small { parts.now.mem_size ≤ most_memory }
-    requires region_is { IsRegion (parts_view parts.now) region }
+    requires region_is { IsRegion (parts_view parts.now) region.now }
     ensures emits { IfOk result (Emits (parts_view parts.now)) }
     ensures placed { IfOk result (λ checked. IsPlaced checked.memory checked.layouts.items) }
     ensures sized { IfOk result (λ checked. length checked.memory ≡ parts.now.mem_size) }
 {
-    let memory = make_memory(alloc, parts, &region)?;
-    let Region {
-        bytes: _,
-        layouts,
-        lengths,
-    } = region;
+    let memory = make_memory(alloc, parts, region)?;
     Ok(Checked {
         memory,
-        layouts,
-        lengths,
+        layouts: Vec::from_slice(alloc, region.layouts.as_slice())?,
+        lengths: Vec::from_slice(alloc, region.lengths.as_slice())?,
     })
 }
 
@@ -83,28 +79,15 @@ pub fn check_read(alloc: Global, parts: &FileParts) -> Result<Checked, Stop<Refu
     ensures placed { IfOk result (λ checked. IsPlaced checked.memory checked.layouts.items) }
     ensures sized { IfOk result (λ checked. length checked.memory ≡ parts.now.mem_size) }
 {
-    let region = check_parts(alloc, MOST_MEMORY, parts)?;
-    Ok(with_memory(alloc, parts, region)?)
-}
-
-/// The same of a file whose rules were asked.
-fn file_memory(alloc: Global, file: &JobFile, region: Region) -> Result<Checked, NoMemory>
-    requires well_formed { IsWellFormed (file_view file.now) }
-    requires sound { IsSound file.now.mem_size file.now.regions file.now.buffers.items }
-    requires small { file.now.mem_size ≤ most_memory }
-    requires region_is { IsRegion (file_view file.now) region }
-    ensures emits { IfOk result (Emits (file_view file.now)) }
-    ensures placed { IfOk result (λ checked. IsPlaced checked.memory checked.layouts.items) }
-    ensures sized { IfOk result (λ checked. length checked.memory ≡ file.now.mem_size) }
-{
-    let parts = file.parts(alloc)?;
-    with_memory(alloc, &parts, region)
+    let region = check_parts(alloc, MOST_MEMORY, parts, None)?;
+    Ok(with_memory(alloc, parts, &region)?)
 }
 
 /// Checks a file that was read. `Ok` comes exactly where no rule stands of the memory table, of the shaders, and of any job's handles,
 /// its binner list, its records and uniforms, its frame and surfaces, and its layout; else the refusal is the first that does, job by
 /// job, with its place in the file. A fault of the memory table is never answered as want of memory. No memory of the jobs is made
 /// before all rules are asked.
+#[tactic(auto, unfolding(crate::specs::Faults::table_stage_within))]
 pub fn check_job(alloc: Global, file: &JobFile) -> Result<Checked, Stop<Refusal>>
     requires { IsWellFormed (file_view file.now) }
     ensures answers { Answers (file_stages (file_view file.now)) (Emits (file_view file.now)) result }
@@ -113,6 +96,7 @@ pub fn check_job(alloc: Global, file: &JobFile) -> Result<Checked, Stop<Refusal>
     ensures placed { IfOk result (λ checked. IsPlaced checked.memory checked.layouts.items) }
     ensures sized { IfOk result (λ checked. length checked.memory ≡ file.now.mem_size) }
 {
-    let region = check_lists(alloc, file)?;
-    Ok(file_memory(alloc, file, region)?)
+    table_stage(MOST_MEMORY, file.mem_size, file.regions, &file.buffers)?;
+    let parts = file.parts(alloc)?;
+    check_read(alloc, &parts)
 }

@@ -17,11 +17,11 @@ mod stages;
 mod upgrade;
 mod whole;
 
-pub use check::{Checked, check_job, check_read};
+pub use check::{Checked, check_job};
+pub use context::job_at;
 pub use places::{Part, Place, place_in};
-pub use region::{
-    Lists, Region, Single, check_lists, check_lists_within, check_parts, check_single,
-};
-pub use shaders::{shader_in, words_of};
+pub use refusals::content_offset;
+pub use region::{Region, check_parts};
+pub use shaders::{content_at, shader_in, words_of};
 pub use upgrade::upgrade_changes_nothing;
 pub use whole::{check_bytes, check_places, format_refusal};

@@ -1,28 +1,27 @@
 //! The rules of a file, and the lists of its jobs. No memory of the jobs is made.
 ghost use Rattle.std.specs.Prelude.{◌≡◌, ◌<◌, ◌≤◌, ◌+◌, ◌++◌, ◌-◌, length, IfOk, IfSome, IsOk, drop};
-ghost use Rattle.field_words.specs.Sizes.{most_memory};
 ghost use Rattle.buffer_table.specs.Table.{most_place};
 ghost use Rattle.field_words.specs.Questions.{Answers, NamesFirst, NeverHidesFault};
 ghost use Rattle.field_words.specs.Writes.{placed, zeros};
 ghost use Rattle.job_format.specs.File.{IsWellFormed};
-ghost use Rattle.job_format.specs.Model.{file_view};
 ghost use Rattle.job_format.specs.Parts.{parts_view};
 ghost use Rattle.buffer_table.specs.Sound.{IsSound};
 ghost use Rattle.shader_records.specs.Inputs.{shaders_view};
 ghost use Rattle.job_check.specs.Shaders.{table_of, AreShadersIn};
 ghost use Rattle.relocation.specs.Layout.{region_end};
 ghost use Rattle.job_check.specs.Jobs.{lists_begin, layout_of, end_of};
-ghost use Rattle.job_check.specs.Faults.{table_stage, table_stage_within, shaders_stage, lists_stages, laid_stages, job_stages, jobs_stages, file_stages, stages_within};
+ghost use Rattle.job_check.specs.Faults.{table_stage_within, shaders_stage, lists_stages, laid_stages, job_stages, jobs_stages, stages_within};
 ghost use Rattle.job_check.specs.Emit.{ArePlaced, PartsFit, list_parts, lengths_of, moved};
-ghost use Rattle.job_check.specs.Region.{region_size, region_from, region_parts, IsRegion, IsSingle, AreChecked};
+ghost use Rattle.job_check.specs.Region.{region_size, region_from, region_parts, IsRegion, AreChecked};
 
 use super::context::Context;
 use super::layout::next_place;
 use super::shaders::shaders_stage;
 use super::stages::table_stage;
+use arrayvec::ArrayVec;
 use buffer_table::Table;
-use field_words::{MOST_MEMORY, Stop};
-use job_format::{FileParts, JobFile, Refusal};
+use field_words::Stop;
+use job_format::{FileParts, Refusal};
 use qpu_isa::ShaderInfo;
 use relocation::{Layout, Lengths};
 use std::alloc::{AllocError, Global};
@@ -32,8 +31,8 @@ use std::alloc::{AllocError, Global};
 #[derive(Drop)]
 pub struct Region {
     pub bytes: Vec<u8>,
-    pub layouts: Vec<Layout>,
-    pub lengths: Vec<Lengths>,
+    pub layouts: ArrayVec<Layout, 8>,
+    pub lengths: ArrayVec<Lengths, 8>,
 }
 
 /// Where the lists of a job lie, and how many bytes of each were emitted.
@@ -41,14 +40,6 @@ pub struct Region {
 pub struct Lists {
     pub layout: Layout,
     pub lengths: Lengths,
-}
-
-/// The lists of an accepted file of one job: their bytes, from where they begin on, where they lie in memory, and how many bytes of each
-/// were emitted.
-#[derive(Drop)]
-pub struct Single {
-    pub bytes: Vec<u8>,
-    pub lists: Lists,
 }
 
 /// Makes a region longer, with zeros behind.
@@ -158,71 +149,20 @@ fn check_jobs(
     ensures { Answers (jobs_stages (parts_view file.now)) (IsRegion (parts_view file.now)) result }
 {
     let mut bytes = Vec::new(alloc);
-    let mut layouts = Vec::new(alloc);
-    let mut lengths = Vec::new(alloc);
+    let mut layouts = ArrayVec::new();
+    let mut lengths = ArrayVec::new();
     let mut place = file.regions.lists_place;
     for number in 0..file.jobs.len() {
         let lists = check_one(alloc, file, number, place, table, shaders, &mut bytes)?;
         place = next_place(&lists.layout);
-        layouts.push(lists.layout)?;
-        lengths.push(lists.lengths)?;
+        layouts.push(lists.layout);
+        lengths.push(lists.lengths);
     }
     Ok(Region {
         bytes,
         layouts,
         lengths,
     })
-}
-
-/// S, and then the jobs.
-fn check_shaders(alloc: Global, file: &FileParts, table: &Table) -> Result<Region, Stop<Refusal>>
-    requires well_formed { IsWellFormed (parts_view file.now) }
-    requires table_is { table.now ≡ table_of (parts_view file.now) }
-    requires sound { IsSound file.now.mem_size file.now.regions file.now.buffers.items }
-    ensures { Answers (shaders_stage (parts_view file.now) ++ jobs_stages (parts_view file.now)) (IsRegion (parts_view file.now)) result }
-{
-    let shaders = shaders_stage(alloc, file)?;
-    check_jobs(alloc, file, table, &shaders)
-}
-
-/// Checks the parts of a file whose memory has at most `limit` bytes, and makes no memory of its jobs; contents and lists are read where
-/// they lie. `Ok` comes exactly where no rule stands of the memory table, of the shaders, and of any job's handles, its binner list, its
-/// records and uniforms, its frame and surfaces, and its layout.
-///
-/// # Errors
-/// The first rule that stands, job by job, with its place in the file; or want of memory, which never hides a rule of the memory table.
-#[tactic(auto, unfolding(crate::specs::Faults::stages_within, crate::specs::Faults::table_stage_within))]
-pub fn check_parts(alloc: Global, limit: u32, parts: &FileParts) -> Result<Region, Stop<Refusal>>
-    requires limit { limit ≤ most_place }
-    requires well_formed { IsWellFormed (parts_view parts.now) }
-    ensures answers { Answers (stages_within limit (parts_view parts.now)) (IsRegion (parts_view parts.now)) result }
-    ensures first { NamesFirst (stages_within limit (parts_view parts.now)) result }
-    ensures memory { NeverHidesFault (table_stage_within limit (parts_view parts.now)) result }
-    ensures sound { IsOk result → IsSound parts.now.mem_size parts.now.regions parts.now.buffers.items }
-    ensures small { IsOk result → parts.now.mem_size ≤ limit }
-{
-    let table = table_stage(alloc, limit, parts.mem_size, parts.regions, &parts.buffers)?;
-    check_shaders(alloc, parts, &table)
-}
-
-/// The rules of the only job, and the region of its lists.
-fn check_only(
-    alloc: Global,
-    file: &FileParts,
-    table: &Table,
-    shaders: &Vec<Option<ShaderInfo>>,
-) -> Result<Single, Stop<Refusal>>
-    requires well_formed { IsWellFormed (parts_view file.now) }
-    requires one { length file.now.jobs.items ≡ 1 }
-    requires table_is { table.now ≡ table_of (parts_view file.now) }
-    requires shaders_are { AreShadersIn (parts_view file.now) (shaders_view shaders.now.items) }
-    requires sound { IsSound file.now.mem_size file.now.regions file.now.buffers.items }
-    ensures { Answers (jobs_stages (parts_view file.now)) (IsSingle (parts_view file.now)) result }
-{
-    let mut bytes = Vec::new(alloc);
-    let place = file.regions.lists_place;
-    let lists = check_one(alloc, file, 0, place, table, shaders, &mut bytes)?;
-    Ok(Single { bytes, lists })
 }
 
 /// What is told of the shaders: what was told before, or what S finds where nothing was.
@@ -242,94 +182,46 @@ fn told_shaders(
     }
 }
 
-/// S where nothing was told of the shaders, and then the only job.
+/// S where nothing was told of the shaders, and then the jobs.
 fn check_told(
     alloc: Global,
     file: &FileParts,
     table: &Table,
     told: Option<Vec<Option<ShaderInfo>>>,
-) -> Result<Single, Stop<Refusal>>
+) -> Result<Region, Stop<Refusal>>
     requires well_formed { IsWellFormed (parts_view file.now) }
-    requires one { length file.now.jobs.items ≡ 1 }
     requires table_is { table.now ≡ table_of (parts_view file.now) }
     requires checked { IfSome told (λ shaders. AreChecked (parts_view file.now) (shaders_view shaders.items)) }
     requires sound { IsSound file.now.mem_size file.now.regions file.now.buffers.items }
-    ensures { Answers (shaders_stage (parts_view file.now) ++ jobs_stages (parts_view file.now)) (IsSingle (parts_view file.now)) result }
+    ensures { Answers (shaders_stage (parts_view file.now) ++ jobs_stages (parts_view file.now)) (IsRegion (parts_view file.now)) result }
 {
     let shaders = told_shaders(alloc, file, told)?;
-    check_only(alloc, file, table, &shaders)
+    check_jobs(alloc, file, table, &shaders)
 }
 
-/// The same of parts that have one job, and whose shaders may have been checked before: then `told` has what was told of the shader in each
-/// Code buffer, and S isn't asked again. The answer is the one that asking would give.
+/// Checks the parts of a file whose memory has at most `limit` bytes, and makes no memory of its jobs; contents and lists are read where
+/// they lie. The shaders may have been checked before: then `told` has what was told of the shader in each Code buffer, and S isn't asked
+/// again; the answer is the one that asking would give. `Ok` comes exactly where no rule stands of the memory table, of the shaders, and of
+/// any job's handles, its binner list, its records and uniforms, its frame and surfaces, and its layout.
 ///
 /// # Errors
-/// As those of `check_parts`.
+/// The first rule that stands, job by job, with its place in the file; or want of memory, which never hides a rule of the memory table.
 #[tactic(auto, unfolding(crate::specs::Faults::stages_within, crate::specs::Faults::table_stage_within))]
-pub fn check_single(
+pub fn check_parts(
     alloc: Global,
     limit: u32,
     parts: &FileParts,
     told: Option<Vec<Option<ShaderInfo>>>,
-) -> Result<Single, Stop<Refusal>>
+) -> Result<Region, Stop<Refusal>>
     requires limit { limit ≤ most_place }
     requires well_formed { IsWellFormed (parts_view parts.now) }
-    requires one { length parts.now.jobs.items ≡ 1 }
     requires checked { IfSome told (λ shaders. AreChecked (parts_view parts.now) (shaders_view shaders.items)) }
-    ensures answers { Answers (stages_within limit (parts_view parts.now)) (IsSingle (parts_view parts.now)) result }
+    ensures answers { Answers (stages_within limit (parts_view parts.now)) (IsRegion (parts_view parts.now)) result }
     ensures first { NamesFirst (stages_within limit (parts_view parts.now)) result }
     ensures memory { NeverHidesFault (table_stage_within limit (parts_view parts.now)) result }
     ensures sound { IsOk result → IsSound parts.now.mem_size parts.now.regions parts.now.buffers.items }
     ensures small { IsOk result → parts.now.mem_size ≤ limit }
 {
-    let table = table_stage(alloc, limit, parts.mem_size, parts.regions, &parts.buffers)?;
+    let table = table_stage(limit, parts.mem_size, parts.regions, &parts.buffers)?;
     check_told(alloc, parts, &table, told)
-}
-
-/// The rules after the memory table, of a file whose contents and lists are its own.
-fn check_tabled(alloc: Global, file: &JobFile, table: &Table) -> Result<Region, Stop<Refusal>>
-    requires well_formed { IsWellFormed (file_view file.now) }
-    requires table_is { table.now ≡ table_of (file_view file.now) }
-    requires sound { IsSound file.now.mem_size file.now.regions file.now.buffers.items }
-    ensures { Answers (shaders_stage (file_view file.now) ++ jobs_stages (file_view file.now)) (IsRegion (file_view file.now)) result }
-{
-    let parts = file.parts(alloc)?;
-    check_shaders(alloc, &parts, table)
-}
-
-/// The same as `check_parts` of a file that was read.
-///
-/// # Errors
-/// As those of `check_parts`.
-#[tactic(auto, unfolding(crate::specs::Faults::stages_within, crate::specs::Faults::table_stage_within))]
-pub fn check_lists_within(
-    alloc: Global,
-    limit: u32,
-    file: &JobFile,
-) -> Result<Region, Stop<Refusal>>
-    requires limit { limit ≤ most_place }
-    requires well_formed { IsWellFormed (file_view file.now) }
-    ensures answers { Answers (stages_within limit (file_view file.now)) (IsRegion (file_view file.now)) result }
-    ensures first { NamesFirst (stages_within limit (file_view file.now)) result }
-    ensures memory { NeverHidesFault (table_stage_within limit (file_view file.now)) result }
-    ensures sound { IsOk result → IsSound file.now.mem_size file.now.regions file.now.buffers.items }
-    ensures small { IsOk result → file.now.mem_size ≤ limit }
-{
-    let table = table_stage(alloc, limit, file.mem_size, file.regions, &file.buffers)?;
-    check_tabled(alloc, file, &table)
-}
-
-/// The same of a job file, whose memory has at most 64 MiB.
-///
-/// # Errors
-/// As those of `check_parts`.
-pub fn check_lists(alloc: Global, file: &JobFile) -> Result<Region, Stop<Refusal>>
-    requires { IsWellFormed (file_view file.now) }
-    ensures answers { Answers (file_stages (file_view file.now)) (IsRegion (file_view file.now)) result }
-    ensures first { NamesFirst (file_stages (file_view file.now)) result }
-    ensures memory { NeverHidesFault (table_stage (file_view file.now)) result }
-    ensures sound { IsOk result → IsSound file.now.mem_size file.now.regions file.now.buffers.items }
-    ensures small { IsOk result → file.now.mem_size ≤ most_memory }
-{
-    check_lists_within(alloc, MOST_MEMORY, file)
 }

@@ -73,7 +73,7 @@ fn kind_at(file: &FileParts, b: usize) -> Kind
 }
 
 /// The contents of buffer `b`.
-fn content_at<'a>(file: &FileParts<'a>, b: usize) -> &'a [u8]
+pub fn content_at<'a>(file: &FileParts<'a>, b: usize) -> &'a [u8]
     requires well_formed { IsWellFormed (parts_view file.now) }
     requires inside { b < length file.now.buffers.items }
     ensures value { result.now ≡ content_of (parts_view file.now) b }

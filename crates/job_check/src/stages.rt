@@ -10,12 +10,10 @@ use super::refusals::table_refusal;
 use buffer_table::{Buffer, Regions, Table};
 use field_words::Stop;
 use job_format::Refusal;
-use std::alloc::Global;
 
 /// M: the memory table, of a memory of at most `limit` bytes. Finding a fault takes no memory.
 #[tactic(auto, using(field_words::proofs::Questions::answered_none, field_words::proofs::Questions::answered_some))]
 pub fn table_stage<'a>(
-    alloc: Global,
     limit: u32,
     mem_size: u32,
     regions: Regions,
@@ -29,7 +27,7 @@ pub fn table_stage<'a>(
     ensures sound { IsOk result → IsSound mem_size regions buffers.now.items }
     ensures small { IsOk result → mem_size ≤ limit }
 {
-    match Table::make_within(alloc, limit, mem_size, regions, buffers) {
+    match Table::make_within(limit, mem_size, regions, buffers) {
         Ok(table) => Ok(table),
         Err(Stop::Fault(fault)) => Err(Stop::Fault(table_refusal(&fault))),
         Err(Stop::NoMemory) => Err(Stop::NoMemory),

@@ -63,7 +63,7 @@ pub fn check_places(alloc: Global, limit: u32, bytes: &[u8]) -> Result<Region, S
     ensures spelled { IsOk result → IsFileOf bytes.now (file_at bytes.now) }
 {
     match read_parts(alloc, bytes) {
-        Ok(parts) => check_parts(alloc, limit, &parts),
+        Ok(parts) => check_parts(alloc, limit, &parts, None),
         Err(stop) => Err(format_refusal(stop)),
     }
 }

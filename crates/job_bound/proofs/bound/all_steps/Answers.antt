@@ -1,14 +1,14 @@
 -- The steps of one job more.
 use Rattle.std.proofs.{Common.◌≡◌, Common.length, Common.ap, Common.arith, Common.◌∙◌, lemmas.List.length-map}
 use Rattle.std.specs.List.{range_with_len, sum_by}
-use Rattle.job_format.specs.Model.{file_view, job_view}
+use Rattle.job_format.specs.Parts.{parts_view, job_parts_view}
 use Rattle.accepted_ends.specs.Bound.{job_bound, bound_of}
 use Rattle.job_bound.proofs.Items.{sum_more}
 use Rattle.job_bound.proofs.bound.all_steps.Goals as goal
 
 pub loop-number-preserved : goal.loop-number-preserved
 loop-number-preserved c =
-    let f = file_view c.args.file.now in
+    let f = parts_view c.args.file.now in
     let l = c.loop-number in
     let more = sum_more (job_bound f) l.number in
     record { sum = omega (arith, l.invariant.sum, c.job_bound-steps.ensures.value, more); few = omega (arith, l.invariant.few, c.job_bound-steps.ensures.limit) }
@@ -16,7 +16,7 @@ loop-number-preserved c =
 pub returns : goal.returns
 unfolding bound_of
 returns c =
-    let f = file_view c.args.file.now in
+    let f = parts_view c.args.file.now in
     let l = c.loop-number in
-    let end : l.number ≡ length f.jobs = omega (arith, c.len-number-end.ensures, length-map c.args.file.now.jobs.items job_view, c.loop-number-test.false, l.auto.number-end) in
+    let end : l.number ≡ length f.jobs = omega (arith, c.len-number-end.ensures, length-map c.args.file.now.jobs.items job_parts_view, c.loop-number-test.false, l.auto.number-end) in
     l.invariant.sum ∙ ap (λ n. sum_by (job_bound f) (range_with_len 0 n)) end

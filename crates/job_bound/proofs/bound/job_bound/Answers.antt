@@ -3,7 +3,7 @@ use Rattle.std.proofs.Common.{◌≡◌, ◌<◌, ◌+◌, ◌*◌, length, arit
 use Rattle.std.proofs.lemmas.List.{length-map}
 use Rattle.bin_list.specs.Packets.{packets}
 use Rattle.render_list.specs.Text.{number_where}
-use Rattle.job_format.specs.Model.{file_view, job_view}
+use Rattle.job_format.specs.Parts.{parts_view, job_parts_view}
 use Rattle.ends_law.specs.{Left.AllWhole, Room.room_of, Steps.bin_steps}
 use Rattle.accepted_ends.specs.Bound.{longest_of}
 use Rattle.job_check.specs.Jobs.{job_of, has_bin, bin_list_of}
@@ -13,21 +13,21 @@ use Rattle.job_bound.proofs.bound.job_bound.Goals as goal
 
 pub bin_steps-requires-clause-whole : goal.bin_steps-requires-clause-whole
 bin_steps-requires-clause-whole c =
-    let f = file_view c.args.file.now in
-    let inside : c.args.number < length f.jobs = omega (arith, c.requires.inside, length-map c.args.file.now.jobs.items job_view) in
+    let f = parts_view c.args.file.now in
+    let inside : c.args.number < length f.jobs = omega (arith, c.requires.inside, length-map c.args.file.now.jobs.items job_parts_view) in
     subst (λ list. AllWhole (packets list)) (sym c.bin_list-list.ensures.value) (list_whole f c.args.number c.requires.faultless inside)
 
 pub room-requires : goal.room-requires
 room-requires c =
-    let f = file_view c.args.file.now in
-    let inside : c.args.number < length f.jobs = omega (arith, c.requires.inside, length-map c.args.file.now.jobs.items job_view) in
+    let f = parts_view c.args.file.now in
+    let inside : c.args.number < length f.jobs = omega (arith, c.requires.inside, length-map c.args.file.now.jobs.items job_parts_view) in
     subst (λ list. AllWhole (packets list)) (sym c.bin_list-list.ensures.value) (list_whole f c.args.number c.requires.faultless inside)
 
 pub returns-clause-value : goal.returns-clause-value
 returns-clause-value c =
-    let f = file_view c.args.file.now in
+    let f = parts_view c.args.file.now in
     let j = c.args.number in
-    let inside : j < length f.jobs = omega (arith, c.requires.inside, length-map c.args.file.now.jobs.items job_view) in
+    let inside : j < length f.jobs = omega (arith, c.requires.inside, length-map c.args.file.now.jobs.items job_parts_view) in
     let first : c.bin_steps.result ≡ bin_steps (longest_of f) (packets (bin_list_of f j)) =
     c.bin_steps.ensures.value ∙ ap (λ w. bin_steps w (packets c.bin_list-list.result.now)) c.requires.longest
     ∙ ap (λ list. bin_steps (longest_of f) (packets list)) c.bin_list-list.ensures.value in

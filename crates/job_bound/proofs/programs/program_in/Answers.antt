@@ -1,10 +1,9 @@
 -- The words are at most 8,192.
-use Rattle.std.proofs.Common.{◌/◌, length, sym, ap, arith, ◌∙◌, Some}
+use Rattle.std.proofs.Common.{◌/◌, length, ap, arith, ◌∙◌, Some}
 use Rattle.field_words.specs.Questions.{first_of}
 use Rattle.job_check.proofs.Codes.{length_words}
 use Rattle.ends_law.specs.Loops.{program_steps}
-use Rattle.job_bound.specs.Back.{branches, wait_places, placed}
-use Rattle.job_bound.proofs.Placed.{first_placed}
+use Rattle.job_bound.specs.Back.{branches, wait_places}
 use Rattle.job_bound.proofs.programs.program_in.Goals as goal
 
 pub flow-requires : goal.flow-requires
@@ -15,9 +14,8 @@ flow-requires c =
 pub returns : goal.returns
 returns c =
     record {
-      steps_is = c.program_steps.ensures.value ∙ ap program_steps (c.deref-3.ensures.value ∙ c.in_ok-code.ensures);
-      back_is = c.first_back.ensures ∙ ap (λ words. first_of (branches (Some words) c.args.place)) (c.deref-4.ensures.value ∙ c.in_ok-code.ensures);
-      wait_is = c.place_of.ensures ∙ ap (placed c.args.place) c.in_ok-wait.ensures ∙ sym (first_placed c.deref-2.result.now c.args.place)
-          ∙ ap (λ words. first_of (wait_places (Some words) c.args.place)) (c.deref-2.ensures.value ∙ c.in_ok-code.ensures);
+      steps_is = c.program_steps.ensures.value ∙ ap program_steps (c.deref-2.ensures.value ∙ c.in_ok-code.ensures);
+      back_is = c.first_back.ensures ∙ ap (λ words. first_of (branches (Some words) c.args.place)) (c.deref-3.ensures.value ∙ c.in_ok-code.ensures);
+      wait_is = c.in_ok-find_wait.ensures ∙ ap (λ words. first_of (wait_places (Some words) c.args.place)) (c.deref-4.ensures.value ∙ c.in_ok-code.ensures);
       few = c.program_steps.ensures.few;
     }

@@ -1,12 +1,12 @@
-use Rattle.std.proofs.{Common.◌≡◌, Common.◌<◌, Common.length, Common.arith, lemmas.List.length-map}
+use Rattle.std.proofs.{Common.◌≡◌, Common.◌<◌, Common.length, Common.ap, Common.arith, lemmas.List.length-map, lemmas.List.FromFn.length-map-range_with_len}
 use Rattle.job_format.specs.Parts.{parts_view, job_parts_view}
 use Rattle.field_words.specs.Questions.{each}
-use Rattle.job_check.specs.{Faults.job_stages, Region.IsRegion}
+use Rattle.job_check.specs.{Faults.job_stages, Jobs.layout_of, Emit.lengths_of, Region.IsRegion}
 use Rattle.job_check.proofs.{Layouts.lists_inside, Order.exits, Progress.none, Progress.next, Progress.refused, Progress.all}
 use Rattle.job_check.proofs.region.check_jobs.Goals as goal
 
 pub loop-number-init : goal.loop-number-init
-loop-number-init c = rw c.new-bytes.ensures.items (rw c.new-layouts.ensures.items (rw c.new-lengths.ensures.items (none (parts_view c.args.file.now))))
+loop-number-init c = rw c.new-bytes.ensures.items (rw c.new-layouts.ensures (rw c.new-lengths.ensures (none (parts_view c.args.file.now))))
 
 pub check_one-requires-clause-size : goal.check_one-requires-clause-size
 check_one-requires-clause-size c = c.loop-number.invariant.size
@@ -23,13 +23,26 @@ returns-in_err-lists c =
 pub next_place-place-requires : goal.next_place-place-requires
 next_place-place-requires c = omega (arith, c.in_ok-lists.ensures.fits, lists_inside (parts_view c.args.file.now) c.requires.sound, c.requires.sound.limit)
 
+-- There are fewer than eight so far.
+pub push-requires : goal.push-requires
+push-requires c =
+    let f = parts_view c.args.file.now in
+    let l = c.loop-number in
+    omega (arith, ap length l.invariant.layouts_are, length-map-range_with_len (layout_of f) 0 l.number, c.loop-number-test.true, c.len-number-end.ensures, length-map c.args.file.now.jobs.items job_parts_view, c.requires.well_formed.few_jobs)
+
+pub push-requires-in-loop-number : goal.push-requires-in-loop-number
+push-requires-in-loop-number c =
+    let f = parts_view c.args.file.now in
+    let l = c.loop-number in
+    omega (arith, ap length l.invariant.lengths_are, length-map-range_with_len (lengths_of f) 0 l.number, c.loop-number-test.true, c.len-number-end.ensures, length-map c.args.file.now.jobs.items job_parts_view, c.requires.well_formed.few_jobs)
+
 pub loop-number-preserved : goal.loop-number-preserved
 loop-number-preserved c =
     let f = parts_view c.args.file.now in
     let l = c.loop-number in
     let lists = c.in_ok-lists.lists in
     let below : l.number < length f.jobs = omega (arith, c.loop-number-test.true, c.len-number-end.ensures, length-map c.args.file.now.jobs.items job_parts_view) in
-    rw c.in_ok-push.ensures.items (rw c.in_ok-push-2.ensures.items
+    rw c.push.ensures.items (rw c.push-in-loop-number.ensures.items
     (next f l.number l.bytes.items c.check_one.new.region.items l.layouts.items l.lengths.items l.place c.next_place-place.result lists.layout lists.lengths
     l.invariant c.requires.sound below c.in_ok-lists.ensures.answers.0 c.in_ok-lists.ensures.answers.1 c.in_ok-lists.ensures.written c.in_ok-lists.ensures.fit c.in_ok-lists.ensures.fits c.next_place-place.ensures))
 

@@ -11,7 +11,7 @@ unfolding stages_within table_stage_within
 returns-clause-answers c =
     let f = parts_view c.args.parts.now in
     answers_later (table_stage_within c.args.limit f) (shaders_stage f ++ each (job_stages f) 0 (length f.jobs)) (IsRegion f)
-    c.check_shaders.result c.in_ok-table.ensures.answers.0 c.check_shaders.ensures
+    c.check_told.result c.in_ok-table.ensures.answers.0 c.check_told.ensures
 
 pub returns-in_err-table-clause-answers : goal.returns-in_err-table-clause-answers
 unfolding stages_within table_stage_within
@@ -23,7 +23,7 @@ returns-in_err-table-clause-answers c =
 pub returns-clause-first : goal.returns-clause-first
 returns-clause-first c =
     let f = parts_view c.args.parts.now in
-    names_first (stages_within c.args.limit f) (IsRegion f) c.check_shaders.result (returns-clause-answers c)
+    names_first (stages_within c.args.limit f) (IsRegion f) c.check_told.result (returns-clause-answers c)
 
 pub returns-in_err-table-clause-first : goal.returns-in_err-table-clause-first
 returns-in_err-table-clause-first c =
@@ -32,4 +32,4 @@ returns-in_err-table-clause-first c =
 
 pub returns-clause-memory : goal.returns-clause-memory
 unfolding table_stage_within
-returns-clause-memory c = never_hidden (table_stage_within c.args.limit (parts_view c.args.parts.now)) c.check_shaders.result c.in_ok-table.ensures.answers.0
+returns-clause-memory c = never_hidden (table_stage_within c.args.limit (parts_view c.args.parts.now)) c.check_told.result c.in_ok-table.ensures.answers.0

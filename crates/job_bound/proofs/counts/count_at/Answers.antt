@@ -1,7 +1,7 @@
 -- Past the last word nothing changes.
 use Rattle.std.proofs.Common.{◌≤◌, length, sym, arith, ◌∙◌}
-use Rattle.shader_waits.proofs.Counted.{past_same}
-use Rattle.shader_waits.proofs.counts.count_at.Goals as goal
+use Rattle.job_bound.proofs.Counted.{past_same}
+use Rattle.job_bound.proofs.counts.count_at.Goals as goal
 
 pub returns-else-at-code : goal.returns-else-at-code
 returns-else-at-code c =

@@ -1,9 +1,10 @@
 //! The first instruction at which a program may wait for what nobody asked for.
-ghost use Rattle.std.specs.Prelude.{◌≡◌, ◌<◌, ◌≤◌, length, IfOk, slice_index};
+ghost use Rattle.std.specs.Prelude.{◌≡◌, ◌<◌, ◌≤◌, ◌^◌, length, IfOk, slice_index, Some};
+ghost use Rattle.field_words.specs.Questions.{first_of};
 ghost use Rattle.field_words.specs.Sizes.{most_words};
 ghost use Rattle.shader_flow.specs.Flow.{end_of};
 ghost use Rattle.served_law.specs.Waits.{waits_for, forks, waits_at};
-ghost use Rattle.shader_waits.specs.Waits.{first_wait, AreCounts};
+ghost use Rattle.job_bound.specs.Back.{wait_places, AreCounts};
 
 use crate::counts::{count_at, counts_of, loads};
 use field_words::NoMemory;
@@ -52,30 +53,33 @@ fn waits_at(code: &[u64], counts0: &[u16], counts1: &[u16], at: u32) -> bool
         || (forks(code, 0, counts0, at) || forks(code, 1, counts1, at))
 }
 
-/// The first of these checked instructions at which a program may wait so.
-fn first_in(code: &[u64], end: u32, counts0: &[u16], counts1: &[u16]) -> Option<u32>
+/// Where in the file the first of these checked instructions stands at which a program may wait so.
+fn first_in(code: &[u64], end: u32, place: u64, counts0: &[u16], counts1: &[u16]) -> Option<u64>
     requires few { length code.now ≤ most_words }
     requires end { end ≡ end_of code.now }
+    requires low { place < 2 ^ 62 }
     requires first { AreCounts code.now 0 counts0.now }
     requires second { AreCounts code.now 1 counts1.now }
-    ensures { result ≡ first_wait code.now }
+    ensures { result ≡ first_of (wait_places (Some code.now) place) }
 {
     for at in 0..checked(code, end) as u32 {
         if waits_at(code, counts0, counts1, at) {
-            return Some(at);
+            return Some(place + 8 * u64::from(at));
         }
     }
     None
 }
 
-/// The first instruction of a shader of at most 8,192 words at which a program may wait for a request that isn't there. `end` is its
-/// program end. Only want of memory fails.
-pub fn find_wait(alloc: Global, code: &[u64], end: u32) -> Result<Option<u32>, NoMemory>
+/// Where in the file the first instruction of a shader of at most 8,192 words stands at which a program may wait for a request that isn't
+/// there: it loads what nobody asked for, asks a texture and memory unit (TMU) that has eight requests and results, or branches to where
+/// a TMU has another count. The shader begins at `place` in the file, and its program end is the instruction `end`. Only want of memory fails.
+pub fn find_wait(alloc: Global, code: &[u64], end: u32, place: u64) -> Result<Option<u64>, NoMemory>
     requires few { length code.now ≤ most_words }
     requires end { end ≡ end_of code.now }
-    ensures { IfOk result (λ found. found ≡ first_wait code.now) }
+    requires low { place < 2 ^ 62 }
+    ensures { IfOk result (λ found. found ≡ first_of (wait_places (Some code.now) place)) }
 {
     let counts0 = counts_of(alloc, code, 0)?;
     let counts1 = counts_of(alloc, code, 1)?;
-    Ok(first_in(code, end, &counts0, &counts1))
+    Ok(first_in(code, end, place, &counts0, &counts1))
 }

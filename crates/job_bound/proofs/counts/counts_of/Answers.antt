@@ -1,7 +1,7 @@
 -- One count more is kept.
 use Rattle.std.proofs.Common.{◌≡◌, ◌+◌, [], ◌∷◌, ◌++◌, sym, ap, subst, ◌∙◌}
-use Rattle.shader_waits.proofs.Counted.{AreCounted, counted_none, counted_more}
-use Rattle.shader_waits.proofs.counts.counts_of.Goals as goal
+use Rattle.job_bound.proofs.Counted.{AreCounted, counted_none, counted_more}
+use Rattle.job_bound.proofs.counts.counts_of.Goals as goal
 
 pub loop-at-init : goal.loop-at-init
 loop-at-init c =

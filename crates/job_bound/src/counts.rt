@@ -3,7 +3,7 @@ ghost use Rattle.std.specs.Prelude.{◌≡◌, ◌<◌, ◌≤◌, ◌+◌, leng
 ghost use Rattle.field_words.specs.Sizes.{most_words};
 ghost use Rattle.qpu_machine.specs.Writes.{loads};
 ghost use Rattle.served_law.specs.Waits.{outstanding_after, outstanding};
-ghost use Rattle.shader_waits.specs.Waits.{AreCounts};
+ghost use Rattle.job_bound.specs.Back.{AreCounts};
 
 use field_words::NoMemory;
 use qpu_isa::word::sig;
