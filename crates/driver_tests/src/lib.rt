@@ -1,5 +1,5 @@
 //! Tests of what a driver does for its clients: sessions and the memory of their buffers (`job_session`, `session_pages`), and bounds on
-//! the steps of jobs and on how long their shaders wait (`job_bound`, `shader_waits`).
+//! the steps of jobs and on how long their shaders wait (`job_bound`).
 #![tactic(auto)]
 
 #[cfg(test)]
@@ -9,4 +9,4 @@ mod job_session_tests;
 #[cfg(test)]
 mod session_pages_tests;
 #[cfg(test)]
-mod shader_waits_tests;
+mod wait_tests;

@@ -1,13 +1,7 @@
 pub mod Apart
-pub mod Bytes
 pub mod Digits
-pub mod Entered
 pub mod Held
-pub mod Keeps
-pub mod Live
 pub mod Packed
 pub mod Refusals
-pub mod Runs
 pub mod Slots
 pub mod Texts
-pub mod Whole

@@ -118,16 +118,13 @@ abbrev pub code_answer : Desk → ℕ → List ℕ → Result ℕ Denied
 code_answer desk client bytes = made_id desk client bytes (shader_refusal bytes)
 
 -- bytes were written from a buffer's byte on
-abbrev pub with_part_at : Desk → ℕ → ℕ → List ℕ → Desk
-with_part_at desk slot at part = record {
-  map = with_part desk.map (slice_index desk.firsts slot) at part;
+abbrev pub with_written : Desk → ℕ → ℕ → ℕ → List ℕ → Desk
+with_written desk client id at part = record {
+  map = with_part desk.map (first_page desk client id) at part;
   firsts = desk.firsts;
   counts = desk.counts;
   kinds = desk.kinds;
 }
-
-abbrev pub with_written : Desk → ℕ → ℕ → ℕ → List ℕ → Desk
-with_written desk client id at part = with_part_at desk (slot_of client id) at part
 
 -- what `code` leaves: a new Code buffer, at whose front the bytes were written
 abbrev pub made : {F : Type 0} → Desk → ℕ → List ℕ → Result ℕ F → Desk

@@ -1,8 +1,6 @@
 pub mod Calls
 pub mod Checked
 pub mod Desk
-pub mod Found
-pub mod Kept
 pub mod Laws
 pub mod Own
 pub mod Places

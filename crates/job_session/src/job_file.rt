@@ -18,7 +18,7 @@ use std::alloc::{AllocError, Global};
 const MAGIC: u32 = 0x4A34_4356;
 
 /// The size of the lists' region, which begins at 0, and where the tile slot stands, right behind it.
-pub(crate) const LISTS_SIZE: u32 = 0x0040_0000;
+const LISTS_SIZE: u32 = 0x0040_0000;
 
 fn put_words(file: &mut Vec<u8>, words: &[u32]) -> Result<(), AllocError>
     ensures { OnOk result (file.new.items ≡ file.old.items ++ flat_map word words.now) }
@@ -91,17 +91,6 @@ fn with_client(alloc: Global, client: u8, parts: &[u8]) -> Result<Vec<u8>, Alloc
     job.extend_from_slice(&u32::from(client).to_le_bytes()[..set])?;
     job.extend_from_slice(&parts[set..])?;
     Ok(job)
-}
-
-/// The file of a client without buffers: the job that these parts are, alone.
-pub fn job_alone(alloc: Global, client: u8, parts: &[u8]) -> Result<Vec<u8>, NoMemory>
-    ensures { IfOk result (λ file. file.items ≡ header_of 0 ++ client_set client parts.now) }
-{
-    let parts = with_client(alloc, client, parts)?;
-    let mut file = Vec::new(alloc);
-    put_header(&mut file, 0)?;
-    file.extend_from_slice(&parts)?;
-    Ok(file)
 }
 
 // Puts a job's parts, with the contents of the client's buffers behind its entry. An entry that is cut short ends the file.

@@ -2,16 +2,14 @@
 //!
 //! In `specs/`, `Own` says what a client is answered by its own commands alone, `Places` where live buffers lie, `Session` what calls
 //! of all clients do, and `Laws` that a client's replies are those of its own commands. `Desk` says what `Session` keeps, and what its
-//! calls answer and leave, by its page map and slots; `Replies` has that by call, `Submit` the file of a job, `Checked` the rules,
-//! `Kept` what was told of shaders and stays true, `Found` a client's buffers by it, and `Calls` and `Text` what a script and its
-//! answer are. That a desk answers as `Session` says of the calls before is proved in the crate `session_law`.
+//! calls answer and leave, by its page map and slots; `Replies` has that by call, `Submit` the file of a job, `Checked` the rules, and
+//! `Calls` and `Text` what a script and its answer are. That a desk answers as `Session` says of the calls before is proved in the
+//! crate `session_law`.
 #![tactic(auto)]
 
 mod call;
 mod denied;
 mod job_file;
-mod kept;
-mod known;
 mod replies;
 mod rules;
 mod session;

@@ -1,17 +1,14 @@
 //! The rules of shaders and of jobs in a session: those of the checker of job files.
 ghost use Rattle.std.specs.Prelude.{◌≡◌, ◌≤◌, ◌<◌, length, None, IfOk, IfErr, IsOk};
 ghost use Rattle.field_words.specs.Sizes.{most_code};
-ghost use Rattle.field_words.specs.Questions.{Answers};
-ghost use Rattle.job_format.specs.Reading.{file_at};
-ghost use Rattle.job_check.specs.Region.{IsRegion};
-ghost use Rattle.job_check.specs.Whole.{refusal_of, all_questions};
+ghost use Rattle.job_check.specs.Whole.{refusal_of};
 ghost use Rattle.job_session.specs.Checked.{at_instruction, shader_refusal};
 ghost use Rattle.job_session.specs.Desk.{job_answer, IsRefusal};
 
 use super::denied::Denied;
-use field_words::Stop;
-use job_check::{Region, check_lists, format_refusal, shader_in};
-use job_format::{Refusal, Rule, Stage, read_job};
+use field_words::{MOST_MEMORY, Stop};
+use job_check::{check_places, shader_in};
+use job_format::{Refusal, Rule, Stage};
 use shader_check::ShaderFault;
 use std::alloc::Global;
 
@@ -43,23 +40,13 @@ pub fn check_shader(alloc: Global, bytes: &[u8]) -> Result<(), Stop<Denied>>
     }
 }
 
-// All rules of a file, without the memory of its jobs.
-fn check_rules(alloc: Global, file: &[u8]) -> Result<Region, Stop<Refusal>>
-    ensures { Answers (all_questions file.now) (IsRegion (file_at file.now)) result }
-{
-    match read_job(alloc, file) {
-        Ok(job) => check_lists(alloc, &job),
-        Err(stop) => Err(format_refusal(stop)),
-    }
-}
-
 /// All rules of a file: the first that stands, or none.
 #[tactic(auto, unfolding(job_check::specs::Whole::refusal_of))]
 pub fn check_file(alloc: Global, file: &[u8]) -> Result<(), Stop<Denied>>
     ensures accepted { IfOk result (λ done. job_answer (refusal_of file.now) ≡ Ok done) }
     ensures refused { IfErr result (IsRefusal (job_answer (refusal_of file.now))) }
 {
-    match check_rules(alloc, file) {
+    match check_places(alloc, MOST_MEMORY, file) {
         Ok(_) => Ok(()),
         Err(Stop::Fault(refusal)) => Err(Stop::Fault(Denied::Job(refusal))),
         Err(Stop::NoMemory) => Err(Stop::NoMemory),

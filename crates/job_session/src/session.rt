@@ -1,26 +1,20 @@
 //! The session: one memory, and each client's buffers in it.
-ghost use Rattle.std.specs.Prelude.{◌≡◌, ◌≤◌, ◌<◌, ◌+◌, ◌*◌, ◌++◌, ℕ, List, length, replicate, slice_index, slice_index_or, IfOk, IfErr, IfSome, OnOk, Ok, None};
-ghost use Rattle.field_words.specs.Sizes.{most_code, page_size};
-ghost use Rattle.buffer_table.specs.declared.buffer.Kind.TheVariants.{Plain, Code};
-ghost use Rattle.job_format.specs.File.{BufferFits};
+ghost use Rattle.std.specs.Prelude.{◌≡◌, ◌≤◌, ◌<◌, ◌+◌, ◌*◌, ◌++◌, ℕ, List, length, replicate, IfOk, IfErr, IfSome, OnOk, Ok};
+ghost use Rattle.field_words.specs.Sizes.{most_code};
+ghost use Rattle.buffer_table.specs.declared.buffer.Kind.TheVariants.{Plain};
 ghost use Rattle.session_pages.specs.Map.{first_place};
 ghost use Rattle.job_session.specs.Own.{most_buffers};
 ghost use Rattle.job_session.specs.Submit.{packed, content_of, all_contents, laid_in, contents_at};
-ghost use Rattle.job_session.specs.Desk.{slot_count, slot_of, empty, least_id, is_live as live, kind_of, page_total, held_in};
+ghost use Rattle.job_session.specs.Desk.{slot_count, slot_of, empty, least_id, page_total, held_in};
 ghost use Rattle.job_session.specs.Desk.{new_id, placed, create_answer, created, code_answer, made, pages_for, free_answer, freed};
-ghost use Rattle.job_session.specs.Desk.{write_answer, written, read_answer, submit_answer, IsStop, IsRefusal, with_part_at};
-ghost use Rattle.job_session.specs.Kept.{IsKeptOf};
-ghost use Rattle.job_session.specs.Found.{IsFound, AreAll};
+ghost use Rattle.job_session.specs.Desk.{write_answer, written, read_answer, submit_answer, IsStop, IsRefusal};
 
 use super::denied::Denied;
 use super::job_file::job_file;
-use super::kept::{Entries, Entry, Found, Kept, bytes_in, copy_of};
-use super::known::check_known;
 use super::rules::{check_file, check_shader};
 use buffer_table::{Buffer, Kind};
 use field_words::{MOST_CODE, NoMemory, PAGE_SIZE, Stop};
-use job_check::shader_in;
-use session_pages::{FIRST_PLACE, Marks, Pages};
+use session_pages::{FIRST_PLACE, Pages};
 use std::alloc::Global;
 use std::marker::Model;
 
@@ -34,27 +28,23 @@ pub const MOST_PAGES: u32 = 1024;
 pub const MOST_READ: u32 = 256;
 
 /// The memory, and for each slot the first page of its buffer, how many pages it has, and its kind. A client has 64 slots, one for
-/// each id. Of a Code buffer's slot what was told of the shader is kept too, so that no submit asks again: all its bytes are as then.
-/// For each slot a bit says whether a buffer lives there, so that a look for a free id is one look at a word.
+/// each id.
 #[derive(Drop)]
 pub struct Session {
     pages: Pages,
     firsts: [u32; 512],
     counts: [u32; 512],
     kinds: [Kind; 512],
-    kept: Vec<Option<Kept>>,
-    live: Marks,
 }
 
 impl Model for Session {
-    ghost use Rattle.job_session.specs.Desk.{Desk};
-    ghost use Rattle.job_session.specs.Kept.{IsSession, AreLive};
+    ghost use Rattle.job_session.specs.Desk.{Desk, SlotsFit};
 
     ghost Value = { Desk };
 
     ghost view = { λ s. record { map = s.pages; firsts = s.firsts; counts = s.counts; kinds = s.kinds } };
 
-    ghost invariant = { λ s. IsSession s.pages.memory s.pages.owners s.firsts s.counts s.kinds s.kept.items × AreLive s.counts s.live };
+    ghost invariant = { λ s. SlotsFit s.firsts s.counts };
 }
 
 // A zero for each slot.
@@ -71,17 +61,6 @@ fn plain() -> [Kind; 512]
     [Kind::Plain; 512]
 }
 
-// Nothing is kept of any slot.
-fn nothing_kept(alloc: Global) -> Result<Vec<Option<Kept>>, NoMemory>
-    ensures { IfOk result (λ kept. kept.items ≡ replicate slot_count None) }
-{
-    let mut kept = Vec::with_capacity(alloc, 512)?;
-    for _ in 0..512usize {
-        kept.push(None)?;
-    }
-    Ok(kept)
-}
-
 // Where the slot of a client's buffer stands.
 fn slot(client: u8, id: u32) -> usize
     requires client { client < 8 }
@@ -89,6 +68,20 @@ fn slot(client: u8, id: u32) -> usize
     ensures { result ≡ slot_of client id }
 {
     64 * client as usize + id as usize
+}
+
+// The least id that the client doesn't use.
+fn free_id(counts: &[u32; 512], client: u8) -> Option<u32>
+    requires { client < 8 }
+    ensures first { result ≡ least_id counts.now client }
+    ensures inside { IfSome result (λ id. id < 64) }
+{
+    for id in 0..MOST_BUFFERS {
+        if counts[slot(client, id)] == 0 {
+            return Some(id);
+        }
+    }
+    None
 }
 
 // How many bytes a buffer of so many gives to the contents of a job's file.
@@ -111,24 +104,7 @@ impl Session {
             firsts: none(),
             counts: none(),
             kinds: plain(),
-            kept: nothing_kept(alloc)?,
-            live: Marks::none(),
         })
-    }
-
-    // The least id that the client doesn't use.
-    fn free_id(&self, client: u8) -> Option<u32>
-        requires { client < 8 }
-        ensures first { result ≡ least_id self.now.counts client }
-        ensures inside { IfSome result (λ id. id < 64) }
-    {
-        let first = slot(client, 0) as u32;
-        let free = self.live.next_free(first);
-        if free < first + MOST_BUFFERS {
-            Some(free - first)
-        } else {
-            None
-        }
     }
 
     // A buffer of so many free pages, as they are, by its id. Refused are 4 and 6.
@@ -138,10 +114,9 @@ impl Session {
         ensures answer { result ≡ new_id self.old client pages }
         ensures left { self.new ≡ placed self.old client pages kind result }
         ensures held { IfOk result (λ id. page_total self.new client id ≡ pages) }
-        ensures kind { IfOk result (λ id. kind_of self.new client id ≡ kind) }
         ensures inside { IfOk result (λ id. id < 64) }
     {
-        let Some(id) = self.free_id(client) else {
+        let Some(id) = free_id(&self.counts, client) else {
             return Err(4);
         };
         let slot = slot(client, id);
@@ -151,7 +126,6 @@ impl Session {
         self.firsts[slot] = first;
         self.counts[slot] = pages;
         self.kinds[slot] = kind;
-        self.live.mark(slot as u32, 1, true);
         Ok(id)
     }
 
@@ -184,9 +158,7 @@ impl Session {
         let pages = bytes.len().div_ceil(PAGE_SIZE as usize) as u32;
         match self.place(client, pages, Kind::Code) {
             Ok(id) => {
-                let slot = slot(client, id);
-                self.put(slot, 0, bytes);
-                self.keep(alloc, slot);
+                self.pages.write(self.firsts[slot(client, id)], 0, bytes);
                 Ok(id)
             }
             Err(refusal) => Err(Stop::Fault(Denied::Session(refusal))),
@@ -204,10 +176,8 @@ impl Session {
             return Err(1);
         }
         let slot = slot(client, id);
-        self.kept[slot] = None;
         self.pages.give_back(self.firsts[slot], self.counts[slot]);
         self.counts[slot] = 0;
-        self.live.mark(slot as u32, 1, false);
         Ok(())
     }
 
@@ -228,52 +198,8 @@ impl Session {
         if u64::from(PAGE_SIZE * self.counts[slot]) < u64::from(at) + part.len() as u64 {
             return Err(2);
         }
-        self.put(slot, at, part);
-        Ok(())
-    }
-
-    // Writes bytes into a slot's buffer. Nothing is kept of it then.
-    fn put(&mut self, slot: usize, at: u32, part: &[u8])
-        requires inside { slot < slot_count }
-        requires live { 1 ≤ slice_index self.old.counts slot }
-        requires fits { at + length part.now ≤ page_size * slice_index self.old.counts slot }
-        ensures { self.new ≡ with_part_at self.old slot at part.now }
-    {
-        self.kept[slot] = None;
         self.pages.write(self.firsts[slot], at, part);
-    }
-
-    // What a check tells of the shader in a slot's Code buffer, with all its bytes; nothing where a rule stands of them all, or memory
-    // runs out.
-    fn told(&self, alloc: Global, slot: usize) -> Option<Kept>
-        requires inside { slot < slot_count }
-        requires live { 1 ≤ slice_index self.now.counts slot }
-        requires code { slice_index_or self.now.kinds slot Plain ≡ Code }
-        ensures { IfSome result (IsKeptOf self.now.map.memory self.now.firsts self.now.counts self.now.kinds slot) }
-    {
-        let size = PAGE_SIZE * self.counts[slot];
-        let Ok(bytes) = self.pages.read(alloc, self.firsts[slot], 0, size) else {
-            return None;
-        };
-        if bytes.len() > MOST_CODE as usize {
-            return None;
-        }
-        match shader_in(alloc, &bytes) {
-            Ok(info) => Some(Kept { bytes, info }),
-            Err(_) => None,
-        }
-    }
-
-    // Keeps that.
-    fn keep(&mut self, alloc: Global, slot: usize)
-        requires inside { slot < slot_count }
-        requires live { 1 ≤ slice_index self.old.counts slot }
-        requires code { slice_index_or self.old.kinds slot Plain ≡ Code }
-        ensures { self.new ≡ self.old }
-    {
-        if let Some(kept) = self.told(alloc, slot) {
-            self.kept[slot] = Some(kept);
-        }
+        Ok(())
     }
 
     /// The `len` bytes of a client's buffer from byte `at` on. The first of these that stands refuses it: 1 where the client has no
@@ -314,9 +240,6 @@ impl Session {
         ensures accepted { IfOk result (λ done. submit_answer self.now client parts.now ≡ Ok done) }
         ensures refused { IfErr result (IsRefusal (submit_answer self.now client parts.now)) }
     {
-        if check_known(alloc, self, client, parts)? {
-            return Ok(());
-        }
         let file = job_file(alloc, self, client, parts)?;
         check_file(alloc, &file)
     }
@@ -327,7 +250,6 @@ impl Session {
         requires id { id < 64 }
         ensures buffer { result ≡ laid_in client place (held_in self.now client id) }
         ensures size { IfSome result (λ buffer. buffer.size ≤ 16777216) }
-        ensures fits { IfSome result BufferFits }
     {
         let slot = slot(client, id);
         if self.counts[slot] == 0 {
@@ -361,64 +283,6 @@ impl Session {
             }
         }
         Ok(buffers)
-    }
-
-    // A live buffer as the file of a job has it, at this place.
-    fn entry<'a>(
-        &'a self,
-        alloc: Global,
-        client: u8,
-        id: u32,
-        place: u32,
-    ) -> Result<Found<'a>, NoMemory>
-        requires client { client < 8 }
-        requires id { id < 64 }
-        ensures { IfOk result (IsFound client place (held_in self.now client id)) }
-    {
-        let Some(buffer) = self.laid(client, id, place) else {
-            return Ok(Found::Nothing);
-        };
-        if let Kind::Plain = buffer.kind {
-            return Ok(Found::Entry(Entry {
-                buffer,
-                content: &[],
-                shader: None,
-            }));
-        }
-        match &self.kept[slot(client, id)] {
-            Some(kept) => Ok(Found::Entry(Entry {
-                buffer,
-                content: bytes_in(kept),
-                shader: Some(copy_of(alloc, &kept.info)?),
-            })),
-            None => Ok(Found::Unknown),
-        }
-    }
-
-    /// A client's live buffers as the file of a job has them, each directly behind the one before; `None` where nothing is kept of a Code
-    /// buffer.
-    pub(crate) fn entries<'a>(
-        &'a self,
-        alloc: Global,
-        client: u8,
-    ) -> Result<Option<Entries<'a>>, NoMemory>
-        requires { client < 8 }
-        ensures { IfOk result (λ found. IfSome found (AreAll client (held_in self.now client))) }
-    {
-        let mut entries = Entries::new(alloc);
-        let mut place = FIRST_PLACE;
-        for id in 0..MOST_BUFFERS {
-            let found = self.entry(alloc, client, id, place)?;
-            match found {
-                Found::Nothing => {}
-                Found::Unknown => return Ok(None),
-                Found::Entry(entry) => {
-                    place += entry.buffer.size;
-                    entries.push(entry)?;
-                }
-            }
-        }
-        Ok(Some(entries))
     }
 
     // Puts what a buffer gives to the contents of a job's file: all its bytes where it is Code.

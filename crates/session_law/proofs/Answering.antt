@@ -1,5 +1,6 @@
 -- Calls answer and leave what the calls before them say, from a new session on.
-use Rattle.job_session.proofs.{Held.held_none, Apart.replies_are_own, Bytes.is_within, Bytes.within_none, Bytes.zero_at}
+use Rattle.job_session.proofs.{Held.held_none, Apart.replies_are_own}
+use Rattle.session_law.proofs.Bytes.{is_within, within_none, zero_at}
 use Rattle.std.proofs.Common.{ne_eqb, ◌≡◌, ℕ, ◌+◌, ◌<◌, ◌==◌, not, nat_lt, Bool, true, false, if◌then◌else◌, List, [], ◌∷◌, ◌++◌, length, get_or, slice_index, replicate, None, arith, refl, sym, ◌∙◌, ap, subst}
 use Rattle.std.proofs.{lemmas.Bool.Decides.nat_tests, lemmas.List.get_or-replicate, lemmas.List.length-replicate}
 use Rattle.job_session.specs.Own.{Command, Create, Make, Write, Read, Free, Submit, Reply, own_replies, outcome, most_buffers}

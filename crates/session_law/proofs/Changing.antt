@@ -1,6 +1,7 @@
 -- One slot changes, with the pages that it has or gets: all others stay as they are.
 use Rattle.overflow_slots.proofs.Searches.{equal, apart_by}
-use Rattle.job_session.proofs.{Held.held_some, Bytes.is_within, Bytes.window_same}
+use Rattle.job_session.proofs.Held.{held_some}
+use Rattle.session_law.proofs.Bytes.{is_within, window_same}
 use Rattle.std.proofs.Common.{ne_eqb, ◌≡◌, ◌⊎◌, inl, inr, ℕ, ◌+◌, ◌*◌, ◌/◌, ◌%◌, ◌<◌, ◌≤◌, ◌==◌, ◌&&◌, not, nat_lt, Bool, true, false, if◌then◌else◌, List, slice_index, Option, Some, None, arith, refl, sym, ◌∙◌, ap, subst}
 use Rattle.std.proofs.lemmas.Bool.Decides.{nat_tests}
 use Rattle.field_words.specs.Sizes.{page_size}

@@ -6,7 +6,7 @@ use Rattle.overflow_slots.specs.Search.{count_where}
 use Rattle.session_pages.specs.Runs.{page_count}
 use Rattle.job_session.specs.{Own.most_buffers, Places.covers, Session.Past, Desk.Desk, Desk.slot_of, Desk.first_page, Desk.page_total}
 use Rattle.session_law.specs.Agree.{IsKey, client_count, place_in, owner_at, Agrees}
-use Rattle.job_session.proofs.Bytes.{is_within}
+use Rattle.session_law.proofs.Bytes.{is_within}
 use Rattle.session_law.proofs.Changing.{slot_below}
 
 -- how many pages the buffers of n ids from one on have, and whether one of them has the page

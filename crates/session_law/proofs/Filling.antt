@@ -12,7 +12,7 @@ use Rattle.job_session.specs.Own.{Held, Command, Create, Make, Write, Read, Free
 use Rattle.job_session.specs.{Places.Place, Places.is_used, Places.least_place, Checked.shader_refusal, Checked.session_rules}
 use Rattle.job_session.specs.{Session.Past, Session.pages_of, Session.placed_reply, Session.reply_by, Session.reply_to, Desk.pages_for}
 use Rattle.session_law.specs.{Full.IsRoom, Full.HasNoRoom, Full.IsFullFor, Laws.FullIsExact, Laws.PlacesAreLowest}
-use Rattle.job_session.proofs.Runs.{both_true, all_found}
+use Rattle.session_law.proofs.Runs.{both_true, all_found}
 use Rattle.session_law.proofs.{Making.zero_buffer, Creating.zero_pages, Coding.shader_buffer, Coding.padded_pages, Coding.some_pages}
 use Rattle.session_law.proofs.{Shaders.shader_some, Answering.calls_are_answered}
 

@@ -1,6 +1,6 @@
 -- A buffer's pages are given back.
 use Rattle.overflow_slots.proofs.Searches.{equal, apart_by}
-use Rattle.job_session.proofs.Bytes.{is_within, is_inside, within_none, held_inside, held_outside, length_held, written_apart, zero_at}
+use Rattle.session_law.proofs.Bytes.{is_within, is_inside, within_none, held_inside, held_outside, length_held, written_apart, zero_at}
 use Rattle.job_session.proofs.Held.{held_none}
 use Rattle.std.proofs.Common.{ne_eqb, ◌≡◌, inl, inr, ℕ, ◌+◌, ◌-◌, ◌*◌, ◌<◌, ◌≤◌, ◌==◌, ◌&&◌, not, Bool, true, false, List, length, slice_index, slice_set, None, arith, refl, sym, ◌∙◌, ap, subst}
 use Rattle.std.proofs.lemmas.List.{get_or-set_same, get_or-set_other, length-set}

@@ -10,7 +10,7 @@ use Rattle.job_session.specs.Desk.{Desk, slot_of, first_page, page_total, kind_o
 use Rattle.job_session.specs.{Own.Held, Places.Place, Places.covers, Places.is_used, Session.Past, Session.none_yet}
 use Rattle.session_law.specs.Agree.{IsKey, client_count, place_in, owner_at, AreListed, IsListed, Agrees}
 use Rattle.session_law.specs.{History.desk_left, History.past_left, Kept.LiesAt, Kept.HasPlace, Kept.IsLive, Kept.IsKept, Laws.MemoryIsKept}
-use Rattle.job_session.proofs.Bytes.{within_yes, window_length}
+use Rattle.session_law.proofs.Bytes.{within_yes, window_length}
 use Rattle.session_law.proofs.{Changing.same_slot, Changing.slot_below, Changing.held_live, Listing.listed_some, Answering.histories_agree}
 use Rattle.session_law.proofs.{Writing.own_page, Writing.room_in, Outcomes.live_key, Outcomes.live_held, Outcomes.dead_held}
 

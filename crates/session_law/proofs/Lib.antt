@@ -1,4 +1,5 @@
 pub mod Answering
+pub mod Bytes
 pub mod Changing
 pub mod Coding
 pub mod Counting
@@ -12,6 +13,7 @@ pub mod Lying
 pub mod Making
 pub mod Outcomes
 pub mod Rooms
+pub mod Runs
 pub mod Scripting
 pub mod Shaders
 pub mod Writing

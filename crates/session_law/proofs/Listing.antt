@@ -4,7 +4,7 @@ use Rattle.std.proofs.Common.{eq-eqb, ◌≡◌, ℕ, ◌+◌, ◌<◌, ◌≤�
 use Rattle.session_pages.specs.Runs.{page_count}
 use Rattle.job_session.specs.{Places.Place, Places.covers, Places.is_used, Places.is_of, Places.without, Session.Past}
 use Rattle.job_session.specs.Desk.{Desk, slot_of, page_total}
-use Rattle.job_session.proofs.Runs.{both_true}
+use Rattle.session_law.proofs.Runs.{both_true}
 use Rattle.session_law.specs.Agree.{IsKey, place_in, owner_at, AreListed, IsListed, Agrees}
 use Rattle.session_law.proofs.Changing.{same_slot}
 

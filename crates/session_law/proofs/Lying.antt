@@ -1,5 +1,6 @@
 -- A submit's answer is also that of the file with the client's buffers where they lie.
-use Rattle.job_session.proofs.{Held.held_none, Bytes.within_yes, Bytes.window_length}
+use Rattle.job_session.proofs.Held.{held_none}
+use Rattle.session_law.proofs.Bytes.{within_yes, window_length}
 use Rattle.std.proofs.Common.{◌≡◌, ◌⊎◌, inl, inr, ℕ, zero, suc, ◌+◌, ◌*◌, ◌%◌, ◌<◌, ◌≤◌, nat_le, Bool, true, false, List, [], ◌∷◌, ◌++◌, length, map, Option, Some, None, arith, refl, sym, ◌∙◌, ap}
 use Rattle.std.proofs.lemmas.Bool.Decides.{nat_tests}
 use Rattle.std.specs.List.{flat_map}

@@ -9,7 +9,7 @@ use Rattle.session_pages.specs.{Runs.page_count, Map.place_of}
 use Rattle.job_session.specs.Desk.{Desk, SlotsFit, slot_count, slot_of, first_page, page_total, kind_of, bytes_of, held_in, with_place}
 use Rattle.job_session.specs.{Own.Held, Own.with_buffer, Places.Place, Places.covers, Places.is_used, Session.Past, Session.with_own}
 use Rattle.session_law.specs.Agree.{IsKey, IsSized, place_in, owner_at, AreListed, Agrees}
-use Rattle.job_session.proofs.Bytes.{is_within, within_none, held_inside, held_outside, length_held, window_is, zero_at}
+use Rattle.session_law.proofs.Bytes.{is_within, within_none, held_inside, held_outside, length_held, window_is, zero_at}
 use Rattle.session_law.proofs.Changing.{IsChange, change_agrees, slot_below, same_slot, held_live, page_small, page_covered, byte_page}
 use Rattle.session_law.proofs.Listing.{listed_same}
 

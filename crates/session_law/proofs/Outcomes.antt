@@ -13,7 +13,7 @@ use Rattle.job_session.specs.{Own.write_in as own_write_in, Places.Place, Places
 use Rattle.job_session.specs.Session.{Call, Past, with_own, reply_by, past_by}
 use Rattle.job_session.specs.Replies.{done_reply, read_reply, submitted_reply}
 use Rattle.session_law.specs.Agree.{IsKey, client_count, AreListed, IsListed, Agrees}
-use Rattle.job_session.proofs.{Bytes.window_length, Bytes.read_window, Runs.both_true}
+use Rattle.session_law.proofs.{Bytes.window_length, Bytes.read_window, Runs.both_true}
 use Rattle.session_law.proofs.{Listing.is_of_key, Listing.listed_some, Writing.Lies, Writing.write_agrees, Writing.room_in}
 use Rattle.session_law.proofs.Freeing.{free_agrees}
 

@@ -7,7 +7,7 @@ use Rattle.session_pages.specs.{Runs.page_count, Runs.all_where, Runs.is_run, Ru
 use Rattle.job_session.specs.{Own.Held, Own.most_buffers, Own.free_if, Own.is_free_id, Places.least_place, Places.is_used, Session.Past}
 use Rattle.job_session.specs.Desk.{Desk, page_total, kind_of, bytes_of, held_in, is_vacant, least_id}
 use Rattle.session_law.specs.Agree.{IsKey, client_count, owner_at, Agrees}
-use Rattle.job_session.proofs.{Bytes.is_inside, Runs.run_found}
+use Rattle.session_law.proofs.{Bytes.is_inside, Runs.run_found}
 use Rattle.session_law.proofs.{Changing.held_if, Changing.held_is, Making.HasRoom}
 
 free_by : (b v : Bool) (held : Held) → b ≡ true → free_if (held_if (b && not v) held) ≡ v

@@ -10,7 +10,7 @@ use Rattle.std.specs.List.{flat_map}
 use Rattle.session_law.specs.Scripts.{told_of, past_with, told_reply, told_after, onto_calls, calls_in, ScriptsAreOfHistories, ScriptsAreOfCalls}
 use Rattle.session_law.specs.{History.AreKnown, History.desk_replies, Agree.client_count, Agree.Agrees}
 use Rattle.session_law.proofs.Answering.{calls_are_answered, new_sessions_agree}
-use Rattle.job_session.proofs.Runs.{both_true}
+use Rattle.session_law.proofs.Runs.{both_true}
 
 some_number : (a b : ℕ) → Some a ≡ Some b → a ≡ b
 some_number a b is = cc

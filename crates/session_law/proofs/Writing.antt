@@ -7,7 +7,7 @@ use Rattle.session_pages.specs.{Runs.page_count, Map.place_of}
 use Rattle.job_session.specs.Desk.{Desk, slot_of, first_page, page_total, kind_of, bytes_of, held_in, with_written}
 use Rattle.job_session.specs.{Own.Held, Own.with_buffer, Session.Past, Session.with_own}
 use Rattle.session_law.specs.Agree.{IsKey, IsSized, owner_at, Agrees}
-use Rattle.job_session.proofs.Bytes.{is_within, is_outside, window_written, written_apart}
+use Rattle.session_law.proofs.Bytes.{is_within, is_outside, window_written, written_apart}
 use Rattle.session_law.proofs.{Changing.IsChange, Changing.change_agrees, Changing.slot_below, Changing.held_live, Listing.listed_same}
 
 -- a buffer has pages, and the bytes end in them

@@ -94,6 +94,16 @@ pub found : (p : ℕ → Bool) (n first page : ℕ) → 1 ≤ n → page < page_
 found p n first page some inside long begun none free here =
     run_is p n first some (omega arith) none (λ j low high. one_more p first page j low (omega arith) free here)
 
+barred_by : (p : ℕ → Bool) (n first page : ℕ) → page < first + n → ((j : ℕ) → j < first → is_run p n j ≡ false) → p page ≡ false
+    → (j : ℕ) → j < page + 1 → (at : Bool) → nat_le first j ≡ at → is_run p n j ≡ false
+barred_by p n first page short none here j high true is = let low : first ≤ j = grind (arith, nat_tests) in no_run p n j page (omega arith) (omega arith) here
+barred_by p n first page short none here j high false is = none j (grind (arith, nat_tests))
+
+-- this page doesn't pass
+pub barred : (p : ℕ → Bool) (n first page : ℕ) → page < first + n → ((j : ℕ) → j < first → is_run p n j ≡ false) → p page ≡ false
+    → (j : ℕ) → j < page + 1 → is_run p n j ≡ false
+barred p n first page short none here j high = barred_by p n first page short none here j high (nat_le first j) refl
+
 never_by : (p : ℕ → Bool) (n first page : ℕ) → page_count ≤ page → page < first + n → ((j : ℕ) → j < first → is_run p n j ≡ false)
     → (j : ℕ) (at : Bool) → nat_le first j ≡ at → is_run p n j ≡ false
 never_by p n first page end short none j true is = let low : first ≤ j = grind (arith, nat_tests) in no_room p n j (omega arith)

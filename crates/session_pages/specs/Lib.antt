@@ -1,4 +1,2 @@
-pub mod Kept
 pub mod Map
-pub mod Marks
 pub mod Runs

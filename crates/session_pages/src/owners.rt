@@ -1,11 +1,30 @@
-//! Who holds each page.
-ghost use Rattle.std.specs.Prelude.{◌≡◌, ◌≤◌, ◌+◌, length, IfOk, replicate};
+//! Who holds each page, and runs of free pages.
+ghost use Rattle.std.specs.Prelude.{◌≡◌, ◌≤◌, ◌+◌, length, IfOk, IfSome, replicate};
 ghost use Rattle.field_words.specs.Writes.{with_bytes, zeros};
-ghost use Rattle.session_pages.specs.Map.{held_by};
-ghost use Rattle.session_pages.specs.Runs.{page_count};
+ghost use Rattle.session_pages.specs.Map.{is_free, held_by};
+ghost use Rattle.session_pages.specs.Runs.{page_count, first_run as lowest_run};
 
+use crate::pages::PAGE_COUNT;
 use field_words::NoMemory;
 use std::alloc::Global;
+
+/// The lowest run of so many free pages.
+pub fn first_run(owners: &[u16], pages: u32) -> Option<u32>
+    requires some { 1 ≤ pages }
+    requires sized { length owners.now ≡ page_count }
+    ensures first { result ≡ lowest_run (is_free owners.now) pages }
+    ensures inside { IfSome result (λ first. first + pages ≤ page_count) }
+{
+    let mut first = 0;
+    for page in 0..PAGE_COUNT {
+        if owners[page as usize] != 0 {
+            first = page + 1;
+        } else if page + 1 - first == pages {
+            return Some(first);
+        }
+    }
+    None
+}
 
 /// The pages from one on are held by this owner.
 pub fn hold(owners: &mut Vec<u16>, first: u32, pages: u32, owner: u16)

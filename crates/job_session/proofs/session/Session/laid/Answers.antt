@@ -26,4 +26,4 @@ returns-clause-buffer c =
     } in
     subst (λ d. Some buffer ≡ laid_in c.args.client c.args.place (held_in d c.args.client c.args.id)) c.self.view_is
     (laid_some desk c.args.client c.args.id slot c.args.place c.from.result c.content_size.result c.requires.id c.requires.client c.slot-slot.ensures
-    c.if-self-slot-eq0.false c.self.invariant.0.fits c.size-size.ensures.sized c.from.ensures c.content_size.ensures.content)
+    c.if-self-slot-eq0.false c.self.invariant c.size-size.ensures.sized c.from.ensures c.content_size.ensures.content)

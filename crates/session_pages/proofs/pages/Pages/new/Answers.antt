@@ -1,16 +1,11 @@
-use Rattle.std.proofs.Common.{◌∙◌, ap, length, sym, subst}
+use Rattle.std.proofs.Common.{◌∙◌, ap, length}
 use Rattle.field_words.proofs.Writes.{length_zeros}
-use Rattle.session_pages.specs.{Map.memory_size, Marks.AreMarks, Runs.page_count}
-use Rattle.field_words.specs.Writes.{zeros}
-use Rattle.session_pages.proofs.Bits.{none_marked}
+use Rattle.session_pages.specs.Map.{memory_size}
+use Rattle.session_pages.specs.Runs.{page_count}
 use Rattle.session_pages.proofs.pages.Pages.new.Goals as goal
 
 pub invariant_of-result : goal.invariant_of-result
-invariant_of-result c = (
-  record {
-    sized = ap length c.in_ok-memory.ensures ∙ length_zeros memory_size;
-    known = ap length c.in_ok-owners.ensures ∙ length_zeros page_count;
-  },
-  subst (λ owners. AreMarks owners c.none-marks.result) (sym c.in_ok-owners.ensures)
-      (subst (AreMarks (zeros page_count)) (sym c.none-marks.ensures) none_marked),
-)
+invariant_of-result c = record {
+  sized = ap length c.in_ok-memory.ensures ∙ length_zeros memory_size;
+  known = ap length c.in_ok-owners.ensures ∙ length_zeros page_count;
+}

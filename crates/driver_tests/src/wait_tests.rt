@@ -3,8 +3,8 @@ ghost use Rattle.std.specs.Prelude.{◌≤◌, length};
 ghost use Rattle.field_words.specs.Sizes.{most_words};
 
 use field_words::NoMemory;
+use job_bound::find_wait;
 use shader_flow::flow;
-use shader_waits::find_wait;
 use std::alloc::Global;
 use std::test::Fail;
 
@@ -21,11 +21,11 @@ const SEND: u64 = 0x10020e27009e7000;
 // `br imm=8`: to the fifth instruction after it
 const BRANCH: u64 = 0xf00809e700000008;
 
-fn wait_of(alloc: Global, code: &[u64]) -> Result<Option<u32>, NoMemory>
+fn wait_of(alloc: Global, code: &[u64]) -> Result<Option<u64>, NoMemory>
     requires few { length code.now ≤ most_words }
 {
     let end = flow(alloc, code)?.end;
-    find_wait(alloc, code, end)
+    find_wait(alloc, code, end, 0)
 }
 
 #[test]
@@ -48,12 +48,12 @@ fn waits(rt: HostRuntime) -> Result<(), Fail> {
     assert_eq!(rt; wait_of(rt.alloc(), &[LOAD, END, NOP, NOP])?, Some(0));
     assert_eq!(rt;
         wait_of(rt.alloc(), &[SEND, LOAD_1, END, NOP, NOP])?,
-        Some(1)
+        Some(8)
     );
     let nine = [
         SEND, SEND, SEND, SEND, SEND, SEND, SEND, SEND, SEND, END, NOP, NOP,
     ];
-    assert_eq!(rt; wait_of(rt.alloc(), &nine)?, Some(8));
+    assert_eq!(rt; wait_of(rt.alloc(), &nine)?, Some(64));
     let over = [BRANCH, NOP, NOP, NOP, SEND, LOAD, END, NOP, NOP];
     assert_eq!(rt; wait_of(rt.alloc(), &over)?, Some(0));
     Ok(())
