@@ -1,12 +1,12 @@
 # Builds and installs the program, the library and their pages. It needs the Rattle kit (`rt`) and a C compiler.
 #
-#   make                              the program, libvc4check.a and libvc4check.so.1, into out/
+#   make                              the program, libvc4check.a and libvc4check.so.2, into out/
 #   make install PREFIX=/usr/local    (DESTDIR=FOLDER puts all below that folder)
 #   install/try                       installs into a folder of its own, and builds and runs a program against what is installed
 PREFIX = /usr/local
 DESTDIR =
-ABI = 1
-VERSION = $(ABI).1.0
+ABI = 2
+VERSION = $(ABI).0.0
 CFLAGS = -O2
 PROGRAM = crates/vc4check/out/vc4check
 PROVED = crates/vc4check_c/out/libvc4check_c.a

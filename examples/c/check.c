@@ -40,7 +40,7 @@ static void print_job(const struct vc4check_job *job) {
 }
 
 /* A file of version 1 has one job, whose number isn't printed. The version is the file's fifth byte. */
-static void print_accepted(const struct vc4check_jobs_answer *a, int version, const uint8_t *memory) {
+static void print_accepted(const struct vc4check_answer *a, int version, const uint8_t *memory) {
     printf("accepted\nmemory %u\n", a->size);
     for (uint32_t j = 0; j < a->jobs; j++) {
         if (version != 1) printf("job %u\n", j);
@@ -54,10 +54,13 @@ int main(int count, char **words) {
     size_t length = 0;
     uint8_t *bytes = count == 2 ? whole(words[1], &length) : NULL;
     if (!bytes || vc4check_version() != VC4CHECK_VERSION) return 3;
-    uint32_t room = vc4check_size(bytes, length);
-    uint8_t *block = malloc(room ? room : 1);
-    struct vc4check_jobs_answer answer;
-    uint32_t status = block ? vc4check_check_jobs(bytes, length, block, room, &answer) : VC4CHECK_NO_MEMORY;
+    uint8_t none, *block = NULL;
+    struct vc4check_answer answer;
+    uint32_t status = vc4check_check(bytes, length, &none, 0, &answer);
+    if (status == VC4CHECK_SHORT) {
+        block = malloc(answer.size);
+        status = block ? vc4check_check(bytes, length, block, answer.size, &answer) : VC4CHECK_NO_MEMORY;
+    }
     if (status == VC4CHECK_ACCEPTED) print_accepted(&answer, bytes[4], block);
     if (status == VC4CHECK_REFUSED) printf("refused %c%u at %llu\n", (int)answer.letter, answer.number, (unsigned long long)answer.offset);
     free(block);

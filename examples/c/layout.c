@@ -24,31 +24,27 @@ static void expect(const char *what, const void *answer, size_t offset, size_t b
 
 /* A file that ends before its header: F2 at 0. A file with a wrong version: F1 at 4. */
 static void refused_files(size_t length) {
-    _Alignas(8) uint8_t answer[512] = {0}, other[512] = {0};
+    _Alignas(8) uint8_t answer[512] = {0};
     vc4check_check(file, 0, window, 0, (struct vc4check_answer *)answer);
     expect("answer.letter", answer, 8, 4, 'F');
     expect("answer.number", answer, 12, 4, 2);
     file[4] = 9;
-    vc4check_check_jobs(file, length, window, 0, (struct vc4check_jobs_answer *)other);
-    expect("jobs_answer.offset", other, 0, 8, 4);
-    expect("jobs_answer.letter", other, 8, 4, 'F');
-    expect("jobs_answer.number", other, 12, 4, 1);
+    vc4check_check(file, length, window, 0, (struct vc4check_answer *)answer);
+    expect("answer.offset", answer, 0, 8, 4);
+    expect("answer.number", answer, 12, 4, 1);
     file[4] = 1;
 }
 
 /* The renderer list is the last, and ends before the end by less than 16 bytes; the slot is where the file says. */
 static void accepted_file(size_t length) {
-    _Alignas(8) uint8_t answer[512] = {0}, jobs[512] = {0};
+    _Alignas(8) uint8_t answer[512] = {0};
     vc4check_check(file, length, window, 0, (struct vc4check_answer *)answer);
-    vc4check_check_jobs(file, length, window, 0, (struct vc4check_jobs_answer *)jobs);
     expect("answer.size", answer, 16, 4, read_at(file, 8, 4));
-    expect("answer.lists", answer, 20, 4, read_at(file, 12, 4));
-    expect("answer.slot", answer, 24, 4, read_at(file, 20, 4));
-    expect("answer.bin", answer, 28, 4, 0);
-    expect("answer.render_length", answer, 60, 4, read_at(answer, 44, 4) - read_at(answer, 40, 4));
-    expect("jobs_answer.size", jobs, 16, 4, read_at(file, 8, 4));
-    expect("jobs_answer.jobs", jobs, 20, 4, 1);
-    for (size_t field = 0; field < 11; field++) expect("job", jobs, 24 + 4 * field, 4, read_at(answer, 20 + 4 * field, 4));
+    expect("answer.jobs", answer, 20, 4, 1);
+    expect("job.lists", answer, 24, 4, read_at(file, 12, 4));
+    expect("job.slot", answer, 28, 4, read_at(file, 20, 4));
+    expect("job.bin", answer, 32, 4, 0);
+    expect("job.render_length", answer, 64, 4, read_at(answer, 48, 4) - read_at(answer, 44, 4));
 }
 
 /* The same job as a submission, and then with its handle 0 naming no buffer: H1 at handle 0; and with an unknown kind of buffer 1: F5. */
@@ -57,7 +53,7 @@ static void submissions(void) {
     size_t length;
     struct vc4check_submission *s = &filled.submission;
     uint8_t *moved = job_file_of_submission(s, false, &length);
-    vc4check_place(moved, length, window, sizeof window, (struct vc4check_jobs_answer *)jobs);
+    vc4check_place(moved, length, window, sizeof window, (struct vc4check_answer *)jobs);
     vc4check_submit(s, window, sizeof window, (struct vc4check_verdict *)taken);
     expect("verdict.size", taken, 24, 4, read_at(jobs, 16, 4));
     for (size_t field = 0; field < 11; field++) expect("verdict.job", taken, 28 + 4 * field, 4, read_at(jobs, 24 + 4 * field, 4));

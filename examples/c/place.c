@@ -55,10 +55,9 @@ static int same_job(const struct vc4check_job *a, const struct vc4check_job *b) 
 
 /* Whether the two answers are the same: 1, or 0; 2 where the job can't be moved. */
 static int compare(uint8_t *bytes, size_t length) {
-    struct vc4check_jobs_answer below, above;
-    uint32_t size = vc4check_size(bytes, length), room = size, same;
-    uint8_t *block = malloc(room ? room : 1), *window = malloc(MOST);
-    uint32_t status = vc4check_check_jobs(bytes, length, block, room, &below);
+    struct vc4check_answer below, above;
+    uint8_t *block = malloc(MOST), *window = malloc(MOST);
+    uint32_t status = vc4check_check(bytes, length, block, MOST, &below), same;
     uint32_t region = length < HEADER ? 0 : word_at(bytes + 12);
     if (!move_all(bytes, length)) {
         same = 2;

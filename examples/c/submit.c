@@ -66,7 +66,7 @@ static bool same_job(const struct vc4check_job *a, const struct vc4check_job *b)
 /* What is told of the file at its own places, its memory, and the lists of the same file at the moved ones. */
 struct wanted {
     uint32_t status;
-    struct vc4check_jobs_answer answer;
+    struct vc4check_answer answer;
     uint8_t *memory, *lists;
 };
 
@@ -96,14 +96,13 @@ static bool answers(const struct wanted *wanted, uint8_t *window) {
 /* 1: the same; 0: not; 2: no submission is of this file. */
 static int compare(uint8_t *bytes, size_t length, uint8_t *window) {
     struct wanted wanted = {0};
-    uint32_t room = vc4check_size(bytes, length);
     if (!submission_of_job_file(bytes, length, MOVED, &filled)) return 2;
-    wanted.memory = malloc(room ? room : 1);
+    wanted.memory = malloc(MOST);
     wanted.lists = malloc(MOST);
-    wanted.status = vc4check_check_jobs(bytes, length, wanted.memory, room, &wanted.answer);
+    wanted.status = vc4check_check(bytes, length, wanted.memory, MOST, &wanted.answer);
     if (wanted.status == VC4CHECK_REFUSED) refused++;
     size_t moved_length;
-    struct vc4check_jobs_answer moved_answer;
+    struct vc4check_answer moved_answer;
     uint8_t *moved = job_file_of_submission(&filled.submission, false, &moved_length);
     bool same = vc4check_place(moved, moved_length, wanted.lists, MOST, &moved_answer) == wanted.status && answers(&wanted, window);
     make_shaders(&filled.submission);

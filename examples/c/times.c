@@ -48,13 +48,12 @@ static const char *names[] = {"check", "place", "submit", "submit, no shader mad
 /* So many calls of one kind, and what one took. */
 static void measure(int call, const uint8_t *file, size_t length, uint8_t *block, uint32_t room, long calls) {
     struct vc4check_answer answer;
-    struct vc4check_jobs_answer jobs;
     struct vc4check_verdict verdict;
     uint32_t status = VC4CHECK_NO_MEMORY;
     double start = now(CLOCK_MONOTONIC), used = now(CLOCK_PROCESS_CPUTIME_ID);
     for (long i = 0; i < calls; i++) {
         if (call == CHECK) status = vc4check_check(file, length, block, room, &answer);
-        else if (call == PLACE) status = vc4check_place(file, length, window, sizeof window, &jobs);
+        else if (call == PLACE) status = vc4check_place(file, length, window, sizeof window, &answer);
         else status = vc4check_submit(&filled.submission, window, sizeof window, &verdict);
     }
     double each = (now(CLOCK_MONOTONIC) - start) / (double)calls, work = (now(CLOCK_PROCESS_CPUTIME_ID) - used) / (double)calls;
@@ -141,7 +140,8 @@ int main(int count, char **words) {
     if (!file || calls < 1) return 3;
     size_t length = fread(bytes, 1, sizeof bytes, file), moved_length = 0;
     fclose(file);
-    uint32_t room = vc4check_size(bytes, length);
+    struct vc4check_answer answer;
+    uint32_t room = vc4check_check(bytes, length, window, 0, &answer) == VC4CHECK_SHORT ? answer.size : 0;
     uint8_t *block = malloc(room ? room : 1), *moved = NULL;
     if (!block) return 5;
     measure(CHECK, bytes, length, block, room, calls);

@@ -25,7 +25,7 @@ extern "C" {
 #endif
 
 /* The version of this header. It is that of the library where vc4check_version() answers the same. */
-#define VC4CHECK_VERSION 2
+#define VC4CHECK_VERSION 3
 
 /* How a call ended. */
 enum {
@@ -36,19 +36,14 @@ enum {
     VC4CHECK_TOO_LONG = 4   /* of a shader alone: more than 8,192 words (65,536 bytes); no rule was asked */
 };
 
-/*
- * What is told of a job file of one job; of a file of several, what is told of the first. After VC4CHECK_REFUSED the first three
- * fields say why, and the others are 0; after VC4CHECK_ACCEPTED and VC4CHECK_SHORT those three are 0, and the others are the job's.
- * Sizes, places and lengths are in bytes.
- */
-struct vc4check_answer {
-    uint64_t offset;          /* of what the rule is about, from the file's start */
-    uint32_t letter;          /* of the rule, in ASCII: 'F' 'M' 'S' 'H' 'B' 'A' 'U' 'G' 'X' */
-    uint32_t number;          /* of the rule, from 1 on */
-    uint32_t size;            /* of the job's memory */
-    uint32_t lists;           /* the place where the job's lists begin in it */
+/* The most jobs of a file. */
+#define VC4CHECK_MOST_JOBS 8
+
+/* What is told of one accepted job. Places and lengths are in bytes. */
+struct vc4check_job {
+    uint32_t lists;           /* the place where the job's lists begin in the memory */
     uint32_t slot;            /* the place of the job's tile slot in it, of 524,288 bytes */
-    uint32_t bin;             /* where behind that place the binner list begins, */
+    uint32_t bin;             /* where behind that of the lists the binner list begins, */
     uint32_t records;         /*   the shader records, */
     uint32_t uniforms;        /*   the uniforms, */
     uint32_t render;          /*   the renderer list, */
@@ -59,33 +54,15 @@ struct vc4check_answer {
     uint32_t render_length;
 };
 
-/* The most jobs of a file. */
-#define VC4CHECK_MOST_JOBS 8
-
-/* What is told of one job of an accepted file, as in struct vc4check_answer. */
-struct vc4check_job {
-    uint32_t lists;
-    uint32_t slot;
-    uint32_t bin;
-    uint32_t records;
-    uint32_t uniforms;
-    uint32_t render;
-    uint32_t end;
-    uint32_t bin_length;
-    uint32_t records_length;
-    uint32_t uniforms_length;
-    uint32_t render_length;
-};
-
 /*
  * What is told of a job file of 1 to 8 jobs. After VC4CHECK_REFUSED the first three fields say why, and all others are 0; after
  * VC4CHECK_ACCEPTED and VC4CHECK_SHORT those three are 0, and the first `jobs` of `job` are the file's jobs in order; the rest are 0.
  */
-struct vc4check_jobs_answer {
-    uint64_t offset; /* of what the rule is about, from the file's start */
-    uint32_t letter; /* of the rule, in ASCII */
+struct vc4check_answer {
+    uint64_t offset; /* of what the rule is about, in bytes from the file's start */
+    uint32_t letter; /* of the rule, in ASCII: 'F' 'M' 'S' 'H' 'B' 'A' 'U' 'G' 'X' */
     uint32_t number; /* of the rule, from 1 on */
-    uint32_t size;   /* of the memory of all jobs */
+    uint32_t size;   /* of the memory of all jobs, in bytes */
     uint32_t jobs;   /* how many there are */
     struct vc4check_job job[VC4CHECK_MOST_JOBS];
 };
@@ -234,9 +211,8 @@ struct vc4check_verdict {
 };
 
 #if !defined(__cplusplus) && defined(__STDC_VERSION__) && __STDC_VERSION__ >= 201112L
-_Static_assert(sizeof(struct vc4check_answer) == 64, "as long as the library's");
 _Static_assert(sizeof(struct vc4check_job) == 44, "as long as the library's");
-_Static_assert(sizeof(struct vc4check_jobs_answer) == 24 + 8 * 44, "as long as the library's");
+_Static_assert(sizeof(struct vc4check_answer) == 24 + 8 * 44, "as long as the library's");
 _Static_assert(sizeof(struct vc4check_bound_answer) == 40, "as long as the library's");
 _Static_assert(sizeof(struct vc4check_shader_answer) == 16 + 2 * sizeof(size_t), "as long as the library's");
 _Static_assert(sizeof(struct vc4check_sample) == 20, "as long as the library's");
@@ -252,29 +228,17 @@ _Static_assert(sizeof(struct vc4check_verdict) == 28 + 44, "as long as the libra
 uint32_t vc4check_version(void);
 
 /*
- * How many bytes of memory the job file asks for, at most 64 MiB; 0 where its first twelve bytes aren't there or it asks for a
- * size that no memory may have. No other rule is asked. An accepted file needs a block of exactly so many bytes.
- */
-uint32_t vc4check_size(const uint8_t *bytes, size_t length);
-
-/*
- * Checks the job file in `bytes`, and tells of its first job: of a file of several jobs the call below tells of all, and the memory is
- * that of all. Where no rule stands, the memory that the job is to run in is put into `block`, from its start
- * on and with all lists relocated: places in it count from the block's start. Bytes of the block behind the job's memory stay.
+ * Checks the job file in `bytes`, of 1 to 8 jobs. Where no rule stands, the memory that the jobs are to run in is put into `block`, from its
+ * start on and with all lists relocated: places in it count from the block's start. Bytes of the block behind that memory stay. One
+ * machine runs the jobs, and each may reach what its own handles, lists and slot allow.
  *
  * VC4CHECK_ACCEPTED   `answer` is filled in, and the memory is in the block.
  * VC4CHECK_REFUSED    `answer` names the first rule that stands, and where; the block is as before.
- * VC4CHECK_SHORT      the job is accepted and `answer` is filled in, but `room` is below answer->size; the block is as before. A
- *                     room of 0 asks for the verdict alone.
+ * VC4CHECK_SHORT      the jobs are accepted and `answer` is filled in, but `room` is below answer->size; the block is as before. A
+ *                     room of 0 asks for the verdict and the size alone.
  * VC4CHECK_NO_MEMORY  `answer` and the block are as before.
  */
 uint32_t vc4check_check(const uint8_t *bytes, size_t length, uint8_t *block, size_t room, struct vc4check_answer *answer);
-
-/*
- * The same of a job file of 1 to 8 jobs, with what is told of each. The memory in the block is that of all jobs: one machine runs them,
- * and each may reach what its own handles, lists and slot allow.
- */
-uint32_t vc4check_check_jobs(const uint8_t *bytes, size_t length, uint8_t *block, size_t room, struct vc4check_jobs_answer *answer);
 
 /*
  * The same of a job file of 1 to 8 jobs whose places are addresses of the bus, for a driver: its memory, whose size the header gives, may
@@ -287,7 +251,7 @@ uint32_t vc4check_check_jobs(const uint8_t *bytes, size_t length, uint8_t *block
  * VC4CHECK_SHORT      the jobs are accepted and `answer` is filled in, but `room` is below answer->size; the window is as before.
  * VC4CHECK_NO_MEMORY  `answer` and the window are as before.
  */
-uint32_t vc4check_place(const uint8_t *bytes, size_t length, uint8_t *window, size_t room, struct vc4check_jobs_answer *answer);
+uint32_t vc4check_place(const uint8_t *bytes, size_t length, uint8_t *window, size_t room, struct vc4check_answer *answer);
 
 /*
  * Checks the job file in `bytes`, and tells how many steps a run of its jobs takes at most. No memory of the jobs is made.

@@ -1,25 +1,46 @@
 -- What is told of a submission of which no rule stands.
-use Rattle.std.proofs.Common.{◌≡◌, ◌≤◌, length, None, ap, subst, arith, ◌∙◌}
+use Rattle.std.proofs.Common.{◌≡◌, ℕ, ◌≤◌, List, [], ◌∷◌, length, get_or, None, ap, subst, arith, ◌∙◌}
+use Rattle.std.specs.List.{AllByRecursion}
 use Rattle.field_words.specs.Questions.{first_of}
-use Rattle.relocation.specs.Layout.{region_end}
-use Rattle.job_check.specs.{declared.region.Single.Single, Emit.IsInside, Jobs.layout_of, Region.region_of, Region.IsSingle}
+use Rattle.relocation.specs.{declared.layout.Layout.Layout, Layout.region_end}
+use Rattle.job_check.specs.{declared.region.Region.Region, Emit.IsInside, Jobs.layout_of, Region.region_of, Region.IsRegion}
+use Rattle.job_check.proofs.Counted.{as_many_layouts, as_many_lengths, first_layout, first_lengths}
 use Rattle.vc4check_c.specs.{declared.submission.Submission.Submission, declared.submit.Verdict.Verdict}
-use Rattle.vc4check_c.specs.{Submission.file_of, Submission.submission_questions, Submit.accepted_verdict, Submit.IsTaken}
+use Rattle.vc4check_c.specs.{Submission.file_of, Submission.submission_questions, Submit.accepted_verdict, Submit.IsTaken, Jobs.no_layout, Jobs.no_lengths}
 
-pub inside : (s : Submission) (single : Single) → IsSingle (file_of s) single → length (region_of (file_of s)) ≤ s.lists_size
+some_job : (s : Submission) → 1 ≤ length (file_of s).jobs
 unfolding file_of
-inside s single is = let fits = is.fits in omega (arith, fits)
+some_job s = omega arith
 
-pub is_taken : (s : Submission) (single : Single) (verdict : Verdict) → first_of (submission_questions s) ≡ None → IsSingle (file_of s) single
-    → verdict ≡ accepted_verdict (length single.bytes.items) single.lists.layout single.lists.lengths → IsTaken s verdict
-is_taken s single verdict stands is told =
-    let f = file_of s in record {
+pub inside : (s : Submission) (region : Region) → IsRegion (file_of s) region → length (region_of (file_of s)) ≤ s.lists_size
+unfolding file_of
+inside s region is = let fits = is.fits in omega (arith, fits)
+
+-- There is a layout, and there are lengths.
+pub some_lists : (s : Submission) (region : Region) → IsRegion (file_of s) region → (1 ≤ length region.layouts.items) × (1 ≤ length region.lengths.items)
+some_lists s region is = (
+  omega (arith, ap length is.layouts_are, as_many_layouts (file_of s), some_job s),
+  omega (arith, ap length is.lengths_are, as_many_lengths (file_of s), some_job s),
+)
+
+first_inside : (size : ℕ) (layouts : List Layout) (none : Layout) → 1 ≤ length layouts → AllByRecursion (IsInside size) layouts → IsInside size (get_or layouts 0 none)
+first_inside size [] none some all = absurd (omega (arith, some))
+first_inside size (layout ∷ layouts) none some all = all.0
+
+pub is_taken : (s : Submission) (region : Region) (verdict : Verdict) → first_of (submission_questions s) ≡ None → IsRegion (file_of s) region
+    → verdict ≡ accepted_verdict (length region.bytes.items) (get_or region.layouts.items 0 no_layout) (get_or region.lengths.items 0 no_lengths) → IsTaken s verdict
+is_taken s region verdict stands is told =
+    let f = file_of s in
+    let layout_is = ap (λ ls. get_or ls 0 no_layout) is.layouts_are ∙ first_layout f no_layout (some_job s) in
+    let lengths_are = ap (λ ls. get_or ls 0 no_lengths) is.lengths_are ∙ first_lengths f no_lengths (some_job s) in
+    let one = first_inside (region_end f.regions) region.layouts.items no_layout (some_lists s region is).0 is.each_job in
+    record {
       none_stands = stands;
-      inside = inside s single is;
-      placed = subst (IsInside (region_end f.regions)) is.placed.layout_is is.inside;
+      inside = inside s region is;
+      placed = subst (IsInside (region_end f.regions)) layout_is one;
       told =
           told
-          ∙ ap (λ b. accepted_verdict (length b) single.lists.layout single.lists.lengths) is.bytes_are
-          ∙ ap (λ l. accepted_verdict (length (region_of f)) l single.lists.lengths) is.placed.layout_is
-          ∙ ap (accepted_verdict (length (region_of f)) (layout_of f 0)) is.placed.lengths_are;
+          ∙ ap (λ b. accepted_verdict (length b) (get_or region.layouts.items 0 no_layout) (get_or region.lengths.items 0 no_lengths)) is.bytes_are
+          ∙ ap (λ l. accepted_verdict (length (region_of f)) l (get_or region.lengths.items 0 no_lengths)) layout_is
+          ∙ ap (accepted_verdict (length (region_of f)) (layout_of f 0)) lengths_are;
     }

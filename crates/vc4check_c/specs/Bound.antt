@@ -5,7 +5,7 @@ use Rattle.job_format.specs.{declared.rule.Refusal.Refusal, Reading.file_at}
 use Rattle.job_check.specs.Whole.{all_questions, refusal_of}
 use Rattle.job_bound.specs.{Bound.bound_in, declared.bound.Bound.Bound}
 use Rattle.job_bound.specs.declared.bound.Bound.TheVariants.{Steps, Loops}
-use Rattle.vc4check_c.specs.{declared.bound.BoundAnswer.BoundAnswer, Job.letter_code}
+use Rattle.vc4check_c.specs.{declared.bound.BoundAnswer.BoundAnswer, Jobs.letter_code}
 
 -- the two numbers, the first in halves; or where the first branch stands that leads back
 unfoldable pub bounded_answer : Bound → BoundAnswer

@@ -1,11 +1,11 @@
 -- What is told of a job file, job by job.
-use Rattle.std.specs.Prelude.{◌≡◌, ℕ, nat_lt, List, length, map, replicate, slice_index_or, Option, Some, None, if◌then◌else◌}
+use Rattle.std.specs.Prelude.{◌≡◌, ℕ, nat_lt, List, length, map, replicate, slice_index, slice_index_or, Option, Some, None, if◌then◌else◌}
 use Rattle.std.specs.List.{range_with_len}
 use Rattle.field_words.specs.Questions.{IsFirst}
-use Rattle.job_format.specs.{declared.rule.Refusal.Refusal, Offsets.most_jobs, Reading.file_at}
+use Rattle.job_format.specs.{declared.rule.Stage.Stage, declared.rule.Refusal.Refusal, Rules.letter, Offsets.most_jobs, File.IsFileOf, Reading.file_at}
 use Rattle.relocation.specs.{declared.layout.Layout.Layout, declared.layout.Lengths.Lengths}
-use Rattle.job_check.specs.{Emit.memory_of, Emit.all_lengths_of, Jobs.layouts_of, Whole.all_questions}
-use Rattle.vc4check_c.specs.{declared.jobs.JobLists.JobLists, declared.jobs.JobsAnswer.JobsAnswer, Job.letter_code, Job.IsSound}
+use Rattle.job_check.specs.{Emit.memory_of, Emit.all_lengths_of, Emit.IsPlaced, Jobs.layouts_of, Whole.all_questions, Whole.refusal_of}
+use Rattle.vc4check_c.specs.{declared.jobs.JobLists.JobLists, declared.jobs.JobsAnswer.JobsAnswer}
 
 -- of one job: where its lists lie, and how many bytes of each were emitted
 unfoldable pub told_lists : Layout → Lengths → JobLists
@@ -52,6 +52,10 @@ accepted_jobs size layouts lengths = record {
   lists = all_lists layouts lengths (length layouts);
 }
 
+-- the letter that the program prints for a stage is one byte
+abbrev pub letter_code : Stage → ℕ
+letter_code stage = slice_index (letter stage) 0
+
 -- of a refused one: the rule, and the offset in the file of what it is about
 unfoldable pub refused_jobs : Refusal → JobsAnswer
 refused_jobs refusal = record {
@@ -63,7 +67,15 @@ refused_jobs refusal = record {
   lists = replicate most_jobs no_lists;
 }
 
--- No rule stands, and this is told of the file.
+-- No rule stands: the bytes spell their file, its memory is as long as the file asks, whole pages of at most 64 MiB in which the lists of
+-- each job lie in their order.
+pub record IsSound (bytes : List ℕ) : Type 0 where
+  pub none_stands : refusal_of bytes ≡ None
+  pub spelled : IsFileOf bytes (file_at bytes)
+  pub asked : length (memory_of (file_at bytes)) ≡ (file_at bytes).mem_size
+  pub placed : IsPlaced (memory_of (file_at bytes)) (layouts_of (file_at bytes))
+
+-- So it is, and this is told of the file.
 pub record AreAccepted (bytes : List ℕ) (answer : JobsAnswer) : Type 0 where
   pub sound : IsSound bytes
   pub told : answer ≡ accepted_jobs (length (memory_of (file_at bytes))) (layouts_of (file_at bytes)) (all_lengths_of (file_at bytes))

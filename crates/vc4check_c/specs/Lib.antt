@@ -1,7 +1,5 @@
-pub mod Asked
 pub mod Block
 pub mod Bound
-pub mod Job
 pub mod Jobs
 pub mod MayRun
 pub mod Places

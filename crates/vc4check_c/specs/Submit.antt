@@ -4,9 +4,9 @@ use Rattle.field_words.specs.{declared.stop.Stop.Stop, declared.stop.Stop.TheVar
 use Rattle.field_words.specs.Questions.{first_of, IsFirst}
 use Rattle.job_format.specs.declared.rule.Refusal.{Refusal}
 use Rattle.relocation.specs.{declared.layout.Layout.Layout, declared.layout.Lengths.Lengths, Layout.region_end}
-use Rattle.job_check.specs.{Emit.lengths_of, Emit.IsInside, Jobs.layout_of, declared.region.Single.Single}
-use Rattle.job_check.specs.Region.{region_of, IsSingle}
-use Rattle.vc4check_c.specs.{declared.spot.Spot.Spot, declared.submission.Submission.Submission, declared.submit.Told.Told, Job.letter_code}
+use Rattle.job_check.specs.{Emit.lengths_of, Emit.IsInside, Jobs.layout_of, declared.region.Region.Region}
+use Rattle.job_check.specs.Region.{region_of, IsRegion}
+use Rattle.vc4check_c.specs.{declared.spot.Spot.Spot, declared.submission.Submission.Submission, declared.submit.Told.Told, Jobs.letter_code}
 use Rattle.vc4check_c.specs.{declared.submit.Verdict.Verdict, Jobs.told_lists, Jobs.no_lists, Spots.IsAt}
 use Rattle.vc4check_c.specs.Submission.{file_of, submission_questions}
 
@@ -42,8 +42,8 @@ pub record IsTaken (s : Submission) (verdict : Verdict) : Type 0 where
   pub told : verdict ≡ accepted_verdict (length (region_of (file_of s))) (layout_of (file_of s) 0) (lengths_of (file_of s) 0)
 
 -- What the check of a submission answers: its lists, or the first rule that stands and the place of its offset.
-abbrev pub Tells : Submission → Result Single (Stop Told) → Type 0
-Tells s (Ok single) = (first_of (submission_questions s) ≡ None) × IsSingle (file_of s) single
+abbrev pub Tells : Submission → Result Region (Stop Told) → Type 0
+Tells s (Ok region) = (first_of (submission_questions s) ≡ None) × IsRegion (file_of s) region
 Tells s (Err (Fault told)) = (first_of (submission_questions s) ≡ Some told.refusal) × IsAt (file_of s) told.spot told.refusal.offset
 Tells s (Err NoMemory) = Unit {0}
 

@@ -3,7 +3,7 @@ ghost use Rattle.std.specs.Prelude.{◌≡◌, ◌≢◌, ◌≤◌};
 ghost use Rattle.job_check.specs.Whole.{refusal_of};
 ghost use Rattle.vc4check_c.specs.Bound.{bounded_answer, unbounded_answer, IsBounded, IsUnbounded};
 
-use crate::job::letter;
+use crate::jobs::letter;
 use crate::status::{ACCEPTED, NO_MEMORY, REFUSED};
 use field_words::Stop;
 use job_bound::{Bound, bound_bytes};

@@ -1,17 +1,17 @@
-//! The check of a job file of several jobs, told job by job.
-ghost use Rattle.std.specs.Prelude.{◌≡◌, ◌≢◌, ◌≤◌, ◌<◌, length};
+//! The check of a job file, with the memory of its jobs in the caller's block.
+ghost use Rattle.std.specs.Prelude.{◌≡◌, ◌≢◌, ◌≤◌, ◌<◌, ◌⊎◌, length};
 ghost use Rattle.field_words.specs.Writes.{with_bytes};
 ghost use Rattle.job_format.specs.Offsets.{most_jobs};
 ghost use Rattle.job_format.specs.Reading.{file_at};
 ghost use Rattle.job_check.specs.Emit.{memory_of};
 ghost use Rattle.job_check.specs.Whole.{refusal_of};
-ghost use Rattle.vc4check_c.specs.Jobs.{told_lists, all_lists, accepted_jobs, refused_jobs, AreAccepted, AreRefused};
+ghost use Rattle.vc4check_c.specs.Jobs.{told_lists, all_lists, letter_code, accepted_jobs, refused_jobs, AreAccepted, AreRefused};
 
-use crate::job::{deliver, letter};
-use crate::status::{NO_MEMORY, REFUSED};
+use crate::status::{ACCEPTED, NO_MEMORY, REFUSED, SHORT};
 use field_words::Stop;
 use job_check::check_bytes;
-use job_format::Refusal;
+use job_format::{Refusal, Stage};
+use phys_mem::PhysMem;
 use relocation::{Layout, Lengths};
 use std::alloc::Global;
 
@@ -115,6 +115,23 @@ pub(crate) fn accepted(size: u32, layouts: &[Layout], lengths: &[Lengths]) -> Jo
     }
 }
 
+/// The letter of a stage, as the program prints it.
+pub(crate) fn letter(stage: Stage) -> u8
+    ensures { result ≡ letter_code stage }
+{
+    match stage {
+        Stage::F => b'F',
+        Stage::M => b'M',
+        Stage::S => b'S',
+        Stage::H => b'H',
+        Stage::B => b'B',
+        Stage::A => b'A',
+        Stage::U => b'U',
+        Stage::G => b'G',
+        Stage::X => b'X',
+    }
+}
+
 /// What is told of a refused one.
 #[tactic(auto, unfolding(crate::specs::Jobs::refused_jobs))]
 pub(crate) fn refused(refusal: &Refusal) -> JobsAnswer
@@ -130,6 +147,33 @@ pub(crate) fn refused(refusal: &Refusal) -> JobsAnswer
     }
 }
 
+/// Puts bytes to the room's start, or says that the room is too short.
+pub(crate) fn put(bytes: &[u8], room: &mut [u8]) -> u32
+    ensures statuses { (result ≡ 0) ⊎ (result ≡ 2) }
+    ensures put { result ≡ 0 → room.new ≡ with_bytes room.old 0 bytes.now }
+    ensures fits { result ≡ 0 → length bytes.now ≤ length room.old }
+    ensures short { result ≡ 2 → length room.old < length bytes.now }
+    ensures kept { result ≡ 2 → room.new ≡ room.old }
+{
+    if room.len() < bytes.len() {
+        return SHORT;
+    }
+    room[..bytes.len()].copy_from_slice(bytes);
+    ACCEPTED
+}
+
+/// The same of all of the memory.
+fn deliver(mut memory: PhysMem, block: &mut [u8]) -> u32
+    ensures statuses { (result ≡ 0) ⊎ (result ≡ 2) }
+    ensures put { result ≡ 0 → block.new ≡ with_bytes block.old 0 memory }
+    ensures fits { result ≡ 0 → length memory ≤ length block.old }
+    ensures short { result ≡ 2 → length block.old < length memory }
+    ensures kept { result ≡ 2 → block.new ≡ block.old }
+{
+    let size = memory.len();
+    put(memory.window(0, size), block)
+}
+
 /// Checks the job file that `bytes` hold, of 1 to 8 jobs. Where no rule stands, the memory that all of them are to run in is put into
 /// the block, from its start on, with all lists relocated; the block's further bytes stay.
 ///
@@ -141,7 +185,7 @@ pub(crate) fn refused(refusal: &Refusal) -> JobsAnswer
 /// | 3 | want of memory; nothing is said of the file | as before | as before |
 #[unsafe(no_mangle)]
 #[tactic(auto, unfolding(job_check::specs::Whole::refusal_of), using(field_words::proofs::Questions::first_is, crate::proofs::Sizes::are_accepted))]
-pub extern "C" fn vc4check_check_jobs(
+pub extern "C" fn vc4check_check(
     alloc: Global,
     bytes: &[u8],
     block: &mut [u8],

@@ -2,7 +2,6 @@
 
 use crate::block::{Known, MadeAnswer};
 use crate::bound::BoundAnswer;
-use crate::job::JobAnswer;
 use crate::jobs::{JobLists, JobsAnswer};
 use crate::shader::{ShaderAnswer, ShaderSample};
 use crate::submission::{GivenBuffer, GivenFrame, GivenSurface, Submission};
@@ -36,28 +35,7 @@ fn tells<T: Debug>(alloc: Global, answer: &T, wanted: &str) -> Result<bool, Allo
 }
 
 #[test]
-fn answers_on_one_job(rt: HostRuntime) -> Result<(), Fail> {
-    let job = JobAnswer {
-        offset: 0,
-        letter: 1,
-        number: 2,
-        size: 3,
-        lists: 4,
-        slot: 5,
-        bin: 6,
-        records: 7,
-        uniforms: 8,
-        render: 9,
-        end: 10,
-        bin_length: 11,
-        records_length: 12,
-        uniforms_length: 13,
-        render_length: 14,
-    };
-    let text =
-        "JobAnswer { offset: 0, letter: 1, number: 2, size: 3, lists: 4, slot: 5, bin: 6, records: 7, uniforms: 8, \
-        render: 9, end: 10, bin_length: 11, records_length: 12, uniforms_length: 13, render_length: 14 }";
-    assert!(rt; tells(rt.alloc(), &job, text)?);
+fn verdicts(rt: HostRuntime) -> Result<(), Fail> {
     let verdict = Verdict {
         offset: 0,
         letter: 1,

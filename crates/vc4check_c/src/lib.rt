@@ -4,10 +4,8 @@
 //! by a number how it ended, writes what it tells into values of the caller's, and keeps nothing.
 #![tactic(auto)]
 
-mod asked;
 mod block;
 mod bound;
-mod job;
 mod jobs;
 mod known;
 mod law;
@@ -18,12 +16,15 @@ mod spot;
 mod status;
 mod submission;
 mod submit;
+mod version;
 
 pub use block::{Known, MadeAnswer};
 pub use bound::BoundAnswer;
-pub use job::JobAnswer;
 pub use jobs::{JobLists, JobsAnswer};
-pub use law::accepted_submissions_may_run;
+pub use law::{
+    accepted_submissions_are_faultless, accepted_submissions_may_be_admitted,
+    accepted_submissions_may_run,
+};
 pub use shader::{ShaderAnswer, ShaderSample};
 pub use submission::{GivenBuffer, GivenFrame, GivenSurface, Submission};
 pub use submit::Verdict;

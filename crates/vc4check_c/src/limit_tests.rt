@@ -3,12 +3,11 @@
 
 use crate::block::{MadeAnswer, vc4check_make_shader};
 use crate::bound::{BoundAnswer, vc4check_bound};
-use crate::job::vc4check_check;
-use crate::jobs::vc4check_check_jobs;
+use crate::jobs::vc4check_check;
 use crate::place::vc4check_place;
 use crate::shader::vc4check_shader;
 use crate::status::{ACCEPTED, SHORT};
-use crate::tests::{NO_JOBS, NOTHING, UNTOLD};
+use crate::tests::{NO_JOBS, UNTOLD};
 use std::test::Fail;
 
 /// The smallest job with a buffer of 48 MiB, up to its contents. With them, zeros, the file has 48 MiB; its last four bytes are the handle 0.
@@ -25,11 +24,9 @@ fn files_of_48_mib(rt: HostRuntime) -> Result<(), Fail> {
     let alloc = rt.alloc();
     let mut file = hex::decode(alloc, FRONT)?;
     file.resize(50_331_648, 0)?;
-    let mut one = NOTHING;
-    assert_eq!(rt; vc4check_check(alloc, &file, &mut [], &mut one), SHORT);
-    assert_eq!(rt; one.size, 50_860_032);
     let mut all = NO_JOBS;
-    assert_eq!(rt; vc4check_check_jobs(alloc, &file, &mut [], &mut all), SHORT);
+    assert_eq!(rt; vc4check_check(alloc, &file, &mut [], &mut all), SHORT);
+    assert_eq!(rt; all.size, 50_860_032);
     assert_eq!(rt; vc4check_place(alloc, &file, &mut [], &mut all), SHORT);
     let mut bound = BoundAnswer {
         offset: 0,

@@ -1,5 +1,5 @@
 //! The check of a job file whose places are addresses of the bus, with the lists in the caller's window.
-ghost use Rattle.std.specs.Prelude.{◌≡◌, ◌≢◌, ◌≤◌, ◌<◌, ◌⊎◌, length};
+ghost use Rattle.std.specs.Prelude.{◌≡◌, ◌≢◌, ◌≤◌, ◌<◌, length};
 ghost use Rattle.field_words.specs.Questions.{first_of};
 ghost use Rattle.field_words.specs.Writes.{with_bytes};
 ghost use Rattle.job_format.specs.Reading.{file_at};
@@ -7,27 +7,12 @@ ghost use Rattle.job_check.specs.Region.{region_of};
 ghost use Rattle.job_check.specs.Whole.{place_questions};
 ghost use Rattle.vc4check_c.specs.Places.{ArePlaced, IsNotPlaced};
 
-use crate::jobs::{JobsAnswer, accepted, refused};
-use crate::status::{ACCEPTED, NO_MEMORY, REFUSED, SHORT};
+use crate::jobs::{JobsAnswer, accepted, put, refused};
+use crate::status::{NO_MEMORY, REFUSED};
 use buffer_table::MOST_PLACE;
 use field_words::Stop;
 use job_check::check_places;
 use std::alloc::Global;
-
-/// Puts the lists to the window's start, or says that the window is too short.
-pub(crate) fn put_lists(lists: &[u8], window: &mut [u8]) -> u32
-    ensures statuses { (result ≡ 0) ⊎ (result ≡ 2) }
-    ensures put { result ≡ 0 → window.new ≡ with_bytes window.old 0 lists.now }
-    ensures fits { result ≡ 0 → length lists.now ≤ length window.old }
-    ensures short { result ≡ 2 → length window.old < length lists.now }
-    ensures kept { result ≡ 2 → window.new ≡ window.old }
-{
-    if window.len() < lists.len() {
-        return SHORT;
-    }
-    window[..lists.len()].copy_from_slice(lists);
-    ACCEPTED
-}
 
 /// Checks the job file that `bytes` hold, of 1 to 8 jobs, whose places are addresses of the bus below 0xFF000000. No memory of the jobs is
 /// made. Where no rule stands, the lists of all jobs, relocated, are put into the window, from its start on, which stands for the start of
@@ -61,7 +46,7 @@ pub extern "C" fn vc4check_place(
     match check_places(alloc, MOST_PLACE, bytes) {
         Ok(region) => {
             *answer = accepted(region.bytes.len() as u32, &region.layouts, &region.lengths);
-            put_lists(&region.bytes, window)
+            put(&region.bytes, window)
         }
         Err(Stop::Fault(refusal)) => {
             *answer = refused(&refusal);

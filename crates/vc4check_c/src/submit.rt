@@ -4,22 +4,21 @@ ghost use Rattle.field_words.specs.Questions.{Answers, first_of};
 ghost use Rattle.field_words.specs.Writes.{with_bytes};
 ghost use Rattle.job_format.specs.Parts.{parts_view};
 ghost use Rattle.job_check.specs.Faults.{place_stages};
-ghost use Rattle.job_check.specs.Region.{region_of, IsSingle};
+ghost use Rattle.job_check.specs.Region.{region_of, IsRegion};
 ghost use Rattle.vc4check_c.specs.Telling.{AreKnown};
 ghost use Rattle.vc4check_c.specs.Submission.{file_of, own_questions, submission_questions};
 ghost use Rattle.vc4check_c.specs.Submit.{accepted_verdict, refused_verdict, Tells, IsTaken, IsNotTaken};
 
-use crate::job::letter;
-use crate::jobs::{JobLists, NO_LISTS, lists_of};
+use crate::jobs::{JobLists, NO_LISTS, letter, lists_of, put};
 use crate::known::shaders_in;
-use crate::place::put_lists;
 use crate::spot::{Spot, own_spot, spot_of};
 use crate::status::{NO_MEMORY, REFUSED};
 use crate::submission::{Submission, parts_in};
 use buffer_table::MOST_PLACE;
 use field_words::Stop;
-use job_check::{Lists, Single, check_single};
+use job_check::{Region, check_parts};
 use job_format::{FileParts, Refusal};
+use relocation::{Layout, Lengths};
 use std::alloc::Global;
 
 /// What is told of a submission. Of an accepted one: how many bytes of the window its lists take, where they lie and how long they are. Of a
@@ -40,8 +39,8 @@ pub struct Verdict {
 
 /// What is told of an accepted submission.
 #[tactic(auto, unfolding(crate::specs::Submit::accepted_verdict))]
-fn accepted(size: u32, lists: &Lists) -> Verdict
-    ensures { result ≡ accepted_verdict size lists.now.layout lists.now.lengths }
+fn accepted(size: u32, layout: &Layout, lengths: &Lengths) -> Verdict
+    ensures { result ≡ accepted_verdict size layout.now lengths.now }
 {
     Verdict {
         offset: 0,
@@ -50,7 +49,7 @@ fn accepted(size: u32, lists: &Lists) -> Verdict
         part: 0,
         index: 0,
         size,
-        lists: lists_of(&lists.layout, &lists.lengths),
+        lists: lists_of(layout, lengths),
     }
 }
 
@@ -71,14 +70,14 @@ fn refused(refusal: &Refusal, spot: &Spot) -> Verdict
 }
 
 /// The rules of the submission's file, in which the shaders are asked only where something isn't known of them.
-fn check_file(alloc: Global, given: &Submission, parts: &FileParts) -> Result<Single, Stop<Refusal>>
+fn check_file(alloc: Global, given: &Submission, parts: &FileParts) -> Result<Region, Stop<Refusal>>
     requires known { AreKnown given.now.buffers.now }
     requires own { first_of (own_questions given.now) ≡ None }
     requires parts_are { parts_view parts.now ≡ file_of given.now }
-    ensures { Answers (place_stages (file_of given.now)) (IsSingle (file_of given.now)) result }
+    ensures { Answers (place_stages (file_of given.now)) (IsRegion (file_of given.now)) result }
 {
     let told = shaders_in(alloc, given.buffers)?;
-    check_single(alloc, MOST_PLACE, parts, told)
+    check_parts(alloc, MOST_PLACE, parts, told)
 }
 
 /// A refusal, and the place of what it is about.
@@ -90,13 +89,13 @@ pub struct Told {
 
 /// All rules of a submission, and its lists.
 #[tactic(auto, using(field_words::proofs::Questions::passes, field_words::proofs::Questions::stops))]
-fn check(alloc: Global, given: &Submission) -> Result<Single, Stop<Told>>
+fn check(alloc: Global, given: &Submission) -> Result<Region, Stop<Told>>
     requires { AreKnown given.now.buffers.now }
     ensures { Tells given.now result }
 {
     match parts_in(alloc, given) {
         Ok(parts) => match check_file(alloc, given, &parts) {
-            Ok(single) => Ok(single),
+            Ok(region) => Ok(region),
             Err(Stop::Fault(refusal)) => {
                 let spot = spot_of(&parts, &refusal);
                 Err(Stop::Fault(Told { refusal, spot }))
@@ -130,7 +129,7 @@ fn size_of(bytes: &[u8], most: u32) -> u32
 /// | 2 | accepted, and the window is too short | size, places and lengths | as before |
 /// | 3 | out of memory; nothing is said of the job | as before | as before |
 #[unsafe(no_mangle)]
-#[tactic(auto, using(field_words::proofs::Questions::first_is, crate::proofs::Takes::is_taken))]
+#[tactic(auto, using(field_words::proofs::Questions::first_is))]
 pub extern "C" fn vc4check_submit(
     alloc: Global,
     submission: &Submission,
@@ -149,10 +148,10 @@ pub extern "C" fn vc4check_submit(
     ensures starved { result ≡ 3 → answer.new ≡ answer.old }
 {
     match check(alloc, submission) {
-        Ok(single) => {
-            let size = size_of(&single.bytes, submission.lists_size);
-            *answer = accepted(size, &single.lists);
-            put_lists(&single.bytes, window)
+        Ok(region) => {
+            let size = size_of(&region.bytes, submission.lists_size);
+            *answer = accepted(size, &region.layouts[0], &region.lengths[0]);
+            put(&region.bytes, window)
         }
         Err(Stop::Fault(told)) => {
             *answer = refused(&told.refusal, &told.spot);

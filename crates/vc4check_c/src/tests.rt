@@ -1,11 +1,10 @@
 //! Each call once, as C calls it.
 
-use crate::asked::{vc4check_size, vc4check_version};
-use crate::job::{JobAnswer, vc4check_check};
-use crate::jobs::{JobLists, JobsAnswer, vc4check_check_jobs};
+use crate::jobs::{JobLists, JobsAnswer, vc4check_check};
 use crate::place::vc4check_place;
 use crate::shader::{ShaderAnswer, ShaderSample, vc4check_shader};
 use crate::status::{ACCEPTED, REFUSED, SHORT, TOO_LONG};
+use crate::version::vc4check_version;
 use std::alloc::Global;
 use std::test::Fail;
 
@@ -17,86 +16,6 @@ pub(crate) const SMALLEST: &str =
     0ffffffff0000000000000000000000000000000004000000ffffffff0000000000000000\
     ffffffff0000000000000000ffffffff0000000000000000ffffffff0000000000000000\
     0000000000000000000000000000000000000000";
-
-/// Nothing told.
-pub(crate) const NOTHING: JobAnswer = JobAnswer {
-    offset: 0,
-    letter: 0,
-    number: 0,
-    size: 0,
-    lists: 0,
-    slot: 0,
-    bin: 0,
-    records: 0,
-    uniforms: 0,
-    render: 0,
-    end: 0,
-    bin_length: 0,
-    records_length: 0,
-    uniforms_length: 0,
-    render_length: 0,
-};
-
-// What a block of so many bytes gets, and what is told.
-fn checked(alloc: Global, bytes: &[u8], room: usize) -> Result<(u32, JobAnswer, Vec<u8>), Fail> {
-    let mut block = vec![in alloc; 0xa5u8; room]?;
-    let mut answer = NOTHING;
-    let status = vc4check_check(alloc, bytes, &mut block, &mut answer);
-    Ok((status, answer, block))
-}
-
-// The smallest job: 15 bytes of a renderer list at the start of 532,480 bytes, and the tile slot behind a page.
-#[test]
-fn accepts(rt: HostRuntime) -> Result<(), Fail> {
-    let bytes = hex::decode(rt.alloc(), SMALLEST)?;
-    let told = JobAnswer {
-        size: 532_480,
-        slot: 4096,
-        end: 15,
-        render_length: 15,
-        ..NOTHING
-    };
-    assert_eq!(rt; vc4check_size(&bytes), 532_480);
-    let (status, answer, block) = checked(rt.alloc(), &bytes, 532_481)?;
-    assert_eq!(rt; status, ACCEPTED);
-    assert_eq!(rt; answer, told);
-    assert_eq!(rt; block.get(0).copied(), Some(113));
-    assert_eq!(rt; block.get(15).copied(), Some(0));
-    assert_eq!(rt; block.get(532_480).copied(), Some(0xa5));
-    let (status, answer, block) = checked(rt.alloc(), &bytes, 15)?;
-    assert_eq!(rt; status, SHORT);
-    assert_eq!(rt; answer, told);
-    assert_eq!(rt; block.get(0).copied(), Some(0xa5));
-    Ok(())
-}
-
-// No file: it ends before its header does.
-#[test]
-fn refuses(rt: HostRuntime) -> Result<(), Fail> {
-    let told = JobAnswer {
-        letter: 70,
-        number: 2,
-        ..NOTHING
-    };
-    let (status, answer, block) = checked(rt.alloc(), &[], 1)?;
-    assert_eq!(rt; status, REFUSED);
-    assert_eq!(rt; answer, told);
-    assert_eq!(rt; block.get(0).copied(), Some(0xa5));
-    assert_eq!(rt; vc4check_size(&[]), 0);
-    assert_eq!(rt; vc4check_version(), 2);
-    Ok(())
-}
-
-/// Two jobs like the smallest, of clients 1 and 2, each with a buffer of its own.
-const PAIR: &str = "5643344a02000000003010000000000000100000001000000200000002000000020000000010\
-    1000001000000100000000000000000000000020100000100000020000000000000000000000\
-    010000000000000001000000000000000000000000000000000000001000100000000000ffff\
-    ffff0000000000000000000000000000000004000000ffffffff0000000000000000ffffffff\
-    0000000000000000ffffffff0000000000000000ffffffff0000000000000000000000000000\
-    0000000000000000000002000000000000000100000000000000000000000000000000000000\
-    1000100000000000ffffffff0000000000000000000000000000000004000000ffffffff0000\
-    000000000000ffffffff0000000000000000ffffffff0000000000000000ffffffff00000000\
-    00000000000000000000000000000000000000000000000001000000";
 
 /// No job, and nothing told of any.
 pub(crate) const NO_LISTS: JobLists = JobLists {
@@ -122,7 +41,78 @@ pub(crate) const NO_JOBS: JobsAnswer = JobsAnswer {
     lists: [NO_LISTS; 8],
 };
 
-// Two lists, the second behind the first, and two slots; of one job alone the first is told.
+// What is told of the only job.
+fn only(job: JobLists) -> [JobLists; 8] {
+    let mut lists = NO_JOBS.lists;
+    lists[0] = job;
+    lists
+}
+
+// What a block of so many bytes gets, and what is told.
+fn checked(alloc: Global, bytes: &[u8], room: usize) -> Result<(u32, JobsAnswer, Vec<u8>), Fail> {
+    let mut block = vec![in alloc; 0xa5u8; room]?;
+    let mut answer = NO_JOBS;
+    let status = vc4check_check(alloc, bytes, &mut block, &mut answer);
+    Ok((status, answer, block))
+}
+
+// The smallest job: 15 bytes of a renderer list at the start of 532,480 bytes, and the tile slot behind a page.
+#[test]
+fn accepts(rt: HostRuntime) -> Result<(), Fail> {
+    let bytes = hex::decode(rt.alloc(), SMALLEST)?;
+    let job = JobLists {
+        slot: 4096,
+        end: 15,
+        render_length: 15,
+        ..NO_LISTS
+    };
+    let told = JobsAnswer {
+        size: 532_480,
+        jobs: 1,
+        lists: only(job),
+        ..NO_JOBS
+    };
+    let (status, answer, block) = checked(rt.alloc(), &bytes, 532_481)?;
+    assert_eq!(rt; status, ACCEPTED);
+    assert_eq!(rt; answer, told);
+    assert_eq!(rt; block.get(0).copied(), Some(113));
+    assert_eq!(rt; block.get(15).copied(), Some(0));
+    assert_eq!(rt; block.get(532_480).copied(), Some(0xa5));
+    let (status, answer, block) = checked(rt.alloc(), &bytes, 15)?;
+    assert_eq!(rt; status, SHORT);
+    assert_eq!(rt; answer, told);
+    assert_eq!(rt; block.get(0).copied(), Some(0xa5));
+    Ok(())
+}
+
+// No file: it ends before its header does.
+#[test]
+fn refuses(rt: HostRuntime) -> Result<(), Fail> {
+    let told = JobsAnswer {
+        letter: 70,
+        number: 2,
+        ..NO_JOBS
+    };
+    let (status, answer, block) = checked(rt.alloc(), &[], 1)?;
+    assert_eq!(rt; status, REFUSED);
+    assert_eq!(rt; answer, told);
+    assert_eq!(rt; block.get(0).copied(), Some(0xa5));
+    assert_eq!(rt; vc4check_version(), 3);
+    Ok(())
+}
+
+/// Two jobs like the smallest, of clients 1 and 2, each with a buffer of its own.
+const PAIR: &str = "5643344a02000000003010000000000000100000001000000200000002000000020000000010\
+    1000001000000100000000000000000000000020100000100000020000000000000000000000\
+    010000000000000001000000000000000000000000000000000000001000100000000000ffff\
+    ffff0000000000000000000000000000000004000000ffffffff0000000000000000ffffffff\
+    0000000000000000ffffffff0000000000000000ffffffff0000000000000000000000000000\
+    0000000000000000000002000000000000000100000000000000000000000000000000000000\
+    1000100000000000ffffffff0000000000000000000000000000000004000000ffffffff0000\
+    000000000000ffffffff0000000000000000ffffffff0000000000000000ffffffff00000000\
+    00000000000000000000000000000000000000000000000001000000";
+
+// Two lists, the second behind the first, and two slots.
 #[test]
 fn tells_of_all_jobs(rt: HostRuntime) -> Result<(), Fail> {
     let bytes = hex::decode(rt.alloc(), PAIR)?;
@@ -137,21 +127,13 @@ fn tells_of_all_jobs(rt: HostRuntime) -> Result<(), Fail> {
         slot: 528_384,
         ..first
     };
-    let mut block = vec![in rt.alloc(); 0xa5u8; 1_060_864]?;
-    let mut answer = NO_JOBS;
-    let status = vc4check_check_jobs(rt.alloc(), &bytes, &mut block, &mut answer);
+    let (status, answer, block) = checked(rt.alloc(), &bytes, 1_060_864)?;
     assert_eq!(rt; status, ACCEPTED);
     assert_eq!(rt; (answer.size, answer.jobs), (1_060_864, 2));
-    assert_eq!(rt;
-        answer.lists,
-        [
-            first, second, NO_LISTS, NO_LISTS, NO_LISTS, NO_LISTS, NO_LISTS, NO_LISTS
-        ]
-    );
+    let mut lists = only(first);
+    lists[1] = second;
+    assert_eq!(rt; answer.lists, lists);
     assert_eq!(rt; block.get(16).copied(), Some(113));
-    let (status, one, _) = checked(rt.alloc(), &bytes, 15)?;
-    assert_eq!(rt; status, SHORT);
-    assert_eq!(rt; (one.size, one.slot, one.end), (1_060_864, 4096, 15));
     Ok(())
 }
 
@@ -166,9 +148,7 @@ fn refuses_all_jobs(rt: HostRuntime) -> Result<(), Fail> {
         number: 2,
         ..NO_JOBS
     };
-    let mut block = vec![in rt.alloc(); 0xa5u8; 1]?;
-    let mut answer = NO_JOBS;
-    let status = vc4check_check_jobs(rt.alloc(), &bytes, &mut block, &mut answer);
+    let (status, answer, _) = checked(rt.alloc(), &bytes, 1)?;
     assert_eq!(rt; status, REFUSED);
     assert_eq!(rt; answer, told);
     Ok(())
@@ -198,17 +178,12 @@ fn places(rt: HostRuntime) -> Result<(), Fail> {
     let status = vc4check_place(rt.alloc(), &bytes, &mut window, &mut answer);
     assert_eq!(rt; status, ACCEPTED);
     assert_eq!(rt; (answer.size, answer.jobs), (15, 1));
-    assert_eq!(rt;
-        answer.lists,
-        [
-            job, NO_LISTS, NO_LISTS, NO_LISTS, NO_LISTS, NO_LISTS, NO_LISTS, NO_LISTS
-        ]
-    );
+    assert_eq!(rt; answer.lists, only(job));
     assert_eq!(rt; window.get(0).copied(), Some(113));
     assert_eq!(rt; window.get(15).copied(), Some(0xa5));
     let status = vc4check_place(rt.alloc(), &bytes, &mut window[..14], &mut answer);
     assert_eq!(rt; status, SHORT);
-    let status = vc4check_check_jobs(rt.alloc(), &bytes, &mut window, &mut answer);
+    let status = vc4check_check(rt.alloc(), &bytes, &mut window, &mut answer);
     assert_eq!(rt; status, REFUSED);
     assert_eq!(rt; (answer.letter, answer.number, answer.offset), (77, 1, 8));
     Ok(())
