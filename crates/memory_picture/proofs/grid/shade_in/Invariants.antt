@@ -1,7 +1,0 @@
-use Rattle.std.proofs.Common.{◌≡◌, take}
-use Rattle.std.specs.List.{fold}
-use Rattle.memory_picture.specs.Grid.{with_buffer, with_regions}
-use Rattle.memory_picture.proofs.grid.shade_in.Given as goal
-
-abbrev pub invariant-loop-buffer : goal.invariant-loop-buffer
-invariant-loop-buffer l = l.here ≡ fold (with_buffer l.from l.to) (with_regions l.from l.to l.regions) (take l.buffer-index l.buffers)

@@ -1,3 +1,0 @@
-pub mod Grid
-pub mod Parts
-pub mod Picture

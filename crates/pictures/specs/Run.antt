@@ -1,0 +1,48 @@
+-- The picture of a run: that of the memory; how far the run went; who touched what; and how often each box was touched.
+use Rattle.std.specs.Prelude.{ℕ, ◌+◌, ◌*◌, ◌/◌, max, List, length, codes, decimal}
+use Rattle.buffer_table.specs.{declared.buffer.Buffer.Buffer, declared.buffer.Regions.Regions}
+use Rattle.field_words.specs.declared.access.Way.TheVariants.{Read, Write}
+use Rattle.relocation.specs.declared.layout.Layout.{Layout}
+use Rattle.replay.specs.declared.logged.Log.{Log}
+use Rattle.dumper.specs.Trace.{ending_name}
+use Rattle.pictures.specs.Forest.{Forest, Beside}
+use Rattle.pictures.specs.{Grid.box_size, Grid.box_count, Parts.label, Parts.drawing, Memory.places, Memory.memory_parts}
+use Rattle.pictures.specs.{Counts.box_counts, Counts.cell_counts, Heat.heat_top, Heat.heat, Table.unit_table}
+
+-- how many steps and accesses the run had, and how it ended
+unfoldable pub run_numbers : Log → Forest
+run_numbers log =
+    Beside (label 96 538 (codes "note") (codes "steps:"))
+    (Beside (label 230 538 (codes "end") (decimal log.steps))
+    (Beside (label 260 538 (codes "note") (codes "accesses:")) (label 424 538 (codes "end") (decimal (length log.accesses.items)))))
+
+unfoldable pub run_head : Log → Forest
+run_head log =
+    Beside (label 96 514 (codes "head") (codes "Accesses of a run"))
+    (Beside (run_numbers log) (label 456 538 (codes "note") (ending_name log.ending)))
+
+-- the table over the whole run
+unfoldable pub run_table : Regions → List Buffer → List Layout → Log → Forest
+run_table regions buffers layouts log =
+    unit_table (cell_counts regions buffers layouts Read log.accesses.items) (cell_counts regions buffers layouts Write log.accesses.items)
+
+-- and the heat over the whole run
+unfoldable pub run_heat : (memory : ℕ) → Log → Forest
+run_heat memory log =
+    Beside (places heat_top memory)
+    (heat (box_counts Read (box_size memory) (box_count memory) log.accesses.items)
+    (box_counts Write (box_size memory) (box_count memory) log.accesses.items))
+
+-- how many rows the drawing has: its strips, and beside them at least what their tones mean
+unfoldable pub run_height : (memory : ℕ) → ℕ
+run_height memory = heat_top + 20 + max (12 * ((box_count memory + 15) / 16)) 140
+
+unfoldable pub run_parts : (memory : ℕ) → Regions → List Buffer → List Layout → Log → Forest
+run_parts memory regions buffers layouts log =
+    Beside (memory_parts memory regions buffers)
+    (Beside (run_head log) (Beside (run_table regions buffers layouts log) (run_heat memory log)))
+
+-- all of it
+unfoldable pub run_picture : (memory : ℕ) → Regions → List Buffer → List Layout → Log → Forest
+run_picture memory regions buffers layouts log =
+    drawing (run_height memory) (codes "Accesses of a run in the memory of the jobs") (run_parts memory regions buffers layouts log)

@@ -1,0 +1,156 @@
+//! Parts of a drawing.
+ghost use Rattle.std.specs.Prelude.{◌≡◌, ◌++◌, [], codes, OnOk, IfOk};
+ghost use Rattle.pictures.specs.Forest.{forest_text, attributes_text};
+ghost use Rattle.pictures.specs.Parts.{rect, label, hex, told, root_attributes, opening};
+ghost use Rattle.pictures.specs.Grid.{class_of};
+
+use crate::grid::Shade;
+use crate::svg::{begin, close, end_leaf, end_tag, numbered, push_number, push_words, worded};
+use std::alloc::{AllocError, Global};
+
+/// What the elements' classes look like. The heat's seven tones are for reads and for writes.
+const STYLE: &str = "
+svg{font-family:sans-serif;font-size:14px}
+text{fill:#222}
+.head{font-size:18px;font-weight:bold}
+.end{text-anchor:end}
+.paper{fill:#fff}
+.frame{fill:none;stroke:#777}
+.free,.slots,.lists,.several,.data0,.data1,.data2,.data3,.code0,.code1,.code2,.code3{stroke:#fff}
+.free{fill:#eee}
+.slots{fill:#009e73}
+.lists{fill:#555}
+.several{fill:#f0e442}
+.data0{fill:#08519c}
+.data1{fill:#3182bd}
+.data2{fill:#6baed6}
+.data3{fill:#bdd7e7}
+.code0{fill:#a63603}
+.code1{fill:#e6550d}
+.code2{fill:#fd8d3c}
+.code3{fill:#fdbe85}
+.pale{opacity:.2;filter:grayscale(1)}
+.read1{fill:#9ecae1}
+.read2{fill:#6baed6}
+.read3{fill:#4292c6}
+.read4{fill:#2171b5}
+.read5{fill:#08519c}
+.read6{fill:#08306b}
+.read7{fill:#041a3b}
+.write1{fill:#fdae6b}
+.write2{fill:#fd8d3c}
+.write3{fill:#f16913}
+.write4{fill:#d94801}
+.write5{fill:#a63603}
+.write6{fill:#7f2704}
+.write7{fill:#471602}
+";
+
+/// The name of the elements' namespace.
+const NAMESPACE: &str = "http://www.w3.org/2000/svg";
+
+/// Appends a box of this class.
+pub fn push_rect(
+    out: &mut Vec<u8>,
+    x: u64,
+    y: u64,
+    width: u64,
+    height: u64,
+    class: &str,
+) -> Result<(), AllocError>
+    ensures { OnOk result (out.new.items ≡ out.old.items ++ forest_text (rect x y width height class.now)) }
+{
+    begin(out, "rect")?;
+    numbered(out, "x", x)?;
+    numbered(out, "y", y)?;
+    numbered(out, "width", width)?;
+    numbered(out, "height", height)?;
+    worded(out, "class", class)?;
+    end_leaf(out)
+}
+
+/// Appends a box of this shade.
+pub fn push_class(
+    out: &mut Vec<u8>,
+    x: u64,
+    y: u64,
+    width: u64,
+    height: u64,
+    shade: Shade,
+) -> Result<(), AllocError>
+    ensures { OnOk result (out.new.items ≡ out.old.items ++ forest_text (rect x y width height (class_of shade))) }
+{
+    push_rect(out, x, y, width, height, shade.class())
+}
+
+/// Appends words at a place, in this class.
+pub fn push_label(
+    out: &mut Vec<u8>,
+    x: u64,
+    y: u64,
+    class: &str,
+    words: &[u8],
+) -> Result<(), AllocError>
+    ensures { OnOk result (out.new.items ≡ out.old.items ++ forest_text (label x y class.now words.now)) }
+{
+    begin(out, "text")?;
+    numbered(out, "x", x)?;
+    numbered(out, "y", y)?;
+    worded(out, "class", class)?;
+    end_tag(out)?;
+    push_words(out, words)?;
+    close(out, "text")
+}
+
+/// A number in hexadecimal: `0x1a0`.
+#[tactic(auto, unfolding(crate::specs::Parts::hex))]
+pub(crate) fn hex(alloc: Global, number: u64) -> Result<Vec<u8>, AllocError>
+    ensures { IfOk result (λ text. text.items ≡ hex number) }
+{
+    Ok(format!(in alloc; "0x{number:x}")?.into_bytes())
+}
+
+// An element without attributes that has words in it.
+fn push_told(out: &mut Vec<u8>, name: &str, words: &str) -> Result<(), AllocError>
+    ensures { OnOk result (out.new.items ≡ out.old.items ++ forest_text (told name.now words.now)) }
+{
+    begin(out, name)?;
+    end_tag(out)?;
+    push_words(out, words.as_bytes())?;
+    close(out, name)
+}
+
+// The root's attributes.
+fn push_root(alloc: Global, out: &mut Vec<u8>, height: u64) -> Result<(), AllocError>
+    ensures { OnOk result (out.new.items ≡ out.old.items ++ attributes_text (root_attributes height)) }
+{
+    let view = format!(in alloc; "0 0 960 {height}")?;
+    worded(out, "xmlns", NAMESPACE)?;
+    numbered(out, "width", 960)?;
+    numbered(out, "height", height)?;
+    worded(out, "viewBox", view.as_str())
+}
+
+/// Begins a drawing of 960 columns and so many rows.
+pub fn begin_drawing(
+    alloc: Global,
+    out: &mut Vec<u8>,
+    height: u64,
+    title: &str,
+) -> Result<(), AllocError>
+    ensures { OnOk result (out.new.items ≡ out.old.items ++ opening height title.now) }
+{
+    begin(out, "svg")?;
+    push_root(alloc, out, height)?;
+    end_tag(out)?;
+    push_told(out, "title", title)?;
+    push_told(out, "style", STYLE)?;
+    push_rect(out, 0, 0, 960, height, "paper")
+}
+
+/// Ends a drawing.
+pub fn end_drawing(out: &mut Vec<u8>) -> Result<(), AllocError>
+    ensures { OnOk result (out.new.items ≡ out.old.items ++ (codes "</" ++ (codes "svg" ++ codes ">\n"))) }
+{
+    close(out, "svg")
+}

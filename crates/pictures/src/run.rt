@@ -1,0 +1,132 @@
+//! The picture of a run.
+ghost use Rattle.std.specs.Prelude.{◌≡◌, ◌++◌, OnOk, IfOk};
+ghost use Rattle.dumper.specs.Trace.{ending_name};
+ghost use Rattle.pictures.specs.Forest.{forest_text};
+ghost use Rattle.pictures.specs.Run.{run_numbers, run_head, run_table, run_heat, run_height, run_parts, run_picture};
+
+use crate::counts::{box_counts, cell_counts};
+use crate::grid::{box_count, box_size};
+use crate::heat::{TOP, decimal, push_heat_strips};
+use crate::memory::{push_memory, push_places};
+use crate::parts::{begin_drawing, end_drawing, push_label};
+use crate::table::push_table;
+use buffer_table::{Buffer, Regions};
+use field_words::{NoMemory, Way};
+use relocation::Layout;
+use replay::{Ending, Log};
+use std::alloc::{AllocError, Global};
+
+/// Room for most pictures.
+const PICTURE: usize = 131_072;
+
+fn ending_name(ending: Ending) -> &'static [u8]
+    ensures { result.now ≡ ending_name ending }
+{
+    match ending {
+        Ending::Finished => b"finished",
+        Ending::Waiting => b"waiting",
+        Ending::Spent => b"steps spent",
+    }
+}
+
+#[tactic(auto, unfolding(crate::specs::Run::run_numbers))]
+fn push_numbers(alloc: Global, out: &mut Vec<u8>, log: &Log) -> Result<(), AllocError>
+    ensures { OnOk result (out.new.items ≡ out.old.items ++ forest_text (run_numbers log.now)) }
+{
+    push_label(out, 96, 538, "note", b"steps:")?;
+    push_label(out, 230, 538, "end", &decimal(alloc, u64::from(log.steps))?)?;
+    push_label(out, 260, 538, "note", b"accesses:")?;
+    push_label(
+        out,
+        424,
+        538,
+        "end",
+        &decimal(alloc, log.accesses.len() as u64)?,
+    )
+}
+
+#[tactic(auto, unfolding(crate::specs::Run::run_head))]
+fn push_head(alloc: Global, out: &mut Vec<u8>, log: &Log) -> Result<(), AllocError>
+    ensures { OnOk result (out.new.items ≡ out.old.items ++ forest_text (run_head log.now)) }
+{
+    push_label(out, 96, 514, "head", b"Accesses of a run")?;
+    push_numbers(alloc, out, log)?;
+    push_label(out, 456, 538, "note", ending_name(log.ending))
+}
+
+// The table over the whole run.
+#[tactic(auto, unfolding(crate::specs::Run::run_table))]
+fn push_run_table(
+    alloc: Global,
+    out: &mut Vec<u8>,
+    regions: &Regions,
+    buffers: &[Buffer],
+    layouts: &[Layout],
+    log: &Log,
+) -> Result<(), AllocError>
+    ensures { OnOk result (out.new.items ≡ out.old.items ++ forest_text (run_table regions.now buffers.now layouts.now log.now)) }
+{
+    let accesses = &log.accesses;
+    let reads = cell_counts(alloc, regions, buffers, layouts, Way::Read, accesses)?;
+    let writes = cell_counts(alloc, regions, buffers, layouts, Way::Write, accesses)?;
+    push_table(alloc, out, &reads, &writes)
+}
+
+// The heat over the whole run.
+#[tactic(auto, unfolding(crate::specs::Run::run_heat))]
+fn push_run_heat(alloc: Global, out: &mut Vec<u8>, memory: u32, log: &Log) -> Result<(), AllocError>
+    ensures { OnOk result (out.new.items ≡ out.old.items ++ forest_text (run_heat memory log.now)) }
+{
+    let size = box_size(memory);
+    let count = box_count(memory);
+    let reads = box_counts(alloc, Way::Read, size, count, &log.accesses)?;
+    let writes = box_counts(alloc, Way::Write, size, count, &log.accesses)?;
+    push_places(alloc, out, TOP, memory)?;
+    push_heat_strips(alloc, out, &reads, &writes)
+}
+
+#[tactic(auto, unfolding(crate::specs::Run::run_height))]
+fn run_height(memory: u32) -> u64
+    ensures { result ≡ run_height memory }
+{
+    TOP + 20 + (12 * ((box_count(memory) + 15) / 16)).max(140)
+}
+
+#[tactic(auto, unfolding(crate::specs::Run::run_parts))]
+fn push_parts(
+    alloc: Global,
+    out: &mut Vec<u8>,
+    memory: u32,
+    regions: &Regions,
+    buffers: &[Buffer],
+    layouts: &[Layout],
+    log: &Log,
+) -> Result<(), AllocError>
+    ensures { OnOk result (out.new.items ≡ out.old.items ++ forest_text (run_parts memory regions.now buffers.now layouts.now log.now)) }
+{
+    push_memory(alloc, out, memory, regions, buffers)?;
+    push_head(alloc, out, log)?;
+    push_run_table(alloc, out, regions, buffers, layouts, log)?;
+    push_run_heat(alloc, out, memory, log)
+}
+
+/// The picture of a memory of so many bytes, with these regions, buffers and lists of jobs, and of a run over it, as SVG: the text of one
+/// element. All numbers are the memory's, or say how many of the run's accesses are such.
+#[tactic(auto, unfolding(crate::specs::Run::run_picture))]
+pub fn run_picture(
+    alloc: Global,
+    memory: u32,
+    regions: &Regions,
+    buffers: &[Buffer],
+    layouts: &[Layout],
+    log: &Log,
+) -> Result<Vec<u8>, NoMemory>
+    ensures { IfOk result (λ text. text.items ≡ forest_text (run_picture memory regions.now buffers.now layouts.now log.now)) }
+{
+    let mut out = Vec::with_capacity(alloc, PICTURE)?;
+    let title = "Accesses of a run in the memory of the jobs";
+    begin_drawing(alloc, &mut out, run_height(memory), title)?;
+    push_parts(alloc, &mut out, memory, regions, buffers, layouts, log)?;
+    end_drawing(&mut out)?;
+    Ok(out)
+}

@@ -1,8 +1,0 @@
-use Rattle.std.proofs.Common.{◌≡◌, ◌++◌}
-use Rattle.svg.specs.Forest.{forest_text}
-use Rattle.memory_picture.specs.Parts.{each}
-use Rattle.run_picture.specs.Table.{unit_part}
-use Rattle.run_picture.proofs.table.push_units.Given as goal
-
-abbrev pub invariant-loop-row : goal.invariant-loop-row
-invariant-loop-row l = l.out.items ≡ l.fn.out.items ++ forest_text (each (unit_part l.reads l.writes) l.row)

@@ -1,4 +1,0 @@
-pub mod Counts
-pub mod Heat
-pub mod Table
-pub mod Picture
