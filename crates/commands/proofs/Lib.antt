@@ -1,5 +1,3 @@
-pub mod Fronts
-pub mod Replies
 pub mod Counts
 pub mod Headline
 pub mod Told

@@ -12,7 +12,7 @@ use Rattle.rule_words.specs.{declared.line.Line.Line, declared.name.RuleName.Rul
 use Rattle.rule_words.specs.Names.{name_text, sentence_of}
 use Rattle.commands.specs.declared.cause.Cause.TheVariants.{Rule, Kind, Mistake, Shader as ShaderCause, Long, Call, Part, Size, Level as LevelCause, Words}
 use Rattle.commands.specs.declared.command.Command.TheVariants.{Check, Replay, Runs, Drawn, Upgrade, Bound, Show, FromText, Asm, Disasm, Shader, ShaderText, Slots, Queue, Session, Untile, Tile, Level}
-use Rattle.commands.specs.{declared.cause.Cause.Cause, declared.command.Command.Command, declared.pictures.TexturePart.TexturePart}
+use Rattle.commands.specs.{declared.cause.Cause.Cause, declared.command.Command.Command, declared.surfaces.TexturePart.TexturePart}
 use Rattle.commands.specs.{Upgrade.format_rules, WordFault.word_fault_text}
 use Rattle.shader_check.specs.{declared.fault.ShaderFault.ShaderFault, Rules.shader_questions}
 use Rattle.job_queue.specs.Calls.{fault_line as queue_fault}

@@ -4,8 +4,8 @@ use Rattle.field_words.specs.Questions.{IsFirst}
 use Rattle.job_format.specs.{declared.rule.Refusal.Refusal, File.IsFileOf, Model.FileModel, Reading.file_at}
 use Rattle.job_check.specs.Whole.{all_questions, refusal_of}
 use Rattle.dumper.specs.Text.{refused_text}
-use Rattle.memory_picture.specs.Picture.{memory_picture}
-use Rattle.svg.specs.Forest.{Forest, forest_text}
+use Rattle.pictures.specs.Memory.{memory_picture}
+use Rattle.pictures.specs.Forest.{Forest, forest_text}
 
 -- the picture of a file's memory
 abbrev pub picture_of : FileModel → Forest

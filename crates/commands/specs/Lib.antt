@@ -1,5 +1,4 @@
 pub mod Answer
-pub mod Bands
 pub mod Bound
 pub mod Cause
 pub mod Drawn

@@ -7,7 +7,7 @@ use Rattle.texture_layouts.specs.declared.surface.Tiling.TheVariants.{T, Lt}
 use Rattle.tile_convert.specs.declared.level.LevelFault.TheVariants.{Texture, Face, Level}
 use Rattle.tile_convert.specs.{declared.level.LevelFault.LevelFault, Level.level_questions, Level.IsLevelPicture}
 use Rattle.tile_convert.specs.Picture.{IsPicture, IsSurface}
-use Rattle.commands.specs.{declared.pictures.Picture.Picture, declared.pictures.TexturePart.TexturePart}
+use Rattle.commands.specs.{declared.surfaces.Picture.Picture, declared.surfaces.TexturePart.TexturePart}
 
 abbrev pub tiling_named : List ℕ → Option Tiling
 tiling_named word = if bytes_eq word (codes "t") then Some T else (if bytes_eq word (codes "lt") then Some Lt else None)

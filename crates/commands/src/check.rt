@@ -39,7 +39,7 @@ fn accept_parts<'a>(alloc: Global, file: FileParts<'a>) -> Result<Accepted<'a>, 
     requires { IsWellFormed (parts_view file) }
     ensures { Answers (file_stages (parts_view file.entry)) (IsAccepted (parts_view file.entry)) result }
 {
-    let region = check_parts(alloc, MOST_MEMORY, &file)?;
+    let region = check_parts(alloc, MOST_MEMORY, &file, None)?;
     Ok(Accepted { file, region })
 }
 
@@ -119,9 +119,9 @@ fn image_of<'a>(alloc: Global, accepted: Accepted<'a>) -> Result<Image<'a>, NoMe
 /// What `check` answers to these bytes: the memory of an accepted file, or a refusal.
 #[tactic(auto, unfolding(job_check::specs::Whole::refusal_of), using(field_words::proofs::Questions::first_is))]
 pub fn check_answer(alloc: Global, bytes: &[u8]) -> Result<Reply<'_>, NoMemory>
-    ensures answers { IfOk result (IsReplyOf (IsCheckAnswer bytes.now) bytes.now) }
+    ensures answers { IfOk result (IsReplyOf (IsCheckAnswer bytes.now)) }
     ensures status { IfOk result (λ a. reply_status a < 2) }
-    ensures ready { IfOk result (IsReplyReady bytes.now) }
+    ensures ready { IfOk result IsReplyReady }
     ensures cause { IfOk result (λ a. IsRuleCause bytes.now (refusal_of bytes.now) (reply_cause a)) }
 {
     match accept(alloc, bytes) {

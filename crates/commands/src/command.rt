@@ -4,7 +4,7 @@ ghost use Rattle.commands.specs.Words.{texts, command_named, task_alone, task_nu
 ghost use Rattle.script.specs.Number.{number_within};
 
 use super::help::{Topic, verb_named};
-use super::pictures::{Picture, TexturePart, level_named, picture_named};
+use super::surfaces::{Picture, TexturePart, level_named, picture_named};
 use super::trial::{drawn_run, favoured_drawn, favoured_run, favoured_trial, trial_named};
 use field_words::{MOST_CODE, MOST_LIST};
 use rule_words::{kind_named, rule_named};

@@ -4,14 +4,14 @@ ghost use Rattle.job_check.specs.Whole.{refusal_of};
 ghost use Rattle.commands.specs.Cause.{IsRuleCause};
 ghost use Rattle.commands.specs.Drawn.{picture_of, IsDrawnAnswer};
 ghost use Rattle.job_format.specs.Parts.{parts_view};
-ghost use Rattle.svg.specs.Forest.{forest_text};
+ghost use Rattle.pictures.specs.Forest.{forest_text};
 
 use super::answer::Answer;
 use super::cause::Cause;
 use super::check::{Accepted, accept};
 use dumper::refusal_text;
 use field_words::{NoMemory, Stop};
-use memory_picture::memory_picture;
+use pictures::memory_picture;
 use rule_words::line_of;
 use std::alloc::Global;
 

@@ -2,7 +2,6 @@
 #![tactic(auto)]
 
 mod answer;
-mod bands;
 mod bounded;
 mod cause;
 mod check;
@@ -12,7 +11,6 @@ mod example;
 mod help;
 mod lone_shader;
 mod notice;
-mod pictures;
 mod program;
 mod replayed;
 mod reply;
@@ -21,11 +19,10 @@ mod scripts;
 mod serve;
 mod shader_text;
 mod shown;
+mod surfaces;
 mod trial;
 mod upgrading;
-mod word_bytes;
 mod word_fault;
-mod word_lines;
 
 pub use cause::Cause;
 pub use program::Checker;

@@ -7,17 +7,12 @@ ghost use Rattle.field_words.specs.Sizes.{most_memory};
 ghost use Rattle.dumper.specs.Text.{row_size};
 ghost use Rattle.dumper.specs.Parts.{part_at, part_end, part_text, parts_text, Ascend};
 ghost use Rattle.dumper.specs.Spans.{parts_of};
-ghost use Rattle.qpu_asm.specs.Printed.{AsmText};
-ghost use Rattle.commands.specs.Reply.{rest_text, reply_status, reply_cause, IsReplyReady, AppendsReply, AppendsReplyFront};
+ghost use Rattle.commands.specs.Reply.{rest_text, reply_status, reply_text, reply_cause, IsReplyReady};
 
 use super::answer::{Answer, reply};
-use super::bands::{Conversion, write_bands};
 use super::cause::Cause;
-use super::word_bytes::write_words;
-use super::word_lines::write_lines;
 use dumper::{IMAGE_END, PIECE, Span, put_part};
 use job_io::{Failed, Sink, write_all};
-use qpu_asm::Printer;
 
 /// The image of an accepted file: its text up to the rows, and what its memory has that isn't zero, by ascending place.
 #[derive(Drop)]
@@ -26,16 +21,12 @@ pub struct Image<'a> {
     pub spans: Vec<Span<'a>>,
 }
 
-/// A text with its status; the image of an accepted file, whose rows are printed from its spans piece by piece; the picture of the
-/// input in another order, which is printed band by band from the input, and memory for one band; or words, whose bytes or
-/// lines are printed a room at a time. So neither a job's memory nor the text of one or of a picture is ever in memory.
+/// A text with its status; or the image of an accepted file, whose rows are printed from its spans piece by piece. So neither a job's
+/// memory nor its text is ever in memory as a whole.
 #[derive(Drop)]
 pub enum Reply<'a> {
     Text(Answer),
     Image(Image<'a>),
-    Bands(Conversion, Vec<u8>),
-    Words(Vec<u64>),
-    Lines(Printer, Vec<u64>),
 }
 
 impl<'a> Reply<'a> {
@@ -45,7 +36,7 @@ impl<'a> Reply<'a> {
     {
         match self {
             Reply::Text(answer) => answer.cause,
-            Reply::Image(..) | Reply::Bands(..) | Reply::Words(..) | Reply::Lines(..) => None,
+            Reply::Image(_) => None,
         }
     }
 }
@@ -77,36 +68,21 @@ fn write_part<K: Sink>(
     Ok(())
 }
 
-// Writes the lines of the rows of all spans by way of a piece of so many bytes. It takes no memory.
+// Writes the lines of the rows of all spans by way of one piece. It takes no memory.
 #[inline(never)]
-fn write_spans<const N: usize, K: Sink>(sink: &mut K, spans: &[Span]) -> Result<(), Failed>
-    requires room { row_size ≤ N }
-    requires short { N < 2 ^ 32 }
-    requires ascend { Ascend 0 most_memory (parts_of spans.now) }
+fn write_spans<K: Sink>(sink: &mut K, spans: &[Span]) -> Result<(), Failed>
+    requires { Ascend 0 most_memory (parts_of spans.now) }
     ensures written { OnOk result (Appends (K.held sink.old) (K.held sink.new) (parts_text (parts_of spans.now))) }
     ensures cut { OnErr result (AppendsFront (K.held sink.old) (K.held sink.new) (parts_text (parts_of spans.now))) }
     ensures failed { OnErr result (Rose (K.faults sink.old) (K.faults sink.new)) }
     ensures last { OnErr result (LastCallFailed K.held K.faults sink.old sink.new) }
     ensures steady { OnOk result (K.faults sink.new ≡ K.faults sink.old) }
 {
-    let mut piece = [0; N];
+    let mut piece = [0; PIECE];
     for span in spans {
         write_part(sink, span.place, span.bytes.as_slice(), &mut piece)?;
     }
     Ok(())
-}
-
-// How many bytes of lines are made at once where there are few rows, so that a small job touches few pages.
-const SMALL: usize = PIECE / 8;
-
-// Whether a span has many rows.
-fn are_many(spans: &[Span]) -> bool {
-    for span in spans {
-        if span.bytes.len() >= PIECE {
-            return true;
-        }
-    }
-    false
 }
 
 // Writes the rows and the last line. It takes no memory.
@@ -119,11 +95,7 @@ fn write_rest<K: Sink>(sink: &mut K, spans: &[Span]) -> Result<(), Failed>
     ensures last { OnErr result (LastCallFailed K.held K.faults sink.old sink.new) }
     ensures steady { OnOk result (K.faults sink.new ≡ K.faults sink.old) }
 {
-    if are_many(spans) {
-        write_spans::<PIECE, K>(sink, spans)?;
-    } else {
-        write_spans::<SMALL, K>(sink, spans)?;
-    }
+    write_spans(sink, spans)?;
     write_all(sink, IMAGE_END)
 }
 
@@ -141,44 +113,24 @@ fn write_image<K: Sink>(sink: &mut K, head: &[u8], spans: &[Span]) -> Result<(),
     write_rest(sink, spans)
 }
 
-// Writes the lines of words, and says that it is done; or 4 where the sink failed. It takes no memory.
-fn print_lines<K: Sink>(sink: &mut K, printer: &Printer, words: &[u64]) -> u8
-    ensures status { result ≢ 4 → result ≡ 0 }
-    ensures failing { result ≤ 4 }
-    ensures written { result ≢ 4 → Appends (K.held sink.old) (K.held sink.new) (AsmText words.now) }
-    ensures cut { result ≡ 4 → AppendsFront (K.held sink.old) (K.held sink.new) (AsmText words.now) }
-    ensures failed { result ≡ 4 → Rose (K.faults sink.old) (K.faults sink.new) }
-    ensures last { result ≡ 4 → LastCallFailed K.held K.faults sink.old sink.new }
-    ensures steady { result ≢ 4 → K.faults sink.new ≡ K.faults sink.old }
-{
-    match write_lines(sink, printer, words) {
-        Ok(()) => 0,
-        Err(Failed) => 4,
-    }
-}
-
-/// Writes all of a reply to these bytes, and says its status; or 4 where the sink failed, which then has a front of the text, where
-/// it still tells. It takes no memory.
-pub fn print<K: Sink>(sink: &mut K, given: Reply, bytes: &[u8]) -> u8
+/// Writes all of a reply, and says its status; or 4 where the sink failed, which then has a front of the text, where it still tells. It
+/// takes no memory.
+pub fn print<K: Sink>(sink: &mut K, given: Reply) -> u8
     requires status { reply_status given < 2 }
-    requires ready { IsReplyReady bytes.now given }
+    requires ready { IsReplyReady given }
     ensures status { result ≢ 4 → result ≡ reply_status given.entry }
     ensures failing { result ≤ 4 }
-    ensures written { result ≢ 4 → AppendsReply given.entry bytes.now (K.held sink.old) (K.held sink.new) }
-    ensures cut { result ≡ 4 → AppendsReplyFront given.entry bytes.now (K.held sink.old) (K.held sink.new) }
+    ensures written { result ≢ 4 → Appends (K.held sink.old) (K.held sink.new) (reply_text given.entry) }
+    ensures cut { result ≡ 4 → AppendsFront (K.held sink.old) (K.held sink.new) (reply_text given.entry) }
     ensures failed { result ≡ 4 → Rose (K.faults sink.old) (K.faults sink.new) }
     ensures last { result ≡ 4 → LastCallFailed K.held K.faults sink.old sink.new }
     ensures steady { result ≢ 4 → K.faults sink.new ≡ K.faults sink.old }
 {
-    let written = match given {
-        Reply::Text(answer) => return reply(sink, &answer),
-        Reply::Image(image) => write_image(sink, &image.head, &image.spans),
-        Reply::Bands(conversion, mut band) => write_bands(sink, conversion, bytes, &mut band),
-        Reply::Words(words) => write_words(sink, &words),
-        Reply::Lines(printer, words) => return print_lines(sink, &printer, &words),
-    };
-    match written {
-        Ok(()) => 0,
-        Err(Failed) => 4,
+    match given {
+        Reply::Text(answer) => reply(sink, &answer),
+        Reply::Image(image) => match write_image(sink, &image.head, &image.spans) {
+            Ok(()) => 0,
+            Err(Failed) => 4,
+        },
     }
 }

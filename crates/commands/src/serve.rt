@@ -15,27 +15,25 @@ use super::check::check_answer;
 use super::command::Command;
 use super::drawn::drawn_answer;
 use super::lone_shader::{shader_answer, shader_text_answer};
-use super::pictures::{level_answer, picture_reply};
 use super::replayed::{replay_answer, trial_answer};
 use super::reply::{Reply, print};
 use super::scripts::{queue_answer, session_answer, slots_answer};
-use super::shader_text::{asm_reply, disasm_reply};
+use super::shader_text::{asm_answer, disasm_answer};
 use super::shown::{make_answer, show_answer};
+use super::surfaces::{level_answer, tile_answer, untile_answer};
 use super::upgrading::upgrade_answer;
 use entry::Ended;
 use field_words::NoMemory;
 use job_io::{ReadEnd, Sink, Source, read_all};
 use std::alloc::Global;
-use tile_convert::Order;
 
 /// What the command answers to these bytes.
-#[tactic(auto, unfolding(tile_convert::specs::Picture::size_in))]
 fn answer_to(alloc: Global, command: Command, bytes: &[u8]) -> Result<Reply<'_>, NoMemory>
     requires few { length bytes.now ≤ limit_of command }
     requires within { IsWithin command }
-    ensures answers { IfOk result (IsReplyOf (IsAnswer command bytes.now) bytes.now) }
+    ensures answers { IfOk result (IsReplyOf (IsAnswer command bytes.now)) }
     ensures status { IfOk result (λ a. reply_status a < 2) }
-    ensures ready { IfOk result (IsReplyReady bytes.now) }
+    ensures ready { IfOk result IsReplyReady }
     ensures cause { IfOk result (λ a. IsCause command bytes.now (reply_cause a)) }
 {
     let answer = match command {
@@ -47,21 +45,15 @@ fn answer_to(alloc: Global, command: Command, bytes: &[u8]) -> Result<Reply<'_>,
         Command::Bound => bound_answer(alloc, bytes),
         Command::Show => show_answer(alloc, bytes),
         Command::FromText => make_answer(alloc, bytes),
-        Command::Asm => return asm_reply(alloc, bytes),
-        Command::Disasm => return disasm_reply(alloc, bytes),
+        Command::Asm => asm_answer(alloc, bytes),
+        Command::Disasm => disasm_answer(alloc, bytes),
         Command::Shader => shader_answer(alloc, bytes),
         Command::ShaderText => shader_text_answer(alloc, bytes),
         Command::Slots(slots) => slots_answer(alloc, slots, bytes),
         Command::Queue(buffers) => queue_answer(alloc, buffers, bytes),
         Command::Session => session_answer(alloc, bytes),
-        Command::Untile(picture) => {
-            let from = Order::Surface(picture.tiling);
-            return picture_reply(alloc, from, Order::Rows, picture, bytes);
-        }
-        Command::Tile(picture) => {
-            let to = Order::Surface(picture.tiling);
-            return picture_reply(alloc, Order::Rows, to, picture, bytes);
-        }
+        Command::Untile(picture) => untile_answer(alloc, picture, bytes),
+        Command::Tile(picture) => tile_answer(alloc, picture, bytes),
         Command::Level(part) => level_answer(alloc, part, bytes),
     };
     Ok(Reply::Text(answer?))
@@ -99,7 +91,7 @@ fn respond<K: Sink>(alloc: Global, command: Command, bytes: &[u8], sink: &mut K)
         return Ended::silent(5);
     };
     let why = answer.cause();
-    ended(print(sink, answer, bytes), why)
+    ended(print(sink, answer), why)
 }
 
 /// Reads all of the command's input, appends its answer to the sink, and says why the input is refused. All memory is taken before the

@@ -3,15 +3,14 @@ ghost use Rattle.std.specs.Prelude.{◌≡◌, ◌≤◌, ◌<◌, length, IfOk}
 ghost use Rattle.field_words.specs.Sizes.{most_list};
 ghost use Rattle.qpu_asm.specs.Assembly.{Assembled};
 ghost use Rattle.commands.specs.Cause.{kind_cause, part_cause};
-ghost use Rattle.commands.specs.Reply.{reply_status, reply_cause, IsReplyOf, IsReplyReady};
-ghost use Rattle.commands.specs.Shader.{fault_text, length_text, IsAsmAnswer, IsDisasmAnswer};
+ghost use Rattle.commands.specs.Shader.{fault_text, length_text, bytes_of, IsAsmAnswer, IsDisasmAnswer};
 
 use super::answer::Answer;
 use super::cause::Cause;
-use super::reply::Reply;
+use byteorder::{ByteOrder, LittleEndian};
 use field_words::{NoMemory, Stop};
 use job_check::words_of;
-use qpu_asm::{AsmFault, Printer, assemble, fault_place};
+use qpu_asm::{AsmFault, assemble, disassemble, fault_place};
 use std::alloc::{AllocError, Global};
 
 /// A line for the first fault of a text.
@@ -31,40 +30,47 @@ fn length_text(alloc: Global, length: usize) -> Result<Vec<u8>, AllocError>
     Ok(format!(in alloc; "length {length}\n")?.into_bytes())
 }
 
+// The bytes of words, 8 each, the lowest first.
+#[tactic(auto, unfolding(crate::specs::Shader::bytes_of))]
+fn bytes_of(alloc: Global, words: &[u64]) -> Result<Vec<u8>, AllocError>
+    ensures { IfOk result (λ bytes. bytes.items ≡ bytes_of words.now) }
+{
+    let mut bytes = vec![in alloc; 0u8; 8 * words.len()]?;
+    LittleEndian::write_u64_into(words, &mut bytes);
+    Ok(bytes)
+}
+
 /// What `asm` answers to a text: the words of its instructions, or its first fault.
-pub fn asm_reply(alloc: Global, text: &[u8]) -> Result<Reply<'_>, NoMemory>
+pub fn asm_answer(alloc: Global, text: &[u8]) -> Result<Answer, NoMemory>
     requires { length text.now ≤ most_list }
-    ensures answers { IfOk result (IsReplyOf (IsAsmAnswer text.now) text.now) }
-    ensures status { IfOk result (λ a. reply_status a < 2) }
-    ensures ready { IfOk result (IsReplyReady text.now) }
-    ensures cause { IfOk result (λ a. reply_cause a ≡ kind_cause text.now (Assembled text.now)) }
+    ensures answers { IfOk result (λ a. IsAsmAnswer text.now a.status a.text.items) }
+    ensures status { IfOk result (λ a. a.status < 2) }
+    ensures cause { IfOk result (λ a. a.cause ≡ kind_cause text.now (Assembled text.now)) }
 {
     match assemble(alloc, text) {
-        Ok(words) => Ok(Reply::Words(words)),
+        Ok(words) => Ok(Answer::done(bytes_of(alloc, &words)?)),
         Err(Stop::Fault(fault)) => {
             let out = fault_text(alloc, &fault)?;
             let place = fault_place(alloc, text, fault)?;
             let cause = Cause::Kind(fault, place);
-            Ok(Reply::Text(Answer::refused(out, Some(cause))))
+            Ok(Answer::refused(out, Some(cause)))
         }
         Err(Stop::NoMemory) => Err(NoMemory),
     }
 }
 
 /// What `disasm` answers to bytes: the text of their words, or their length where it is no multiple of 8.
-pub fn disasm_reply(alloc: Global, bytes: &[u8]) -> Result<Reply<'_>, NoMemory>
+pub fn disasm_answer(alloc: Global, bytes: &[u8]) -> Result<Answer, NoMemory>
     requires { length bytes.now ≤ most_list }
-    ensures answers { IfOk result (IsReplyOf (IsDisasmAnswer bytes.now) bytes.now) }
-    ensures status { IfOk result (λ a. reply_status a < 2) }
-    ensures ready { IfOk result (IsReplyReady bytes.now) }
-    ensures cause { IfOk result (λ a. reply_cause a ≡ part_cause (length bytes.now)) }
+    ensures answers { IfOk result (λ a. IsDisasmAnswer bytes.now a.status a.text.items) }
+    ensures status { IfOk result (λ a. a.status < 2) }
+    ensures cause { IfOk result (λ a. a.cause ≡ part_cause (length bytes.now)) }
 {
     if bytes.len() % 8 != 0 {
         let text = length_text(alloc, bytes.len())?;
         let cause = Cause::Part(bytes.len() as u64);
-        return Ok(Reply::Text(Answer::refused(text, Some(cause))));
+        return Ok(Answer::refused(text, Some(cause)));
     }
     let words = words_of(alloc, bytes)?;
-    let printer = Printer::new(alloc, words.len())?;
-    Ok(Reply::Lines(printer, words))
+    Ok(Answer::done(disassemble(alloc, &words)?))
 }

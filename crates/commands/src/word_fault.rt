@@ -5,7 +5,7 @@ ghost use Rattle.commands.specs.Words.{texts};
 
 use super::command::{MOST_QUEUED, MOST_SLOTS, MOST_STEPS};
 use super::help::{Verb, verb_named};
-use super::pictures::{MOST_SIDE, pixel_named, tiling_named};
+use super::surfaces::{MOST_SIDE, pixel_named, tiling_named};
 use super::trial::{kind_named as unit_named, seeds_named};
 use rule_words::{kind_named, rule_named};
 use script::read_number;

@@ -1,5 +1,5 @@
 -- The rows of a part alone in a memory are rows of its bytes.
-use Rattle.std.proofs.Common.{◌≡◌, ℕ, ◌+◌, ◌-◌, ◌*◌, ◌<◌, ◌≤◌, List, [], ◌++◌, length, take, drop, sym, ap, arith}
+use Rattle.std.proofs.Common.{◌≡◌, ℕ, ◌+◌, ◌-◌, ◌*◌, ◌<◌, ◌≤◌, List, [], ◌++◌, length, min, take, drop, sym, ap, arith}
 use Rattle.std.proofs.{lemmas.List.places, lemmas.Grind.same_number_lists}
 use Rattle.std.specs.Prelude.{if◌then◌else◌}
 use Rattle.field_words.specs.Writes.{with_bytes, zeros}
@@ -16,11 +16,11 @@ pub row_alone_is : (place row : ℕ) (bytes : List ℕ) → row < part_rows (par
 unfolding alone
 row_alone_is place row bytes inside = in_zeros 16 (part_end (part_at place bytes)) place (16 * row) bytes (omega arith) (omega (arith, inside)) (omega (arith, inside))
 
--- the end of the bytes, and zeros behind it
-pub last_is : (n from : ℕ) (bytes : List ℕ) → from ≤ length bytes → length bytes < from + n
-    → drop from bytes ++ drop (length bytes - from) (zeros n) ≡ take n (drop from bytes ++ zeros n)
+-- so many bytes as there are, of n at most, and zeros behind them
+pub filled_is : (n from len : ℕ) (bytes : List ℕ) → from ≤ length bytes → len ≡ min (length bytes - from) n
+    → take len (drop from bytes) ++ drop len (zeros n) ≡ take n (drop from bytes ++ zeros n)
 unfolding zeros
-last_is n from bytes some few = same_number_lists _ _ (grind (arith, places)) (λ k below. grind (arith, places))
+filled_is n from len bytes some is = same_number_lists _ _ (grind (arith, places, is)) (λ k below. grind (arith, places, is))
 
 -- its line is that of the row alone in the memory
 pub row_text_alone : (place row : ℕ) (bytes : List ℕ) → row < part_rows (part_at place bytes)

@@ -1,10 +1,6 @@
 -- A place's eight digits are those of its four bytes, the highest first.
-use Rattle.std.proofs.lemmas.List.{places, set_at, take_more, length-take, length-drop, length-append, append_assoc}
-use Rattle.std.proofs.Common.{slice_set, get_or, take, drop, ◌*◌, ◌≡◌, ℕ, zero, suc, ◌+◌, ◌-◌, ◌/◌, ◌%◌, ◌^◌, ◌<◌, ◌≤◌, List, [], ◌∷◌, ◌++◌, length, replicate, codes, false, refl, sym, ap, ◌∙◌, arith}
+use Rattle.std.proofs.Common.{◌*◌, ◌≡◌, ℕ, zero, suc, ◌+◌, ◌-◌, ◌/◌, ◌%◌, ◌^◌, ◌<◌, ◌≤◌, List, [], ◌∷◌, ◌++◌, length, replicate, codes, false, refl, sym, ap, ◌∙◌, arith}
 use Rattle.std.proofs.Math.Dec.{eqb-suc-zero}
-use Rattle.std.proofs.lemmas.List.FromFn.{get_or-range_with_len, length-range_with_len}
-use Rattle.std.specs.List.{range_with_len}
-use Rattle.field_words.proofs.Pieces.{drop_drop}
 use Rattle.field_words.specs.Writes.{with_bytes}
 use Rattle.hex.proofs.HexLemmas.{length-encode_with}
 use Rattle.std.specs.{Prelude.◌==◌, Prelude.slice_index, Prelude.if◌then◌else◌, Fmt.digits, Fmt.digits_onto, Fmt.digit_glyph}
@@ -92,83 +88,11 @@ place_is place small =
     let at0 = digit_is (place / 16 / 16 / 16 / 16 / 16 / 16 / 16 % 16) (place / 16777216 % 256 / 16) (omega arith) (omega arith) in
     sym (eight_digits place small ∙ (λ i. at0 i ∷ at1 i ∷ at2 i ∷ at3 i ∷ at4 i ∷ at5 i ∷ at6 i ∷ at7 i ∷ []))
 
--- a further byte has two further digits
-abbrev digits_of : ℕ → List ℕ
-digits_of b = slice_index lower_digits (b / 16) ∷ slice_index lower_digits (b % 16) ∷ []
-
-encode_append : (xs : List ℕ) (b : ℕ) → encode_lower (xs ++ b ∷ []) ≡ encode_lower xs ++ digits_of b
-unfolding encode_with
-encode_append [] b = refl
-encode_append (x ∷ xs) b = ap (λ l. slice_index lower_digits (x / 16) ∷ slice_index lower_digits (x % 16) ∷ l) (encode_append xs b)
-
-two_in : (xs rest : List ℕ) (i x y : ℕ) → length xs ≡ i → 2 ≤ length rest → slice_set (slice_set (xs ++ rest) i x) (i + 1) y ≡ xs ++ (x ∷ y ∷ drop 2 rest)
-two_in xs [] i x y is two = absurd (omega arith)
-two_in xs (u ∷ []) i x y is two = absurd (omega arith)
-two_in xs (u ∷ v ∷ rest) i x y is two =
-    let front = xs ++ x ∷ [] in
-    let long : length front ≡ i + 1 = omega (arith, length-append xs (x ∷ []), is) in
-    ap (λ l. slice_set l (i + 1) y) (set_at xs u (v ∷ rest) x i is ∙ sym (append_assoc xs (x ∷ []) (v ∷ rest)))
-    ∙ set_at front v rest y (i + 1) long ∙ append_assoc xs (x ∷ []) (y ∷ rest)
-
-two_more : (line part : List ℕ) (at i x y : ℕ) → i ≡ at + length part → at + length part + 2 ≤ length line
-    → slice_set (slice_set (with_bytes line at part) i x) (i + 1) y ≡ with_bytes line at (part ++ x ∷ y ∷ [])
-two_more line part at i x y is fits =
-    let front = take at line ++ part in
-    let rest = drop (at + length part) line in
-    let long : length front ≡ i = omega (arith, length-append (take at line) part, length-take at line, is) in
-    let two : 2 ≤ length rest = omega (arith, length-drop (at + length part) line) in
-    let more : at + length part + 2 ≡ at + length (part ++ x ∷ y ∷ []) = omega (arith, length-append part (x ∷ y ∷ [])) in
-    ap (λ l. slice_set (slice_set l i x) (i + 1) y) (sym (append_assoc (take at line) part rest))
-    ∙ two_in front rest i x y long two ∙ append_assoc (take at line) part (x ∷ y ∷ drop 2 rest)
-    ∙ ap (λ l. take at line ++ l) (sym (append_assoc part (x ∷ y ∷ []) (drop 2 rest)) ∙ ap (λ l. (part ++ x ∷ y ∷ []) ++ l) (drop_drop (at + length part) 2 line ∙ ap (λ n. drop n line) more))
-
-pub digits_more : (line bytes : List ℕ) (at k x y : ℕ) → k < length bytes → at + 2 * length bytes ≤ length line
-    → x ≡ digit_glyph false (get_or bytes k 0 / 16) → y ≡ digit_glyph false (get_or bytes k 0 % 16) → get_or bytes k 0 < 256
-    → slice_set (slice_set (with_bytes line at (encode_lower (take k bytes))) (at + 2 * k) x) (at + 2 * k + 1) y ≡ with_bytes line at (encode_lower (take (k + 1) bytes))
-digits_more line bytes at k x y inside fits high low small =
-    let b = get_or bytes k 0 in
-    let part = encode_lower (take k bytes) in
-    let long : length part ≡ 2 * k = omega (arith, length-encode_with lower_digits (take k bytes), length-take k bytes) in
-    two_more line part at (at + 2 * k) x y (omega arith) (omega arith)
-    ∙ ap (with_bytes line at)
-    ((λ i. part ++ (high ∙ glyph_is (b / 16) (omega arith)) i ∷ (low ∙ glyph_is (b % 16) (omega arith)) i ∷ [])
-    ∙ sym (ap encode_lower (take_more bytes k 0 inside) ∙ encode_append (take k bytes) b))
-
--- the two digits of one byte among those of all
-two_at : (xs : List ℕ) (k : ℕ) → k < length xs → (get_or (encode_lower xs) (2 * k) 0 ≡ slice_index lower_digits (get_or xs k 0 / 16))
-    × (get_or (encode_lower xs) (2 * k + 1) 0 ≡ slice_index lower_digits (get_or xs k 0 % 16))
-unfolding encode_with
-two_at [] k inside = absurd (omega (arith, inside))
-two_at (x ∷ xs) zero inside = (refl, refl)
-two_at (x ∷ xs) (suc k) inside =
-    let first : 2 * suc k ≡ suc (suc (2 * k)) = omega arith in
-    let second : 2 * suc k + 1 ≡ suc (suc (2 * k + 1)) = omega arith in
-    let later = two_at xs k (omega (arith, inside)) in
-    (ap (λ n. get_or (encode_lower (x ∷ xs)) n 0) first ∙ later.0, ap (λ n. get_or (encode_lower (x ∷ xs)) n 0) second ∙ later.1)
-
--- a byte's own digits among those of all bytes
-pub pair_at : (b : ℕ) → b < 256 → (get_or (encode_lower (range_with_len 0 256)) (2 * b) 0 ≡ digit_glyph false (b / 16))
-    × (get_or (encode_lower (range_with_len 0 256)) (2 * b + 1) 0 ≡ digit_glyph false (b % 16))
-pair_at b small =
-    let all = range_with_len 0 256 in
-    let here : get_or all b 0 ≡ b = get_or-range_with_len 0 256 b 0 small ∙ omega arith in
-    let two = two_at all b (omega (arith, small, length-range_with_len 0 256)) in (
-      two.0 ∙ ap (λ x. slice_index lower_digits (x / 16)) here ∙ sym (glyph_is (b / 16) (omega (arith, small))),
-      two.1 ∙ ap (λ x. slice_index lower_digits (x % 16)) here ∙ sym (glyph_is (b % 16) (omega arith)),
-    )
-
-pub no_digits : (line bytes : List ℕ) (at : ℕ) → line ≡ with_bytes line at (encode_lower (take 0 bytes))
-unfolding encode_with
-no_digits line bytes at = grind (arith, places)
-
 -- The digits of a place in place of eight characters are its text.
 pub place_put : (place : ℕ) → place < 2 ^ 32 → with_bytes (codes "........") 0 (encode_lower (to_be_bytes w32 place)) ≡ place_text place
 unfolding encode_with
 place_put place small = place_is place small
 
--- Those of two places in place of sixteen are their texts, with a blank between them.
-pub places_put : (low high : ℕ) → low < 2 ^ 32 → high < 2 ^ 32
-    → with_bytes (with_bytes (codes "........ ........") 0 (encode_lower (to_be_bytes w32 low))) 9 (encode_lower (to_be_bytes w32 high))
-    ≡ place_text low ++ (codes " " ++ place_text high)
-unfolding encode_with
-places_put low high small near = λ i. place_is low small i ++ (codes " " ++ place_is high near i)
+-- two digits for each byte
+pub digits_long : (bytes : List ℕ) → length (encode_lower bytes) ≡ 2 * length bytes
+digits_long bytes = omega (arith, length-encode_with lower_digits bytes)

@@ -5,7 +5,7 @@ ghost use Rattle.dumper.specs.Trace.{unit_text, counts_text, reach_text, step_en
 ghost use Rattle.dumper.specs.Text.{place_text};
 ghost use Rattle.std.specs.Fmt.{decimal};
 
-use super::lines::put_place;
+use super::lines::place_digits;
 use super::text::place_text;
 use field_words::{Actor, NoMemory};
 use itoa::Buffer;
@@ -15,21 +15,16 @@ use std::alloc::{AllocError, Global};
 /// Room for a step's line as it mostly is.
 const STEP_LINE: usize = 32;
 
-/// Appends a number in decimal. A digit alone, as most are, is put as it is.
-#[tactic(auto, using(std::proofs::lemmas::Fmt::decimal_digit))]
+/// Appends a number in decimal.
 pub fn push_number(out: &mut Vec<u8>, number: u32) -> Result<(), AllocError>
     ensures { OnOk result (out.new.items ≡ out.old.items ++ decimal number) }
 {
-    if number < 10 {
-        return out.extend_from_slice(&[b'0' + number as u8]);
-    }
     let mut buffer = Buffer::new();
     out.extend_from_slice(buffer.format(number).as_bytes())
 }
 
 /// Appends a unit's name: `binner`, `renderer`, `qpu3`, or `tmu3.1`.
-#[inline(always)]
-#[tactic(auto, using(std::proofs::lemmas::Fmt::decimal_digit), unfolding(crate::specs::Trace::unit_text))]
+#[tactic(auto, unfolding(crate::specs::Trace::unit_text))]
 pub fn push_unit(out: &mut Vec<u8>, unit: Actor) -> Result<(), AllocError>
     ensures { OnOk result (out.new.items ≡ out.old.items ++ unit_text unit) }
 {
@@ -37,9 +32,6 @@ pub fn push_unit(out: &mut Vec<u8>, unit: Actor) -> Result<(), AllocError>
         Actor::Binner => out.extend_from_slice(b"binner"),
         Actor::Renderer => out.extend_from_slice(b"renderer"),
         Actor::Qpu(q) => {
-            if q < 10 {
-                return out.extend_from_slice(&[b'q', b'p', b'u', b'0' + q]);
-            }
             out.extend_from_slice(b"qpu")?;
             push_number(out, u32::from(q))
         }
@@ -53,31 +45,16 @@ pub fn push_unit(out: &mut Vec<u8>, unit: Actor) -> Result<(), AllocError>
 }
 
 /// Appends a place. One that needs more than eight digits takes memory of its own.
-#[tactic(auto, using(crate::proofs::Digits::place_put))]
 pub fn push_place(alloc: Global, out: &mut Vec<u8>, place: u64) -> Result<(), AllocError>
     ensures { OnOk result (out.new.items ≡ out.old.items ++ place_text place) }
 {
     if place >= 1 << 32 {
         return out.extend_from_slice(place_text(alloc, place)?.as_bytes());
     }
-    let mut digits = *b"........";
-    put_place(&mut digits, 0, place as u32);
-    out.extend_from_slice(&digits)
+    out.extend_from_slice(&place_digits(place as u32))
 }
 
-/// Two places of eight digits each, and a blank between them. It stands apart, so that no digit waits in a register or on the stack while
-/// the text is tested for room.
-#[inline(never)]
-fn near_reach(low: u32, high: u32) -> [u8; 17]
-    ensures { result ≡ place_text low ++ (codes " " ++ place_text high) }
-{
-    let mut text = *b"........ ........";
-    put_place(&mut text, 0, low);
-    put_place(&mut text, 9, high);
-    text
-}
-
-/// Appends from where to where a step reached. Places of eight digits, as most have, are put at once.
+/// Appends from where to where a step reached.
 #[tactic(auto, unfolding(crate::specs::Trace::reach_text))]
 fn push_reach(alloc: Global, out: &mut Vec<u8>, line: &TraceLine) -> Result<(), AllocError>
     ensures { OnOk result (out.new.items ≡ out.old.items ++ reach_text line.now) }
@@ -85,28 +62,16 @@ fn push_reach(alloc: Global, out: &mut Vec<u8>, line: &TraceLine) -> Result<(), 
     if line.reads == 0 && line.writes == 0 {
         return out.extend_from_slice(b"- -");
     }
-    if line.low < 1 << 32 && line.high < 1 << 32 {
-        return out.extend_from_slice(&near_reach(line.low as u32, line.high as u32));
-    }
     push_place(alloc, out, line.low)?;
     out.extend_from_slice(b" ")?;
     push_place(alloc, out, line.high)
 }
 
-/// Appends how many reads and how many writes a step did. Counts of one digit, as most have, are put at once.
-#[tactic(auto, using(std::proofs::lemmas::Fmt::decimal_digit), unfolding(crate::specs::Trace::counts_text))]
+/// Appends how many reads and how many writes a step did.
+#[tactic(auto, unfolding(crate::specs::Trace::counts_text))]
 fn push_counts(out: &mut Vec<u8>, line: &TraceLine) -> Result<(), AllocError>
     ensures { OnOk result (out.new.items ≡ out.old.items ++ counts_text line.now) }
 {
-    if line.reads < 10 && line.writes < 10 {
-        return out.extend_from_slice(&[
-            b' ',
-            b'0' + line.reads as u8,
-            b' ',
-            b'0' + line.writes as u8,
-            b' ',
-        ]);
-    }
     out.extend_from_slice(b" ")?;
     push_number(out, line.reads)?;
     out.extend_from_slice(b" ")?;

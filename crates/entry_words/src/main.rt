@@ -1,5 +1,5 @@
-//! A program that writes its words, one a line, and then its input, and refuses. Its stored run
-//! shows what `entry` hands over: two words, all of the input, and a status other than 0.
+//! A program that writes its words, one a line, and then its input, and ends as one that had too much. Its stored run shows what `entry`
+//! hands over: two words, all of the input, and the status, whose meaning is said on standard error and not on standard output.
 #![tactic(auto)]
 
 use entry::{Ended, Program, Ran};
@@ -25,7 +25,7 @@ fn run<S: Source, K: Sink>(alloc: Global, words: &Vec<String>, source: &mut S, s
     if write_lines(sink, words).is_err() || write_all(sink, &input).is_err() {
         return 4;
     }
-    1
+    6
 }
 
 struct Words;
@@ -54,7 +54,10 @@ impl Program for Words {
         }
     }
 
-    fn notice(&self, _status: u8) -> Option<&'static str> {
+    fn notice(&self, status: u8) -> Option<&'static str> {
+        if status == 6 {
+            return Some("entry_words: the input is longer than it may be");
+        }
         None
     }
 }

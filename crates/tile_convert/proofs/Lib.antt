@@ -1,5 +1,3 @@
-pub mod Bands
-pub mod Exists
 pub mod Levels
 pub mod Numbers
 pub mod Parts

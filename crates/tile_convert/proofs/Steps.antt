@@ -72,15 +72,6 @@ one_part from to width cpp x y n a b source old mid new pixel inside from_a to_b
           none u v c (first.0, elim first.1 [ inl above ↦ inl above | inr left ↦ inr (left.0, omega (arith, left.1)) ]) c_in same);
     }
 
--- nothing is copied yet
-pub none_copied : (from to : Order) (width cpp : ℕ) (source old : List ℕ) → IsCopied from to width cpp source old old 0 0
-none_copied from to width cpp source old =
-    record {
-      size = refl;
-      pixels = λ u v c first c_in. absurd (elim first.1 [ inl above ↦ omega (arith, above) | inr left ↦ omega (arith, left.1) ]);
-      rest = λ i none. refl;
-    }
-
 in_row : (width u v y : ℕ) → IsBefore width u v 0 (y + 1) → (v < y) ⊎ ((v ≡ y) × (u < width))
 in_row width u v y first =
     elim (cases_lt v y) [

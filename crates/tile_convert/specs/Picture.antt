@@ -1,10 +1,10 @@
 -- Pictures: width times height pixels of cpp bytes, in the order of rows or in that of a surface.
-use Rattle.std.specs.Prelude.{◌≡◌, ◌<◌, ℕ, ◌+◌, ◌*◌, ◌/◌, ◌%◌, ◌==◌, ◌-◌, min, not, List, [], ◌∷◌, ◌++◌, length, slice_index}
+use Rattle.std.specs.Prelude.{◌≡◌, ◌<◌, ℕ, ◌+◌, ◌*◌, ◌/◌, ◌%◌, ◌==◌, ◌-◌, min, not, List, [], ◌∷◌, length, slice_index}
 use Rattle.std.specs.Int.{div_ceil}
 use Rattle.field_words.specs.Questions.{Question, Ask}
 use Rattle.texture_layouts.specs.declared.surface.Tiling.TheVariants.{Raster, T, Lt}
 use Rattle.texture_layouts.specs.{declared.surface.Tiling.Tiling, Place.pixel_place_of}
-use Rattle.texture_layouts.specs.Surface.{microtile_width_of, microtile_height_of, size_for, IsPixelSize}
+use Rattle.texture_layouts.specs.Surface.{microtile_width_of, size_for, IsPixelSize}
 use Rattle.tile_convert.specs.{declared.order.Order.Order, declared.order.Order.TheVariants.Rows, declared.order.Order.TheVariants.Surface}
 
 -- Where the bytes of pixel (x, y) begin. In rows no row is aligned.
@@ -16,10 +16,6 @@ place_in (Surface tiling) width cpp x y = pixel_place_of tiling width cpp x y
 unfoldable pub size_in : Order → ℕ → ℕ → ℕ → ℕ
 size_in Rows width height cpp = width * height * cpp
 size_in (Surface tiling) width height cpp = size_for tiling width height cpp
-
--- how many rows of pixels a band has: eight rows of microtiles, which are the height of a tile in T
-abbrev pub band_height_of : ℕ → ℕ
-band_height_of cpp = 8 * microtile_height_of cpp
 
 -- byte i is none of a pixel's
 abbrev pub IsOutside : Order → ℕ → ℕ → ℕ → ℕ → Type 0
@@ -35,14 +31,6 @@ pub record IsCopy (from to : Order) (width height cpp : ℕ) (source target : Li
   pub pixels : (x y b : ℕ) → x < width → y < height → b < cpp
       → slice_index target (place_in to width cpp x y + b) ≡ slice_index source (place_in from width cpp x y + b)
   pub blank : IsZeroOutside to width height cpp target
-
--- What was copied band by band was copied: where the upper one of two pictures, one above the other, is made of whole bands, their
--- bytes one behind the other are those of both as one picture, in each order.
-abbrev pub BandsJoin : Type 0
-BandsJoin = (from to : Order) (width above below cpp : ℕ) (upper lower upper_copy lower_copy : List ℕ) → IsPixelSize cpp
-    → above % band_height_of cpp ≡ 0 → length upper ≡ size_in from width above cpp
-    → IsCopy from to width above cpp upper upper_copy → IsCopy from to width below cpp lower lower_copy
-    → IsCopy from to width (above + below) cpp (upper ++ lower) (upper_copy ++ lower_copy)
 
 -- the raster is the picture of the surface, and the surface that of the raster
 abbrev pub IsPicture : Tiling → ℕ → ℕ → ℕ → List ℕ → List ℕ → Type 0

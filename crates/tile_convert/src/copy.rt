@@ -76,29 +76,6 @@ fn copy_rows(
     }
 }
 
-/// Fills all of `target` with the picture that `source` holds, in another order. Bytes that belong to no pixel are zero. It takes no
-/// memory.
-#[tactic(auto, using(crate::proofs::Whole::copied_whole))]
-pub fn copy_picture(
-    from: Order,
-    to: Order,
-    width: u32,
-    height: u32,
-    cpp: u32,
-    source: &[u8],
-    target: &mut [u8],
-)
-    requires width_limit { width ≤ 4096 }
-    requires height_limit { height ≤ 4096 }
-    requires pixel { IsPixelSize cpp }
-    requires source { length source.now ≡ size_in from width height cpp }
-    requires target { length target.old ≡ size_in to width height cpp }
-    ensures { IsCopy from to width height cpp source.now target.new }
-{
-    target.fill(0);
-    copy_rows(from, to, width, height, cpp, source, target);
-}
-
 /// The picture in another order. Bytes that belong to no pixel are zero.
 pub(crate) fn copied(
     alloc: Global,
@@ -116,6 +93,6 @@ pub(crate) fn copied(
     ensures { IfOk result (λ target. IsCopy from to width height cpp source.now target.items) }
 {
     let mut target = vec![in alloc; 0u8; picture_size(to, width, height, cpp) as usize]?;
-    copy_picture(from, to, width, height, cpp, source, &mut target);
+    copy_rows(from, to, width, height, cpp, source, &mut target);
     Ok(target)
 }

@@ -1,9 +1,9 @@
 //! Where the pixels of a picture lie.
 ghost use Rattle.std.specs.Prelude.{◌≡◌, ◌<◌, ◌≤◌, ◌^◌};
 ghost use Rattle.texture_layouts.specs.Surface.{IsPixelSize};
-ghost use Rattle.tile_convert.specs.Picture.{place_in, size_in, band_height_of, part_offset, pixels_there, parts_across};
+ghost use Rattle.tile_convert.specs.Picture.{place_in, size_in, part_offset, pixels_there, parts_across};
 
-use texture_layouts::{Tiling, microtile_height, microtile_width, pixel_place, surface_size};
+use texture_layouts::{Tiling, microtile_width, pixel_place, surface_size};
 
 /// In which order the pixels of a picture lie.
 #[derive(Clone, Copy, PartialEq, Eq, Debug)]
@@ -16,7 +16,7 @@ pub enum Order {
 
 /// How many bytes a picture of `width` times `height` pixels of `cpp` bytes takes.
 #[tactic(auto, unfolding(crate::specs::Picture::size_in), using(crate::proofs::Numbers::rows_limit))]
-pub fn picture_size(order: Order, width: u32, height: u32, cpp: u32) -> u64
+pub(crate) fn picture_size(order: Order, width: u32, height: u32, cpp: u32) -> u64
     requires width_limit { width ≤ 4096 }
     requires height_limit { height ≤ 4096 }
     requires pixel { IsPixelSize cpp }
@@ -27,16 +27,6 @@ pub fn picture_size(order: Order, width: u32, height: u32, cpp: u32) -> u64
         Order::Rows => u64::from(width) * u64::from(height) * u64::from(cpp),
         Order::Surface(tiling) => surface_size(tiling, width, height, cpp),
     }
-}
-
-/// How many rows of pixels of `cpp` bytes a band has: eight rows of microtiles, which are 64 rows of pixels of one byte and 32 of any
-/// other. In each order a picture's bands lie one behind the other.
-pub fn band_height(cpp: u32) -> u32
-    ensures value { result ≡ band_height_of cpp }
-    ensures positive { 1 ≤ result }
-    ensures limit { result ≤ 64 }
-{
-    8 * microtile_height(cpp)
 }
 
 /// Where the first pixel of row `y` lies.

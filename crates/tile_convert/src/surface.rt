@@ -2,7 +2,7 @@
 ghost use Rattle.std.specs.Prelude.{◌≡◌, ◌≤◌, ◌*◌, length};
 ghost use Rattle.field_words.specs.Questions.{Answers, NeverHidesFault};
 ghost use Rattle.texture_layouts.specs.Surface.{IsPixelSize, size_for};
-ghost use Rattle.tile_convert.specs.Picture.{IsPicture, IsSurface, length_questions, UntilesWhatWasTiled, TilesWhatWasUntiled, BandsJoin};
+ghost use Rattle.tile_convert.specs.Picture.{IsPicture, IsSurface, length_questions, UntilesWhatWasTiled, TilesWhatWasUntiled};
 
 use crate::copy::copied;
 use crate::order::{Order, picture_size};
@@ -88,10 +88,4 @@ pub fn untile_of_tile()
 /// A law: what [`tile`] gives of what [`untile`] gave of a surface is that surface, wherever its bytes are zero outside its pixels.
 pub fn tile_of_untile()
     ensures { TilesWhatWasUntiled }
-{}
-
-/// A law: pictures one above the other, of which the upper one is made of whole bands, lie one behind the other in each order, and
-/// what was copied of them is a copy of both as one picture.
-pub fn bands_join()
-    ensures { BandsJoin }
 {}

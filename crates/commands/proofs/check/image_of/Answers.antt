@@ -8,7 +8,7 @@ use Rattle.commands.proofs.check.image_of.Goals as goal
 pub image_head-requires : goal.image_head-requires
 image_head-requires c =
     let is = c.requires.accepted.region_is in
-    of_version (parts_view c.args.accepted.file) c.deref.result.now c.deref-2.result.now c.requires.well_formed (c.deref.ensures.value ∙ is.layouts_are) (c.deref-2.ensures.value ∙ is.lengths_are)
+    of_version (parts_view c.args.accepted.file) c.deref.result.now c.deref-2.result.now c.requires.well_formed (c.deref.ensures.0 ∙ is.layouts_are) (c.deref-2.ensures.0 ∙ is.lengths_are)
 
 pub returns-clause-text : goal.returns-clause-text
 returns-clause-text c =
@@ -18,8 +18,8 @@ returns-clause-text c =
     let parts_are = parts_ordered f region c.deref-3.result.now (parts_of c.in_ok-spans.spans.items) accepted.region_is c.deref-3.ensures.value c.in_ok-spans.ensures in
     let head_is : c.in_ok-head.head.items ≡ head_text f.version f.mem_size region.layouts.items region.lengths.items =
     c.in_ok-head.ensures
-    ∙ ap (λ layouts. head_text f.version f.mem_size layouts c.deref-2.result.now) c.deref.ensures.value
-    ∙ ap (head_text f.version f.mem_size region.layouts.items) c.deref-2.ensures.value in
+    ∙ ap (λ layouts. head_text f.version f.mem_size layouts c.deref-2.result.now) c.deref.ensures.0
+    ∙ ap (head_text f.version f.mem_size region.layouts.items) c.deref-2.ensures.0 in
     image_made f region (parts_of c.in_ok-spans.spans.items) c.in_ok-head.head.items accepted.sound c.requires.well_formed.contents accepted.region_is parts_are head_is
 
 pub returns-clause-ready : goal.returns-clause-ready

@@ -1,4 +1,4 @@
-use Rattle.std.proofs.Common.{◌<◌, ◌^◌, suc, take, drop, refl, sym, subst, ◌∙◌, arith, add-one}
+use Rattle.std.proofs.Common.{◌<◌, ◌^◌, ℕ, suc, take, drop, refl, sym, subst, ◌∙◌, arith, add-one}
 use Rattle.std.proofs.lemmas.List.{length-replicate}
 use Rattle.std.specs.Io.KnownBytes.{Appends}
 use Rattle.job_io.specs.Traffic.{AppendsFront}
@@ -9,16 +9,16 @@ use Rattle.commands.proofs.Appending.{none_appended, both_appended, front_of_fir
 use Rattle.commands.proofs.reply.write_spans.Goals as goal
 
 pub write_part-requires-clause-room : goal.write_part-requires-clause-room
-write_part-requires-clause-room g c = omega (arith, c.requires.room, c.loop-span.invariant.room)
+write_part-requires-clause-room g c = omega (arith, c.loop-span.invariant.room)
 
 pub loop-span-init : goal.loop-span-init
 unfolding parts_text
-loop-span-init g c = record { written = none_appended (g.K.Sink.held c.args.sink.now); steady = refl; room = length-replicate g.row.N 0 }
+loop-span-init g c = record { written = none_appended (g.K.Sink.held c.args.sink.now); steady = refl; room = length-replicate {A = ℕ} 65536 0 }
 
 pub write_part-requires-clause-end : goal.write_part-requires-clause-end
 write_part-requires-clause-end g c =
     let x = c.span-item.result in
-    let ends = span_end c.args.spans.now 0 most_memory c.loop-span.span-index x c.requires.ascend c.loop-span-test.true c.span-item.is in
+    let ends = span_end c.args.spans.now 0 most_memory c.loop-span.span-index x c.requires c.loop-span-test.true c.span-item.is in
     let small : part_end (part_of x) < 2 ^ 32 = omega (arith, ends) in
     subst (λ bytes. part_end (part_at x.place bytes) < 2 ^ 32) (sym c.as_slice.ensures.value) small
 

@@ -8,5 +8,5 @@ abbrev pub invariant-loop-span : goal.invariant-loop-span
 invariant-loop-span g l = record {
   written : Appends (g.K.Sink.held l.initial.sink) (g.K.Sink.held l.sink) (parts_text (take l.span-index (parts_of l.spans)));
   steady : g.K.Sink.faults l.sink ≡ g.K.Sink.faults l.initial.sink;
-  room : length l.piece ≡ g.row.N;
+  room : length l.piece ≡ 65536;
 }

@@ -1,21 +1,17 @@
 use Rattle.std.proofs.Common.{◌≡◌, ◌≢◌, arith, sym, subst, ◌∙◌}
-use Rattle.commands.specs.{Answer.IsAnswer, Cause.IsCause, Run.IsAnswered}
-use Rattle.commands.proofs.Replies.{reply_answers, reply_cut}
+use Rattle.commands.specs.{Answer.IsAnswer, Cause.IsCause, Run.IsAnswered, Reply.reply_status, Reply.reply_text}
 use Rattle.commands.proofs.serve.respond.Goals as goal
 
 pub returns-clause-answered : goal.returns-clause-answered
 returns-clause-answered g c = λ low.
-    let before = g.K.Sink.held c.args.sink.now in
-    let now = g.K.Sink.held c.print.new.sink in
     let same : c.ended.result.status ≡ c.print.result = c.ended.ensures.status in
     let wrote : c.print.result ≢ 4 = λ e. omega (arith, e, low, same) in
-    subst (λ status. IsAnswered (IsAnswer c.args.command c.args.bytes.now) status before now) (sym (same ∙ c.print.ensures.status wrote))
-    (reply_answers c.in-Ok.answer (IsAnswer c.args.command c.args.bytes.now) c.args.bytes.now before now c.in-Ok.ensures.answers (c.print.ensures.written wrote))
+    subst (λ status. IsAnswered (IsAnswer c.args.command c.args.bytes.now) status (g.K.Sink.held c.args.sink.now) (g.K.Sink.held c.print.new.sink))
+    (sym (same ∙ c.print.ensures.status wrote)) (reply_text c.in-Ok.answer, c.in-Ok.ensures.answers, c.print.ensures.written wrote)
 
 pub returns-clause-cut : goal.returns-clause-cut
 returns-clause-cut g c = λ cut.
-    reply_cut c.in-Ok.answer (IsAnswer c.args.command c.args.bytes.now) c.args.bytes.now (g.K.Sink.held c.args.sink.now) (g.K.Sink.held c.print.new.sink)
-    c.in-Ok.ensures.answers (c.print.ensures.cut (sym c.ended.ensures.status ∙ cut))
+    (reply_status c.in-Ok.answer, reply_text c.in-Ok.answer, c.in-Ok.ensures.answers, c.print.ensures.cut (sym c.ended.ensures.status ∙ cut))
 
 pub returns-clause-cause : goal.returns-clause-cause
 returns-clause-cause g c = λ one.

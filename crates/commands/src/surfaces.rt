@@ -1,22 +1,19 @@
 //! Commands on pictures: `untile`, `tile` and `level`.
-ghost use Rattle.std.specs.Prelude.{◌≡◌, ◌≤◌, ◌<◌, ◌^◌, length, Some, None, IfOk, IfSome};
+ghost use Rattle.std.specs.Prelude.{◌≡◌, ◌≤◌, ◌<◌, ◌^◌, ◌*◌, length, Some, None, IfOk, IfSome};
 ghost use Rattle.script.specs.Number.{number_within};
-ghost use Rattle.texture_layouts.specs.Surface.{IsPixelSize};
-ghost use Rattle.tile_convert.specs.Picture.{size_in, IsCopy};
+ghost use Rattle.texture_layouts.specs.Surface.{IsPixelSize, size_for};
 ghost use Rattle.commands.specs.Pictures.{tiling_named, pixel_by, side_by, most_side, most_word, picture_named, level_named, IsPictureWithin};
-ghost use Rattle.commands.specs.Pictures.{length_wanted_text, level_refusal, IsSizedAnswer, IsLevelAnswer};
+ghost use Rattle.commands.specs.Pictures.{length_wanted_text, level_refusal, IsUntileAnswer, IsTileAnswer, IsLevelAnswer};
 ghost use Rattle.commands.specs.Cause.{size_cause, level_cause, level_fault};
-ghost use Rattle.commands.specs.Reply.{reply_status, reply_cause, IsReplyOf, IsReplyReady};
+ghost use Rattle.commands.specs.declared.cause.Cause.TheVariants.{Size};
 
 use super::answer::Answer;
-use super::bands::{Conversion, band_room};
 use super::cause::{Cause, level_rule};
-use super::reply::Reply;
 use field_words::{NoMemory, Stop};
 use script::read_number;
 use std::alloc::{AllocError, Global};
 use texture_layouts::Tiling;
-use tile_convert::{LevelFault, Order, extract, picture_size};
+use tile_convert::{LevelFault, extract, tile, untile};
 
 /// The most pixels of a picture's side.
 pub const MOST_SIDE: u64 = 4096;
@@ -141,44 +138,53 @@ fn level_refusal(alloc: Global, fault: LevelFault) -> Result<Vec<u8>, AllocError
     Ok(text.into_bytes())
 }
 
-/// What is answered to a picture that is to be put into another order: that picture, for which memory for one band is taken; or how
-/// many bytes are wanted.
-pub fn picture_reply(
-    alloc: Global,
-    from: Order,
-    to: Order,
-    picture: Picture,
-    bytes: &[u8],
-) -> Result<Reply<'_>, NoMemory>
+// The refusal of so many bytes where another number is wanted.
+fn size_refusal(alloc: Global, length: usize, wanted: u64) -> Result<Answer, NoMemory>
+    ensures { IfOk result (λ a. (a.status ≡ 1) × (a.text.items ≡ length_wanted_text length wanted) × (a.cause ≡ Some (Size length wanted))) }
+{
+    let text = length_wanted_text(alloc, length, wanted)?;
+    let cause = Cause::Size(length as u64, wanted);
+    Ok(Answer::refused(text, Some(cause)))
+}
+
+/// What `untile` answers to a surface: its pixels by rows, or how many bytes are wanted.
+pub fn untile_answer(alloc: Global, picture: Picture, bytes: &[u8]) -> Result<Answer, NoMemory>
     requires { IsPictureWithin picture }
-    ensures answers { IfOk result (IsReplyOf (IsSizedAnswer bytes.now (size_in from picture.width picture.height picture.cpp)
-        (IsCopy from to picture.width picture.height picture.cpp bytes.now)) bytes.now) }
-    ensures status { IfOk result (λ a. reply_status a < 2) }
-    ensures ready { IfOk result (IsReplyReady bytes.now) }
-    ensures cause { IfOk result (λ a.
-        reply_cause a ≡ size_cause (length bytes.now) (size_in from picture.width picture.height picture.cpp)) }
+    ensures answers { IfOk result (λ a. IsUntileAnswer picture bytes.now a.status a.text.items) }
+    ensures status { IfOk result (λ a. a.status < 2) }
+    ensures cause { IfOk result (λ a. a.cause ≡ size_cause (length bytes.now) (size_for picture.tiling picture.width picture.height picture.cpp)) }
 {
     let Picture {
+        tiling,
         cpp,
         width,
         height,
-        ..
     } = picture;
-    let wanted = picture_size(from, width, height, cpp);
-    if bytes.len() as u64 != wanted {
-        let text = length_wanted_text(alloc, bytes.len(), wanted)?;
-        let cause = Cause::Size(bytes.len() as u64, wanted);
-        return Ok(Reply::Text(Answer::refused(text, Some(cause))));
+    match untile(alloc, tiling, width, height, cpp, bytes) {
+        Ok(pixels) => Ok(Answer::done(pixels)),
+        Err(Stop::Fault(wanted)) => size_refusal(alloc, bytes.len(), wanted),
+        Err(Stop::NoMemory) => Err(NoMemory),
     }
-    let conversion = Conversion {
-        from,
-        to,
+}
+
+/// What `tile` answers to pixels by rows: their surface, or how many bytes are wanted.
+pub fn tile_answer(alloc: Global, picture: Picture, bytes: &[u8]) -> Result<Answer, NoMemory>
+    requires { IsPictureWithin picture }
+    ensures answers { IfOk result (λ a. IsTileAnswer picture bytes.now a.status a.text.items) }
+    ensures status { IfOk result (λ a. a.status < 2) }
+    ensures cause { IfOk result (λ a. a.cause ≡ size_cause (length bytes.now) (picture.width * picture.height * picture.cpp)) }
+{
+    let Picture {
+        tiling,
+        cpp,
         width,
         height,
-        cpp,
-    };
-    let band = vec![in alloc; 0u8; band_room(conversion)]?;
-    Ok(Reply::Bands(conversion, band))
+    } = picture;
+    match tile(alloc, tiling, width, height, cpp, bytes) {
+        Ok(surface) => Ok(Answer::done(surface)),
+        Err(Stop::Fault(wanted)) => size_refusal(alloc, bytes.len(), wanted),
+        Err(Stop::NoMemory) => Err(NoMemory),
+    }
 }
 
 /// What `level` answers to a buffer that has a texture: the level's pixels by rows, or its blocks, or the first rule that stands.
