@@ -1,80 +1,19 @@
-//! Hostile use: a source and a sink that fail at each call in turn, and runs of accepted jobs by scripts that aim at their bounds.
+//! Hostile use: runs of accepted jobs by scripts that aim at their bounds.
 ghost use Rattle.std.specs.Prelude.{◌≤◌, ◌<◌};
 
-use super::job_tests::usual;
-use super::several_tests::TWO;
+use super::jobs::{DIRECT, TWO, usual};
+use super::runs::file;
 use arrayvec::ArrayVec;
 use buffer_table::{Buffer, Kind};
 use example_job::make_job;
 use field_words::{Access, Way};
 use job_format::{Job, read_job};
-use job_io::{MemSink, MemSource};
 use job_safety::accept;
 use machine::Machine;
 use relocation::{Layout, Lengths};
 use replay::{enabled_units, unit_at, word_count};
 use std::alloc::Global;
 use std::test::Fail;
-use test_runs::{SMALLEST, SMALLEST_TEXT, file, run, words};
-
-/// The textured job of the other tests with a fragment shader that reads a buffer by an address: at least 0 and at most the first
-/// uniform, 4,092, and added to the second.
-const DIRECT: &str = "5643344a01000000008008000000000000100000001000000100000007000000010000000010\
-    0800001000000100000000000000000000000020080000100000010000000000000000000000\
-    0030080000100000010000000000000024000000004008000010000001000000000000000300\
-    0000005008000010000001000000010000004800000000600800001000000100000001000000\
-    1800000000700800001000000100000001000000180000000100000000000000070000002f00\
-    00003c000000010000000c0000001000100000000000ffffffff000000000000000000000000\
-    0000000084000000ffffffff0000000000000000ffffffff0000000000000000ffffffff0000\
-    000000000000ffffffff00000000000000000000000000000000000000000000000002070c11\
-    161b20252a2f34393e43484d52575c61666b70757a7f84898e93989da2a7acb1000102c0019c\
-    13270802d000709e00e7090010807182122708021000709e00e70900108071820c270e021000\
-    709e00e70900a000709e00e709003000709e00e709001000709e00e709001000709e00e70900\
-    3000709e00e709001000709e00e709001000709e00e709003000709e00e709001000709e00e7\
-    0900100000000001000000020000000300000004000000050000000600000070000000000000\
-    000000000000010100064001000000fe03000000000000002004030000000000000002000000\
-    0704040000000500000006000000020000000100000000000000000000000000000000000000\
-    00000000000000000000000000000000000000000b0c000001000000fc0f000000000000";
-
-// The smallest job byte by byte, 184 of them and the end of input: a failure of any of these calls is status 3, and nothing is
-// written. The next call isn't made.
-#[test]
-fn any_failing_read_is_status_3(rt: HostRuntime) -> Result<(), Fail> {
-    let alloc = rt.alloc();
-    for failing in 0..186 {
-        let bytes = file(alloc, SMALLEST)?;
-        let mut source = MemSource::new(bytes, 1, [failing].to_vec(alloc)?);
-        let mut sink = MemSink::new(alloc, 1000, 1000, Vec::new(alloc))?;
-        let status = run(alloc, &words(alloc, &["check"])?, &mut source, &mut sink);
-        let (wanted, text) = if failing < 185 {
-            (3, "")
-        } else {
-            (0, SMALLEST_TEXT)
-        };
-        assert_eq!(rt; status, wanted, "call {failing}");
-        assert_eq!(rt; sink.bytes(), text.as_bytes(), "call {failing}");
-    }
-    Ok(())
-}
-
-// Its text has 156 bytes, which go out one by one: a failure of any of these calls is status 4, and what was written before it
-// stays.
-#[test]
-fn any_failing_write_is_status_4(rt: HostRuntime) -> Result<(), Fail> {
-    let alloc = rt.alloc();
-    for failing in 0..157 {
-        let mut source = MemSource::new(file(alloc, SMALLEST)?, 100, Vec::new(alloc));
-        let mut sink = MemSink::new(alloc, 1, 1000, [failing].to_vec(alloc)?)?;
-        let status = run(alloc, &words(alloc, &["check"])?, &mut source, &mut sink);
-        assert_eq!(rt; status, if failing < 156 { 4 } else { 0 }, "call {failing}");
-        assert_eq!(rt; sink.bytes().len(), failing as usize, "call {failing}");
-        assert!(rt;
-            SMALLEST_TEXT.as_bytes().starts_with(sink.bytes()),
-            "call {failing}"
-        );
-    }
-    Ok(())
-}
 
 /// Bytes of memory, from a place to the end behind the last.
 #[derive(Clone, Copy)]

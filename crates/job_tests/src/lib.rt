@@ -1,12 +1,12 @@
-//! Tests of whole runs over jobs with binner lists, over files of several jobs, of hostile use, and of the texts that
-//! the program prints (`dumper`).
+//! Tests of hostile use: sources and sinks that fail, and scripts that aim at the bounds of jobs. Runs by words, input and output are cases
+//! (the crate `cases`).
 #![tactic(auto)]
 
 #[cfg(test)]
-mod dumper_tests;
+mod failing_tests;
 #[cfg(test)]
 mod hostile_tests;
 #[cfg(test)]
-mod job_tests;
+mod jobs;
 #[cfg(test)]
-mod several_tests;
+mod runs;

@@ -1,6 +1,0 @@
--- What is left gets shorter with each job file.
-use Rattle.std.proofs.Common.{◌-◌, length}
-use Rattle.job_vectors.proofs.vectors.lines.Given as goal
-
-abbrev pub decreases-loop-end : goal.decreases-loop-end
-decreases-loop-end l = length l.bytes - l.at
