@@ -27,30 +27,21 @@ impl Fact {
     pub fn is_value(self, value: u32) -> bool
         ensures { result ≡ is_value self value }
     {
-        match self {
-            Fact::Immediate(held) => held == value,
-            _ => false,
-        }
+        matches!(self, Fact::Immediate(held) if held == value)
     }
 
     /// Whether it says that the register isn't negative, and no more.
     pub fn is_from_zero(self) -> bool
         ensures { result ≡ is_from_zero self }
     {
-        match self {
-            Fact::NotNegative => true,
-            _ => false,
-        }
+        matches!(self, Fact::NotNegative)
     }
 
     /// Whether it says that a uniform bounds the register.
     pub fn has_bound(self) -> bool
         ensures { result ≡ has_bound self }
     {
-        match self {
-            Fact::Clamped { .. } => true,
-            _ => false,
-        }
+        matches!(self, Fact::Clamped { .. })
     }
 
     /// The number of the uniform that bounds the register.

@@ -9,3 +9,4 @@ pub mod Steps
 pub mod Items
 pub mod Keeping
 pub mod Spots
+pub mod Opened

@@ -1,4 +1,6 @@
 //! One step of the binner.
+#![tactic(auto, unfolding(crate::proofs::Opened::binner))]
+
 ghost use Rattle.std.specs.Prelude.{◌≡◌, ◌≤◌, ◌<◌, ◌+◌, ◌^◌, ◌⊎◌, true, false, length, slice_index, Some, None, option_map};
 ghost use Rattle.arrayvec.specs.ArrayVec.{array_vec_len};
 ghost use Rattle.packets.specs.Length.{bin_length, bin_taken};
@@ -25,54 +27,29 @@ use packets::opcode::{
 use packets::{Config, bin_length, bin_taken, config_in};
 use phys_mem::PhysMem;
 
-// An indexed primitive.
-#[tactic(auto, unfolding(crate::specs::Binner::primitive_of, field_words::specs::Words::u32_at))]
-fn indexed_primitive(packet: &[u8]) -> Primitive
-    requires opcode { slice_index packet.now 0 ≡ indexed_primitive_list }
-    requires length { length packet.now ≡ 14 }
-    ensures { result ≡ primitive_of packet.now }
-{
-    Primitive {
-        indexed: true,
-        wide: packet[1] / 16 != 0,
-        length: LittleEndian::read_u32(&packet[2..]),
-        address: LittleEndian::read_u32(&packet[6..]),
-        most: LittleEndian::read_u32(&packet[10..]),
-    }
-}
-
-// A primitive whose vertices have the indexes from the first on.
-#[tactic(auto, unfolding(crate::specs::Binner::primitive_of, field_words::specs::Words::u32_at))]
-fn array_primitive(packet: &[u8]) -> Primitive
-    requires opcode { slice_index packet.now 0 ≡ array_primitive_list }
-    requires length { length packet.now ≡ 10 }
-    ensures { result ≡ primitive_of packet.now }
-{
-    Primitive {
-        indexed: false,
-        wide: false,
-        length: LittleEndian::read_u32(&packet[2..]),
-        address: LittleEndian::read_u32(&packet[6..]),
-        most: 0,
-    }
-}
-
-// The primitive of a packet that draws.
-#[tactic(auto, unfolding(packets::specs::Length::bin_taken, packets::specs::Length::bin_length))]
+// The primitive of a packet that draws: an indexed one, or one whose vertices have the indexes from the first on.
+#[tactic(auto, unfolding(crate::proofs::Opened::binner, packets::specs::Length::bin_taken, packets::specs::Length::bin_length))]
 fn primitive_of(packet: &[u8]) -> Primitive
     requires draws { (slice_index packet.now 0 ≡ indexed_primitive_list) ⊎ (slice_index packet.now 0 ≡ array_primitive_list) }
     requires length { length packet.now ≡ bin_taken (slice_index packet.now 0) }
     ensures { result ≡ primitive_of packet.now }
 {
-    if packet[0] == INDEXED_PRIMITIVE_LIST {
-        indexed_primitive(packet)
+    let indexed = packet[0] == INDEXED_PRIMITIVE_LIST;
+    let most = if indexed {
+        LittleEndian::read_u32(&packet[10..])
     } else {
-        array_primitive(packet)
+        0
+    };
+    Primitive {
+        indexed,
+        wide: indexed && packet[1] / 16 != 0,
+        length: LittleEndian::read_u32(&packet[2..]),
+        address: LittleEndian::read_u32(&packet[6..]),
+        most,
     }
 }
 
 // Whether no packet has this opcode, or only the driver's own.
-#[tactic(auto, unfolding(crate::specs::Binner::is_unknown))]
 fn is_unknown(opcode: u8) -> bool
     ensures { result ≡ is_unknown opcode }
 {
@@ -80,7 +57,6 @@ fn is_unknown(opcode: u8) -> bool
 }
 
 // Whether a program is due when so many vertices are done.
-#[tactic(auto, unfolding(crate::specs::Binner::is_due))]
 fn is_due(work: &Work, done: u32) -> bool
     ensures { result ≡ is_due work.now done }
 {
@@ -88,7 +64,6 @@ fn is_due(work: &Work, done: u32) -> bool
 }
 
 // The work with one vertex more done.
-#[tactic(auto, unfolding(crate::specs::Binner::one_done))]
 fn one_done(work: &Work) -> Work
     requires { work.now.done < work.now.primitive.length }
     ensures { result ≡ one_done work.now }
@@ -102,7 +77,6 @@ fn one_done(work: &Work) -> Work
 }
 
 // The work when the program that was due has started.
-#[tactic(auto, unfolding(crate::specs::Binner::not_due))]
 fn not_due(work: &Work) -> Work
     ensures { result ≡ not_due work.now }
 {
@@ -113,7 +87,6 @@ fn not_due(work: &Work) -> Work
 }
 
 // The tile that the words choose; the number of tiles says that the primitive is done.
-#[tactic(auto, unfolding(crate::specs::Binner::chosen_tile))]
 fn chosen_tile<C: Choices>(config: &Config, words: &C) -> u32
     ensures value { result ≡ chosen_tile config.now (C.listed words.now) }
     ensures limit { result ≤ 65025 }
@@ -123,7 +96,6 @@ fn chosen_tile<C: Choices>(config: &Config, words: &C) -> u32
 
 impl JobLists {
     // Opcode 112 keeps the config.
-    #[tactic(auto, unfolding(crate::specs::Binner::configured))]
     fn configure(&mut self, packet: &[u8])
         requires { length packet.now ≡ 16 }
         ensures { self.new ≡ configured self.old packet.now }
@@ -136,7 +108,6 @@ impl JobLists {
     }
 
     // Opcode 64 keeps the state word.
-    #[tactic(auto, unfolding(crate::specs::Binner::with_word, field_words::specs::Words::u32_at))]
     fn keep_word(&mut self, packet: &[u8])
         requires { length packet.now ≡ 5 }
         ensures { self.new ≡ with_word self.old packet.now }
@@ -149,7 +120,6 @@ impl JobLists {
     }
 
     // Binning is started.
-    #[tactic(auto, unfolding(crate::specs::Binner::started))]
     fn start_binning(&mut self)
         ensures { self.new ≡ started self.old }
     {
@@ -201,7 +171,6 @@ impl JobLists {
 
     // Opcodes 32 and 33 bring a primitive into work. False comes exactly where no state word is kept or
     // binning isn't started; then it is wild.
-    #[tactic(auto, unfolding(crate::specs::Binner::draw_plan, crate::specs::Binner::work_of))]
     fn draw(&mut self, packet: &[u8], who: Who, memory: &PhysMem, accesses: &mut Accesses) -> bool
         requires draws { (slice_index packet.now 0 ≡ indexed_primitive_list) ⊎ (slice_index packet.now 0 ≡ array_primitive_list) }
         requires length { length packet.now ≡ bin_taken (slice_index packet.now 0) }
@@ -225,7 +194,7 @@ impl JobLists {
     }
 
     // Does what a packet says; the binner stands past it. False comes exactly where it is wild.
-    #[tactic(auto, unfolding(crate::specs::Binner::packet_plan, crate::specs::Binner::halted, packets::specs::Length::bin_taken, packets::specs::Length::bin_length))]
+    #[tactic(auto, unfolding(crate::proofs::Opened::binner, packets::specs::Length::bin_taken, packets::specs::Length::bin_length))]
     fn bin_packet(
         &mut self,
         packet: &[u8],
@@ -307,7 +276,6 @@ impl JobLists {
     }
 
     // An item is put on the tile that the words choose, or the primitive is done.
-    #[tactic(auto, unfolding(crate::specs::Binner::tile_plan))]
     fn put_chosen<C: Choices>(
         &mut self,
         config: &Config,
@@ -353,7 +321,6 @@ impl JobLists {
     }
 
     // A step with a primitive in work.
-    #[tactic(auto, unfolding(crate::specs::Binner::work_plan, crate::specs::Binner::work_may))]
     fn step_work<C: Choices>(
         &mut self,
         work: &Work,
@@ -390,7 +357,6 @@ impl JobLists {
     }
 
     // Whether the binner can go on with a primitive in work.
-    #[tactic(auto, unfolding(crate::specs::Binner::work_may))]
     fn work_may(&self, work: &Work, free: &Free) -> bool
         ensures { result ≡ work_may self.now work.now free.now }
     {
@@ -406,7 +372,6 @@ impl JobLists {
     /// Whether the binner may step. Without a primitive in work it is below its list's end. With one, the
     /// program that is due can start, or a vertex is left to fetch, or there is room for a further block
     /// and for an item.
-    #[tactic(auto, unfolding(crate::specs::Binner::binner_ready))]
     pub fn is_binner_ready(&self, free: &Free) -> bool
         ensures { binner_ready self.now free.now ≡ Now result }
     {
@@ -429,7 +394,6 @@ impl JobLists {
     /// answered by the words; a missing word is zero. It lists its accesses behind those already listed,
     /// and comes to the program that it starts, where it starts one. `None` comes exactly where the step is
     /// wild; then the binner is at its list's end without work.
-    #[tactic(auto, unfolding(crate::specs::Binner::binner_plan, crate::specs::Binner::binner_ready))]
     pub fn step_binner<C: Choices>(
         &mut self,
         job: u8,

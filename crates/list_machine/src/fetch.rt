@@ -1,4 +1,6 @@
 //! How a vertex of a primitive is fetched.
+#![tactic(auto, unfolding(crate::proofs::Opened::fetch))]
+
 ghost use Rattle.std.specs.Prelude.{◌≡◌, ◌≤◌, ◌<◌, ◌+◌, ◌*◌, ◌^◌, true, length, Some};
 ghost use Rattle.arrayvec.specs.ArrayVec.{array_vec_len};
 ghost use Rattle.packets.specs.StateWord.{attribute_count, is_extended};
@@ -13,7 +15,6 @@ use machine_plan::{Accesses, Who, list_access};
 use phys_mem::PhysMem;
 
 // The bytes of an index.
-#[tactic(auto, unfolding(crate::specs::Fetch::index_size))]
 fn index_size(primitive: &Primitive) -> u32
     ensures value { result ≡ index_size primitive.now }
     ensures few { result ≤ 2 }
@@ -22,7 +23,6 @@ fn index_size(primitive: &Primitive) -> u32
 }
 
 // The index that was read.
-#[tactic(auto, unfolding(crate::specs::Fetch::index_size, crate::specs::Fetch::index_in, field_words::specs::Words::u16_at))]
 fn index_in(primitive: &Primitive, bytes: &[u8]) -> u32
     requires { length bytes.now ≡ index_size primitive.now }
     ensures { result ≡ index_in primitive.now bytes.now }
@@ -54,7 +54,6 @@ fn read_index(
 }
 
 // The index of vertex `k`.
-#[tactic(auto, unfolding(crate::specs::Fetch::index_plan))]
 fn index_of(
     primitive: &Primitive,
     k: u32,
@@ -74,7 +73,6 @@ fn index_of(
 }
 
 // Whether a vertex of this index draws nothing.
-#[tactic(auto, unfolding(crate::specs::Fetch::draws_nothing))]
 fn draws_nothing(primitive: &Primitive, index: u32) -> bool
     ensures { result ≡ draws_nothing primitive.now index }
 {
@@ -82,7 +80,6 @@ fn draws_nothing(primitive: &Primitive, index: u32) -> bool
 }
 
 /// Where the record of a state word begins.
-#[tactic(auto, unfolding(crate::specs::Fetch::record_place))]
 pub(crate) fn record_place(word: u32) -> u64
     ensures value { result ≡ record_place word }
     ensures near { result < 2 ^ 32 }
@@ -91,7 +88,6 @@ pub(crate) fn record_place(word: u32) -> u64
 }
 
 // How many attributes a state word names.
-#[tactic(auto, unfolding(packets::specs::StateWord::attribute_count))]
 fn attribute_count(word: u32) -> u32
     ensures value { result ≡ attribute_count word }
     ensures few { result ≤ 8 }
@@ -100,7 +96,6 @@ fn attribute_count(word: u32) -> u32
 }
 
 // Whether a state word's record is extended.
-#[tactic(auto, unfolding(packets::specs::StateWord::is_extended))]
 fn is_extended(word: u32) -> bool
     ensures { result ≡ is_extended word }
 {
@@ -108,7 +103,6 @@ fn is_extended(word: u32) -> bool
 }
 
 // Where attribute `t` of a record stands.
-#[tactic(auto, unfolding(crate::specs::Fetch::attribute_place))]
 fn attribute_place(word: u32, t: u32) -> u64
     requires { t < 8 }
     ensures value { result ≡ attribute_place word t }
@@ -118,7 +112,6 @@ fn attribute_place(word: u32, t: u32) -> u64
 }
 
 // Where the word stands that extends its stride.
-#[tactic(auto, unfolding(crate::specs::Fetch::extension_place))]
 fn extension_place(word: u32, t: u32) -> u64
     requires { t < 8 }
     ensures value { result ≡ extension_place word t }
@@ -128,7 +121,6 @@ fn extension_place(word: u32, t: u32) -> u64
 }
 
 // How far the data of two vertices lie apart.
-#[tactic(auto, unfolding(crate::specs::Fetch::stride_of))]
 fn stride_of(attribute: &[u8], extension: u32) -> u64
     requires { length attribute.now ≡ 8 }
     ensures value { result ≡ stride_of attribute.now extension }
@@ -147,7 +139,6 @@ fn data_place(attribute: &[u8], extension: u32, index: u32) -> u64
 }
 
 // Fetches a vertex's data; what they are makes no difference.
-#[tactic(auto, unfolding(crate::specs::Fetch::data_plan, crate::specs::Fetch::data_size))]
 fn fetch_data(
     attribute: &[u8],
     extension: u32,
@@ -220,7 +211,6 @@ fn fetch_attributes(word: u32, index: u32, who: Who, memory: &PhysMem, accesses:
 }
 
 // Fetches the vertex of this index.
-#[tactic(auto, unfolding(crate::specs::Fetch::indexed_plan))]
 fn fetch_indexed(
     primitive: &Primitive,
     word: u32,

@@ -1,10 +1,12 @@
 //! The accesses of loads and stores.
+#![tactic(auto, unfolding(crate::proofs::Opened::parts))]
+
 ghost use Rattle.std.specs.Prelude.{◌≡◌, ◌*◌, ◌≤◌, ◌<◌, ◌^◌, true, IfSome};
 ghost use Rattle.arrayvec.specs.ArrayVec.{array_vec_len};
 ghost use Rattle.machine_plan.specs.Memory.{stored};
 ghost use Rattle.list_machine.specs.Store.{chosen_byte, chosen};
 ghost use Rattle.list_machine.specs.Cover.{IsSmall, part_count, part_place, parts_written, parts_read};
-ghost use Rattle.list_machine.specs.Surfaces.{Stores, Loads, aligned, names_none, whole_written, whole_read, cover_written, cover_read, general_written, general_read, frame_written, load_read, waiting_read};
+ghost use Rattle.list_machine.specs.Surfaces.{Stores, Loads, aligned, names_none, whole_written, cover_written, cover_read, general_written, general_read, frame_written, waiting_read};
 
 use crate::cover::{cover_for, part_count, part_place};
 use crate::reads::end_wild;
@@ -19,7 +21,6 @@ use texture_layouts::{frame_style, general_style};
 const WHOLE_SIZE: u32 = 16384;
 
 /// Byte `k` of the choice words.
-#[tactic(auto, unfolding(crate::specs::Store::chosen_byte))]
 fn byte_of_words<C: Choices>(words: &C, k: u64) -> u8
     requires { k < 2 ^ 20 }
     ensures { result ≡ chosen_byte (C.listed words.now) k }
@@ -87,7 +88,6 @@ fn read_parts(cover: &Cover, who: Who, accesses: &mut Accesses)
 }
 
 /// Writes all parts of a cover. False comes exactly where there is none, which is wild.
-#[tactic(auto, unfolding(crate::specs::Surfaces::cover_written))]
 fn write_cover<C: Choices>(
     cover: Option<Cover>,
     words: &C,
@@ -109,7 +109,6 @@ fn write_cover<C: Choices>(
 }
 
 /// Reads all parts of a cover. False comes exactly where there is none, which is wild.
-#[tactic(auto, unfolding(crate::specs::Surfaces::cover_read))]
 fn read_cover(cover: Option<Cover>, who: Who, accesses: &mut Accesses) -> bool
     requires small { IfSome cover IsSmall }
     requires room { array_vec_len accesses.old ≤ 8 }
@@ -125,7 +124,6 @@ fn read_cover(cover: Option<Cover>, who: Who, accesses: &mut Accesses) -> bool
 }
 
 /// An address without its low four bits.
-#[tactic(auto, unfolding(crate::specs::Surfaces::aligned))]
 fn aligned(address: u32) -> u32
     ensures { result ≡ aligned address }
 {
@@ -133,7 +131,6 @@ fn aligned(address: u32) -> u32
 }
 
 /// Whether general bits name no buffer.
-#[tactic(auto, unfolding(crate::specs::Surfaces::names_none))]
 fn names_none(bits: u16) -> bool
     ensures { result ≡ names_none bits }
 {
@@ -141,7 +138,6 @@ fn names_none(bits: u16) -> bool
 }
 
 /// Stores tile (x, y) by general bits. False comes exactly where that is wild.
-#[tactic(auto, unfolding(crate::specs::Surfaces::general_written))]
 pub(crate) fn store_general<C: Choices>(
     bits: u16,
     address: u32,
@@ -164,7 +160,6 @@ pub(crate) fn store_general<C: Choices>(
 }
 
 /// Loads tile (x, y) by general bits. False comes exactly where that is wild.
-#[tactic(auto, unfolding(crate::specs::Surfaces::general_read))]
 fn load_general(bits: u16, address: u32, tile: Tile, who: Who, accesses: &mut Accesses) -> bool
     requires { array_vec_len accesses.old ≤ 8 }
     ensures { Loads who (general_read bits address tile.frame tile.x tile.y) accesses.old accesses.new result }
@@ -178,7 +173,6 @@ fn load_general(bits: u16, address: u32, tile: Tile, who: Who, accesses: &mut Ac
 }
 
 /// Stores tile (x, y) of the frame. False comes exactly where that is wild.
-#[tactic(auto, unfolding(crate::specs::Surfaces::frame_written, crate::specs::Surfaces::cover_written))]
 pub(crate) fn store_frame<C: Choices>(
     tile: Tile,
     words: &C,
@@ -216,35 +210,6 @@ pub(crate) fn store_whole<C: Choices>(
     list_access(who, Way::Write, place, WHOLE_SIZE, accesses);
 }
 
-/// Loads a tile in full resolution.
-#[tactic(auto, unfolding(crate::specs::Surfaces::whole_read))]
-fn load_whole(address: u32, who: Who, accesses: &mut Accesses)
-    requires { array_vec_len accesses.old ≤ 8 }
-    ensures { Loads who (whole_read address) accesses.old accesses.new true }
-{
-    list_access(
-        who,
-        Way::Read,
-        aligned(address) as u64,
-        WHOLE_SIZE,
-        accesses,
-    );
-}
-
-/// Does a load at tile (x, y). False comes exactly where that is wild.
-fn load(load: Load, tile: Tile, who: Who, accesses: &mut Accesses) -> bool
-    requires { array_vec_len accesses.old ≤ 8 }
-    ensures { Loads who (load_read load tile.frame tile.x tile.y) accesses.old accesses.new result }
-{
-    match load {
-        Load::Full(address) => {
-            load_whole(address, who, accesses);
-            true
-        }
-        Load::General { bits, address } => load_general(bits, address, tile, who, accesses),
-    }
-}
-
 /// Does the load that waits, where one does. False comes exactly where that is wild.
 pub(crate) fn load_waiting(
     waiting: Option<Load>,
@@ -257,6 +222,11 @@ pub(crate) fn load_waiting(
 {
     match waiting {
         None => true,
-        Some(waits) => load(waits, tile, who, accesses),
+        Some(Load::Full(address)) => {
+            let place = aligned(address) as u64;
+            list_access(who, Way::Read, place, WHOLE_SIZE, accesses);
+            true
+        }
+        Some(Load::General { bits, address }) => load_general(bits, address, tile, who, accesses),
     }
 }

@@ -1,4 +1,6 @@
 //! The operands of the add unit, and the instructions that make a fact of a register's value.
+#![tactic(auto, unfolding(crate::proofs::Opened::terms))]
+
 ghost use Rattle.std.specs.Prelude.{◌≡◌, IfSome};
 ghost use Rattle.qpu_isa.specs.Terms.{is_plain, is_uniform_operand, operand_register, loaded_value, is_max_with_zero, first_register, is_min_with_uniform, is_add_with_uniform};
 ghost use Rattle.qpu_isa.specs.Told.{IsRegister};
@@ -10,7 +12,6 @@ use crate::word::{
 
 /// Whether the operand of this selector isn't unpacked on its way.
 #[inline]
-#[tactic(auto, unfolding(crate::specs::Terms::is_plain))]
 pub fn is_plain(word: u64, selector: u8) -> bool
     ensures { result ≡ is_plain word selector }
 {
@@ -25,7 +26,6 @@ pub fn is_plain(word: u64, selector: u8) -> bool
 
 /// Whether the operand of this selector is the uniform, as it is.
 #[inline]
-#[tactic(auto, unfolding(crate::specs::Terms::is_uniform_operand))]
 pub fn is_uniform_operand(word: u64, selector: u8) -> bool
     ensures { result ≡ is_uniform_operand word selector }
 {
@@ -37,7 +37,6 @@ pub fn is_uniform_operand(word: u64, selector: u8) -> bool
 /// The register that the operand of this selector is, as it is; `None` where it isn't a register that a unit can write, or is
 /// unpacked.
 #[inline]
-#[tactic(auto, unfolding(crate::specs::Terms::operand_register))]
 pub fn operand_register(word: u64, selector: u8) -> Option<Reg>
     ensures value { result ≡ operand_register word selector }
     ensures register { IfSome result IsRegister }
@@ -59,7 +58,6 @@ pub fn operand_register(word: u64, selector: u8) -> Option<Reg>
 
 /// The register that the add unit's first operand is.
 #[inline]
-#[tactic(auto, unfolding(crate::specs::Terms::first_register))]
 pub fn first_register(word: u64) -> Option<Reg>
     ensures value { result ≡ first_register word }
     ensures register { IfSome result IsRegister }
@@ -69,7 +67,6 @@ pub fn first_register(word: u64) -> Option<Reg>
 
 /// The value that a load immediate puts into each element; `None` for every other instruction.
 #[inline]
-#[tactic(auto, unfolding(crate::specs::Terms::loaded_value))]
 pub fn loaded_value(word: u64) -> Option<u32>
     ensures { result ≡ loaded_value word }
 {
@@ -81,7 +78,6 @@ pub fn loaded_value(word: u64) -> Option<u32>
 
 /// Whether the instruction takes the greater of an operand and the small immediate 0.
 #[inline]
-#[tactic(auto, unfolding(crate::specs::Terms::is_max_with_zero))]
 pub fn is_max_with_zero(word: u64) -> bool
     ensures { result ≡ is_max_with_zero word }
 {
@@ -91,7 +87,6 @@ pub fn is_max_with_zero(word: u64) -> bool
 
 /// Whether the instruction takes the lesser of its first operand and a uniform.
 #[inline]
-#[tactic(auto, unfolding(crate::specs::Terms::is_min_with_uniform))]
 pub fn is_min_with_uniform(word: u64) -> bool
     ensures { result ≡ is_min_with_uniform word }
 {
@@ -100,7 +95,6 @@ pub fn is_min_with_uniform(word: u64) -> bool
 
 /// Whether the instruction takes the sum of its first operand and a uniform.
 #[inline]
-#[tactic(auto, unfolding(crate::specs::Terms::is_add_with_uniform))]
 pub fn is_add_with_uniform(word: u64) -> bool
     ensures { result ≡ is_add_with_uniform word }
 {

@@ -1,4 +1,6 @@
 //! What the calls tell of an instruction.
+#![tactic(auto, unfolding(crate::proofs::Opened::terms))]
+
 ghost use Rattle.std.specs.Prelude.{◌≡◌, ◌<◌, ◌^◌, ℕ, Bool, not};
 ghost use Rattle.qpu_isa.specs.Inst.{inst_of};
 ghost use Rattle.qpu_isa.specs.Told.{takes_uniform, tmu_at, tmu_written, first_given, is_named, names_written, IsRegister, TermsAgree, TargetsAreSums};
@@ -7,7 +9,6 @@ use crate::inst::{Inst, Reg};
 
 /// Whether the instruction reads a uniform: an ALU instruction that reads address 32 of file A, or of file B where
 /// signal 13 doesn't make that field a value.
-#[tactic(auto, unfolding(crate::specs::Told::takes_uniform))]
 pub fn reads_uniform(inst: &Inst) -> bool
     ensures { result ≡ takes_uniform inst.now }
 {
@@ -18,7 +19,6 @@ pub fn reads_uniform(inst: &Inst) -> bool
 }
 
 // The TMU that a write address belongs to.
-#[tactic(auto, unfolding(crate::specs::Told::tmu_at))]
 fn tmu_of_address(address: u8) -> Option<u8>
     ensures { result ≡ tmu_at address }
 {
@@ -31,7 +31,6 @@ fn tmu_of_address(address: u8) -> Option<u8>
 
 /// The number of the TMU that the instruction writes: the add unit's where it has a TMU write, else the multiply unit's.
 /// None where neither has one.
-#[tactic(auto, unfolding(crate::specs::Told::tmu_written))]
 pub fn tmu_of(inst: &Inst) -> Option<u8>
     ensures { result ≡ tmu_written inst.now }
 {
@@ -52,7 +51,6 @@ fn tmu_of_units(waddr_add: u8, waddr_mul: u8) -> Option<u8>
 }
 
 // Whether a write address on one side names the register.
-#[tactic(auto, unfolding(crate::specs::Told::is_named))]
 fn names(on_a: bool, address: u8, reg: Reg) -> bool
     requires { IsRegister reg }
     ensures { result ≡ is_named on_a address reg }
@@ -65,7 +63,6 @@ fn names(on_a: bool, address: u8, reg: Reg) -> bool
 }
 
 /// Whether a unit's write address names the register, whatever the unit's condition and operation. A branch names none.
-#[tactic(auto, unfolding(crate::specs::Told::names_written))]
 pub fn writes_reg(inst: &Inst, reg: Reg) -> bool
     requires { IsRegister reg }
     ensures { result ≡ names_written inst.now reg }

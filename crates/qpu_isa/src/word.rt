@@ -2,13 +2,14 @@
 //!
 //! A word is any number of 64 bits. Which fields it has depends on its signal: those of a load immediate (signal 14) and of
 //! a branch (15) come last here.
+#![tactic(auto, unfolding(crate::proofs::Opened::fields, crate::proofs::Opened::terms))]
+
 ghost use Rattle.std.specs.Prelude.{◌≡◌, ◌<◌};
 ghost use Rattle.qpu_isa.specs.Word.{sig_of, unpack_of, pm_of, pack_of, cond_add_of, cond_mul_of, sf_of, ws_of, waddr_add_of, waddr_mul_of, op_mul_of, op_add_of, raddr_a_of, raddr_b_of, add_a_of, add_b_of, mul_a_of, mul_b_of, mode_of, imm_of, spare_of, cond_of, relative_of, register_of, raddr_of};
 ghost use Rattle.qpu_isa.specs.Terms.{is_alu, is_load_imm, is_branch, is_switch, is_end, has_small, is_backward, target_of};
 
 /// The signal, 0 to 15.
 #[inline]
-#[tactic(auto, unfolding(crate::specs::Word::sig_of))]
 pub fn sig(word: u64) -> u8
     ensures value { result ≡ sig_of word }
     ensures small { result < 16 }
@@ -18,7 +19,6 @@ pub fn sig(word: u64) -> u8
 
 /// How the read of file A, or r4 where `pm` is set, is unpacked, 0 to 7; 0 is not at all.
 #[inline]
-#[tactic(auto, unfolding(crate::specs::Word::unpack_of))]
 pub fn unpack(word: u64) -> u8
     ensures value { result ≡ unpack_of word }
     ensures small { result < 8 }
@@ -28,7 +28,6 @@ pub fn unpack(word: u64) -> u8
 
 /// Whether packing is the multiply unit's, and unpacking that of r4.
 #[inline]
-#[tactic(auto, unfolding(crate::specs::Word::pm_of))]
 pub fn pm(word: u64) -> bool
     ensures { result ≡ pm_of word }
 {
@@ -37,7 +36,6 @@ pub fn pm(word: u64) -> bool
 
 /// How a result is packed, 0 to 15; 0 is not at all.
 #[inline]
-#[tactic(auto, unfolding(crate::specs::Word::pack_of))]
 pub fn pack(word: u64) -> u8
     ensures value { result ≡ pack_of word }
     ensures small { result < 16 }
@@ -47,7 +45,6 @@ pub fn pack(word: u64) -> u8
 
 /// The add unit's condition, 0 to 7; 1 is always.
 #[inline]
-#[tactic(auto, unfolding(crate::specs::Word::cond_add_of))]
 pub fn cond_add(word: u64) -> u8
     ensures value { result ≡ cond_add_of word }
     ensures small { result < 8 }
@@ -57,7 +54,6 @@ pub fn cond_add(word: u64) -> u8
 
 /// The multiply unit's condition, 0 to 7; 1 is always.
 #[inline]
-#[tactic(auto, unfolding(crate::specs::Word::cond_mul_of))]
 pub fn cond_mul(word: u64) -> u8
     ensures value { result ≡ cond_mul_of word }
     ensures small { result < 8 }
@@ -67,7 +63,6 @@ pub fn cond_mul(word: u64) -> u8
 
 /// Whether the flags are set.
 #[inline]
-#[tactic(auto, unfolding(crate::specs::Word::sf_of))]
 pub fn sf(word: u64) -> bool
     ensures { result ≡ sf_of word }
 {
@@ -76,7 +71,6 @@ pub fn sf(word: u64) -> bool
 
 /// Whether the add unit writes the B side and the multiply unit the A side.
 #[inline]
-#[tactic(auto, unfolding(crate::specs::Word::ws_of))]
 pub fn ws(word: u64) -> bool
     ensures { result ≡ ws_of word }
 {
@@ -85,7 +79,6 @@ pub fn ws(word: u64) -> bool
 
 /// The add unit's write address, 0 to 63.
 #[inline]
-#[tactic(auto, unfolding(crate::specs::Word::waddr_add_of))]
 pub fn waddr_add(word: u64) -> u8
     ensures value { result ≡ waddr_add_of word }
     ensures small { result < 64 }
@@ -95,7 +88,6 @@ pub fn waddr_add(word: u64) -> u8
 
 /// The multiply unit's write address, 0 to 63.
 #[inline]
-#[tactic(auto, unfolding(crate::specs::Word::waddr_mul_of))]
 pub fn waddr_mul(word: u64) -> u8
     ensures value { result ≡ waddr_mul_of word }
     ensures small { result < 64 }
@@ -105,7 +97,6 @@ pub fn waddr_mul(word: u64) -> u8
 
 /// The multiply unit's operation, 0 to 7.
 #[inline]
-#[tactic(auto, unfolding(crate::specs::Word::op_mul_of))]
 pub fn op_mul(word: u64) -> u8
     ensures value { result ≡ op_mul_of word }
     ensures small { result < 8 }
@@ -115,7 +106,6 @@ pub fn op_mul(word: u64) -> u8
 
 /// The add unit's operation, 0 to 31.
 #[inline]
-#[tactic(auto, unfolding(crate::specs::Word::op_add_of))]
 pub fn op_add(word: u64) -> u8
     ensures value { result ≡ op_add_of word }
     ensures small { result < 32 }
@@ -125,7 +115,6 @@ pub fn op_add(word: u64) -> u8
 
 /// The read address of file A, 0 to 63; 32 is a uniform.
 #[inline]
-#[tactic(auto, unfolding(crate::specs::Word::raddr_a_of))]
 pub fn raddr_a(word: u64) -> u8
     ensures value { result ≡ raddr_a_of word }
     ensures small { result < 64 }
@@ -135,7 +124,6 @@ pub fn raddr_a(word: u64) -> u8
 
 /// The read address of file B, 0 to 63, or a small immediate where the signal is 13.
 #[inline]
-#[tactic(auto, unfolding(crate::specs::Word::raddr_b_of))]
 pub fn raddr_b(word: u64) -> u8
     ensures value { result ≡ raddr_b_of word }
     ensures small { result < 64 }
@@ -145,7 +133,6 @@ pub fn raddr_b(word: u64) -> u8
 
 /// The selector of the add unit's first operand, 0 to 7.
 #[inline]
-#[tactic(auto, unfolding(crate::specs::Word::add_a_of))]
 pub fn add_a(word: u64) -> u8
     ensures value { result ≡ add_a_of word }
     ensures small { result < 8 }
@@ -155,7 +142,6 @@ pub fn add_a(word: u64) -> u8
 
 /// The selector of the add unit's second operand, 0 to 7.
 #[inline]
-#[tactic(auto, unfolding(crate::specs::Word::add_b_of))]
 pub fn add_b(word: u64) -> u8
     ensures value { result ≡ add_b_of word }
     ensures small { result < 8 }
@@ -165,7 +151,6 @@ pub fn add_b(word: u64) -> u8
 
 /// The selector of the multiply unit's first operand, 0 to 7.
 #[inline]
-#[tactic(auto, unfolding(crate::specs::Word::mul_a_of))]
 pub fn mul_a(word: u64) -> u8
     ensures value { result ≡ mul_a_of word }
     ensures small { result < 8 }
@@ -175,7 +160,6 @@ pub fn mul_a(word: u64) -> u8
 
 /// The selector of the multiply unit's second operand, 0 to 7.
 #[inline]
-#[tactic(auto, unfolding(crate::specs::Word::mul_b_of))]
 pub fn mul_b(word: u64) -> u8
     ensures value { result ≡ mul_b_of word }
     ensures small { result < 8 }
@@ -185,7 +169,6 @@ pub fn mul_b(word: u64) -> u8
 
 /// The mode of a load immediate, 0 to 7.
 #[inline]
-#[tactic(auto, unfolding(crate::specs::Word::mode_of))]
 pub fn mode(word: u64) -> u8
     ensures value { result ≡ mode_of word }
     ensures small { result < 8 }
@@ -195,7 +178,6 @@ pub fn mode(word: u64) -> u8
 
 /// The immediate of a load or a branch.
 #[inline]
-#[tactic(auto, unfolding(crate::specs::Word::imm_of))]
 pub fn imm(word: u64) -> u32
     ensures { result ≡ imm_of word }
 {
@@ -204,7 +186,6 @@ pub fn imm(word: u64) -> u32
 
 /// The bits of a branch that mean nothing, 0 to 15.
 #[inline]
-#[tactic(auto, unfolding(crate::specs::Word::spare_of))]
 pub fn spare(word: u64) -> u8
     ensures value { result ≡ spare_of word }
     ensures small { result < 16 }
@@ -214,7 +195,6 @@ pub fn spare(word: u64) -> u8
 
 /// The condition of a branch, 0 to 15.
 #[inline]
-#[tactic(auto, unfolding(crate::specs::Word::cond_of))]
 pub fn cond(word: u64) -> u8
     ensures value { result ≡ cond_of word }
     ensures small { result < 16 }
@@ -224,7 +204,6 @@ pub fn cond(word: u64) -> u8
 
 /// Whether a branch counts from its own place.
 #[inline]
-#[tactic(auto, unfolding(crate::specs::Word::relative_of))]
 pub fn relative(word: u64) -> bool
     ensures { result ≡ relative_of word }
 {
@@ -233,7 +212,6 @@ pub fn relative(word: u64) -> bool
 
 /// Whether a branch takes its target from a register.
 #[inline]
-#[tactic(auto, unfolding(crate::specs::Word::register_of))]
 pub fn register(word: u64) -> bool
     ensures { result ≡ register_of word }
 {
@@ -242,7 +220,6 @@ pub fn register(word: u64) -> bool
 
 /// The register of file A of a branch by a register, 0 to 31.
 #[inline]
-#[tactic(auto, unfolding(crate::specs::Word::raddr_of))]
 pub fn raddr(word: u64) -> u8
     ensures value { result ≡ raddr_of word }
     ensures small { result < 32 }
@@ -252,7 +229,6 @@ pub fn raddr(word: u64) -> u8
 
 /// Whether it is an instruction of the two units.
 #[inline]
-#[tactic(auto, unfolding(crate::specs::Terms::is_alu))]
 pub fn is_alu(word: u64) -> bool
     ensures { result ≡ is_alu word }
 {
@@ -261,7 +237,6 @@ pub fn is_alu(word: u64) -> bool
 
 /// Whether it is a load immediate.
 #[inline]
-#[tactic(auto, unfolding(crate::specs::Terms::is_load_imm))]
 pub fn is_load_imm(word: u64) -> bool
     ensures { result ≡ is_load_imm word }
 {
@@ -270,7 +245,6 @@ pub fn is_load_imm(word: u64) -> bool
 
 /// Whether it is a branch.
 #[inline]
-#[tactic(auto, unfolding(crate::specs::Terms::is_branch))]
 pub fn is_branch(word: u64) -> bool
     ensures { result ≡ is_branch word }
 {
@@ -279,7 +253,6 @@ pub fn is_branch(word: u64) -> bool
 
 /// Whether it is a thread switch: 6 is a thread's last.
 #[inline]
-#[tactic(auto, unfolding(crate::specs::Terms::is_switch))]
 pub fn is_switch(word: u64) -> bool
     ensures { result ≡ is_switch word }
 {
@@ -288,7 +261,6 @@ pub fn is_switch(word: u64) -> bool
 
 /// Whether it is a program end.
 #[inline]
-#[tactic(auto, unfolding(crate::specs::Terms::is_end))]
 pub fn is_end(word: u64) -> bool
     ensures { result ≡ is_end word }
 {
@@ -297,7 +269,6 @@ pub fn is_end(word: u64) -> bool
 
 /// Whether the read of file B is a small immediate.
 #[inline]
-#[tactic(auto, unfolding(crate::specs::Terms::has_small))]
 pub fn has_small(word: u64) -> bool
     ensures { result ≡ has_small word }
 {
@@ -306,7 +277,6 @@ pub fn has_small(word: u64) -> bool
 
 /// Whether it is a branch whose immediate is negative as a signed number.
 #[inline]
-#[tactic(auto, unfolding(crate::specs::Terms::is_backward))]
 pub fn is_backward(word: u64) -> bool
     ensures { result ≡ is_backward word }
 {
@@ -315,7 +285,6 @@ pub fn is_backward(word: u64) -> bool
 
 /// The index that a relative branch at index `at` leads to. A target before the first instruction is a number of 2^28 or more.
 #[inline]
-#[tactic(auto, unfolding(crate::specs::Terms::target_of))]
 pub fn target(word: u64, at: u32) -> u32
     ensures { result ≡ target_of word at }
 {

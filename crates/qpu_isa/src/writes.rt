@@ -2,6 +2,8 @@
 //! And what it takes from the uniform stream.
 //!
 //! Where a TMU's number is asked for it is 0 or 1, and `pending` is how many setup words that TMU keeps.
+#![tactic(auto, unfolding(crate::proofs::Opened::terms))]
+
 ghost use Rattle.std.specs.Prelude.{◌≡◌, ◌<◌, ◌≤◌, ◌+◌, ◌*◌};
 ghost use Rattle.qpu_isa.specs.Terms.{add_names, mul_names, names_address, is_address_write, is_relative_address_write, names_forbidden, add_names_reg, mul_names_reg, names, is_accumulator, sets_alone, is_add_packed, is_mul_packed, reads_upper, names_upper, is_upper, reads_uniform_of, is_tmu_address, s_address, add_writes_tmu, mul_writes_tmu, tmu_writes, writes_tmu, writes_s, add_is_tmu, mul_is_tmu, has_two_tmu_writes, has_conditional_tmu_write};
 ghost use Rattle.qpu_isa.specs.Setups.{adds_direct, muls_direct, is_direct, adds_setup, muls_setup, has_setup, takes_with};
@@ -15,7 +17,6 @@ use crate::word::{
 
 /// Whether the add unit writes this address.
 #[inline]
-#[tactic(auto, unfolding(crate::specs::Terms::add_names))]
 pub fn add_names(word: u64, address: u8) -> bool
     ensures { result ≡ add_names word address }
 {
@@ -24,7 +25,6 @@ pub fn add_names(word: u64, address: u8) -> bool
 
 /// Whether the multiply unit writes this address.
 #[inline]
-#[tactic(auto, unfolding(crate::specs::Terms::mul_names))]
 pub fn mul_names(word: u64, address: u8) -> bool
     ensures { result ≡ mul_names word address }
 {
@@ -33,7 +33,6 @@ pub fn mul_names(word: u64, address: u8) -> bool
 
 /// Whether either unit writes this address.
 #[inline]
-#[tactic(auto, unfolding(crate::specs::Terms::names_address))]
 pub fn names_address(word: u64, address: u8) -> bool
     ensures { result ≡ names_address word address }
 {
@@ -42,7 +41,6 @@ pub fn names_address(word: u64, address: u8) -> bool
 
 /// Whether the instruction sets the address of the uniforms.
 #[inline]
-#[tactic(auto, unfolding(crate::specs::Terms::is_address_write, crate::specs::Terms::names_on_a))]
 pub fn is_address_write(word: u64) -> bool
     ensures { result ≡ is_address_write word }
 {
@@ -55,7 +53,6 @@ pub fn is_address_write(word: u64) -> bool
 
 /// Whether the instruction sets the address of the uniforms relative to another element.
 #[inline]
-#[tactic(auto, unfolding(crate::specs::Terms::is_relative_address_write, crate::specs::Terms::names_on_b))]
 pub fn is_relative_address_write(word: u64) -> bool
     ensures { result ≡ is_relative_address_write word }
 {
@@ -68,7 +65,6 @@ pub fn is_relative_address_write(word: u64) -> bool
 
 /// Whether the instruction writes a register that reaches other units.
 #[inline]
-#[tactic(auto, unfolding(crate::specs::Terms::names_forbidden))]
 pub fn names_forbidden(word: u64) -> bool
     ensures { result ≡ names_forbidden word }
 {
@@ -81,7 +77,6 @@ pub fn names_forbidden(word: u64) -> bool
 
 /// Whether the add unit's write address names the register.
 #[inline]
-#[tactic(auto, unfolding(crate::specs::Terms::add_names_reg))]
 pub fn add_names_reg(word: u64, reg: Reg) -> bool
     requires { IsRegister reg }
     ensures { result ≡ add_names_reg word reg }
@@ -95,7 +90,6 @@ pub fn add_names_reg(word: u64, reg: Reg) -> bool
 
 /// Whether the multiply unit's write address names the register.
 #[inline]
-#[tactic(auto, unfolding(crate::specs::Terms::mul_names_reg))]
 pub fn mul_names_reg(word: u64, reg: Reg) -> bool
     requires { IsRegister reg }
     ensures { result ≡ mul_names_reg word reg }
@@ -109,7 +103,6 @@ pub fn mul_names_reg(word: u64, reg: Reg) -> bool
 
 /// Whether either unit's write address names the register, whatever its condition and operation.
 #[inline]
-#[tactic(auto, unfolding(crate::specs::Terms::names))]
 pub fn names(word: u64, reg: Reg) -> bool
     requires { IsRegister reg }
     ensures { result ≡ names word reg }
@@ -119,7 +112,6 @@ pub fn names(word: u64, reg: Reg) -> bool
 
 /// Whether the register is one of r0 to r3, which both threads use.
 #[inline]
-#[tactic(auto, unfolding(crate::specs::Terms::is_accumulator))]
 pub fn is_accumulator(reg: Reg) -> bool
     ensures { result ≡ is_accumulator reg }
 {
@@ -132,7 +124,6 @@ pub fn is_accumulator(reg: Reg) -> bool
 
 /// Whether the add unit's result is packed on its way to its register.
 #[inline]
-#[tactic(auto, unfolding(crate::specs::Terms::is_add_packed))]
 pub fn is_add_packed(word: u64) -> bool
     ensures { result ≡ is_add_packed word }
 {
@@ -141,7 +132,6 @@ pub fn is_add_packed(word: u64) -> bool
 
 /// Whether the multiply unit's result is packed on its way to its register.
 #[inline]
-#[tactic(auto, unfolding(crate::specs::Terms::is_mul_packed))]
 pub fn is_mul_packed(word: u64) -> bool
     ensures { result ≡ is_mul_packed word }
 {
@@ -150,7 +140,6 @@ pub fn is_mul_packed(word: u64) -> bool
 
 /// Whether the add unit alone sets the whole register, always and not packed.
 #[inline]
-#[tactic(auto, unfolding(crate::specs::Terms::sets_alone))]
 pub fn sets_alone(word: u64, reg: Reg) -> bool
     requires { IsRegister reg }
     ensures { result ≡ sets_alone word reg }
@@ -160,7 +149,6 @@ pub fn sets_alone(word: u64, reg: Reg) -> bool
 }
 
 // A file register 16 to 31.
-#[tactic(auto, unfolding(crate::specs::Terms::is_upper))]
 fn is_upper(address: u8) -> bool
     ensures { result ≡ is_upper address }
 {
@@ -169,7 +157,6 @@ fn is_upper(address: u8) -> bool
 
 /// Whether the instruction reads a file register 16 to 31, whether an operand uses it or not.
 #[inline]
-#[tactic(auto, unfolding(crate::specs::Terms::reads_upper))]
 pub fn reads_upper(word: u64) -> bool
     ensures { result ≡ reads_upper word }
 {
@@ -178,7 +165,6 @@ pub fn reads_upper(word: u64) -> bool
 
 /// Whether a unit writes a file register 16 to 31.
 #[inline]
-#[tactic(auto, unfolding(crate::specs::Terms::names_upper))]
 pub fn names_upper(word: u64) -> bool
     ensures { result ≡ names_upper word }
 {
@@ -187,7 +173,6 @@ pub fn names_upper(word: u64) -> bool
 
 /// Whether the instruction reads a uniform.
 #[inline]
-#[tactic(auto, unfolding(crate::specs::Terms::reads_uniform_of))]
 pub fn reads_uniform(word: u64) -> bool
     ensures { result ≡ reads_uniform_of word }
 {
@@ -195,7 +180,6 @@ pub fn reads_uniform(word: u64) -> bool
 }
 
 // The write address belongs to this TMU.
-#[tactic(auto, unfolding(crate::specs::Terms::is_tmu_address))]
 fn is_tmu_address(tmu: u8, address: u8) -> bool
     requires { tmu < 2 }
     ensures { result ≡ is_tmu_address tmu address }
@@ -205,7 +189,6 @@ fn is_tmu_address(tmu: u8, address: u8) -> bool
 
 /// Whether the add unit writes this TMU.
 #[inline]
-#[tactic(auto, unfolding(crate::specs::Terms::add_writes_tmu))]
 pub fn add_writes_tmu(word: u64, tmu: u8) -> bool
     requires { tmu < 2 }
     ensures { result ≡ add_writes_tmu word tmu }
@@ -215,7 +198,6 @@ pub fn add_writes_tmu(word: u64, tmu: u8) -> bool
 
 /// Whether the multiply unit writes this TMU.
 #[inline]
-#[tactic(auto, unfolding(crate::specs::Terms::mul_writes_tmu))]
 pub fn mul_writes_tmu(word: u64, tmu: u8) -> bool
     requires { tmu < 2 }
     ensures { result ≡ mul_writes_tmu word tmu }
@@ -225,7 +207,6 @@ pub fn mul_writes_tmu(word: u64, tmu: u8) -> bool
 
 /// Whether the instruction writes this TMU.
 #[inline]
-#[tactic(auto, unfolding(crate::specs::Terms::writes_tmu))]
 pub fn writes_tmu(word: u64, tmu: u8) -> bool
     requires { tmu < 2 }
     ensures { result ≡ writes_tmu word tmu }
@@ -235,7 +216,6 @@ pub fn writes_tmu(word: u64, tmu: u8) -> bool
 
 /// How many of the two units write this TMU.
 #[inline]
-#[tactic(auto, unfolding(crate::specs::Terms::tmu_writes))]
 pub fn tmu_writes(word: u64, tmu: u8) -> u16
     requires { tmu < 2 }
     ensures value { result ≡ tmu_writes word tmu }
@@ -246,7 +226,6 @@ pub fn tmu_writes(word: u64, tmu: u8) -> u16
 
 /// Whether the instruction writes S of this TMU, which sends a request.
 #[inline]
-#[tactic(auto, unfolding(crate::specs::Terms::writes_s, crate::specs::Terms::s_address))]
 pub fn writes_s(word: u64, tmu: u8) -> bool
     requires { tmu < 2 }
     ensures { result ≡ writes_s word tmu }
@@ -256,7 +235,6 @@ pub fn writes_s(word: u64, tmu: u8) -> bool
 
 /// Whether the add unit writes a TMU.
 #[inline]
-#[tactic(auto, unfolding(crate::specs::Terms::add_is_tmu))]
 pub fn add_is_tmu(word: u64) -> bool
     ensures { result ≡ add_is_tmu word }
 {
@@ -265,7 +243,6 @@ pub fn add_is_tmu(word: u64) -> bool
 
 /// Whether the multiply unit writes a TMU.
 #[inline]
-#[tactic(auto, unfolding(crate::specs::Terms::mul_is_tmu))]
 pub fn mul_is_tmu(word: u64) -> bool
     ensures { result ≡ mul_is_tmu word }
 {
@@ -274,7 +251,6 @@ pub fn mul_is_tmu(word: u64) -> bool
 
 /// Whether both units write a TMU.
 #[inline]
-#[tactic(auto, unfolding(crate::specs::Terms::has_two_tmu_writes))]
 pub fn has_two_tmu_writes(word: u64) -> bool
     ensures { result ≡ has_two_tmu_writes word }
 {
@@ -283,7 +259,6 @@ pub fn has_two_tmu_writes(word: u64) -> bool
 
 /// Whether a unit writes a TMU under a condition.
 #[inline]
-#[tactic(auto, unfolding(crate::specs::Terms::has_conditional_tmu_write))]
 pub fn has_conditional_tmu_write(word: u64) -> bool
     ensures { result ≡ has_conditional_tmu_write word }
 {
@@ -292,7 +267,6 @@ pub fn has_conditional_tmu_write(word: u64) -> bool
 
 /// Whether the add unit's write of this TMU's S is direct.
 #[inline]
-#[tactic(auto, unfolding(crate::specs::Setups::adds_direct, crate::specs::Terms::s_address))]
 pub fn adds_direct(word: u64, tmu: u8, pending: u16) -> bool
     requires { tmu < 2 }
     ensures { result ≡ adds_direct word tmu pending }
@@ -302,7 +276,6 @@ pub fn adds_direct(word: u64, tmu: u8, pending: u16) -> bool
 
 /// Whether the multiply unit's write of this TMU's S is direct.
 #[inline]
-#[tactic(auto, unfolding(crate::specs::Setups::muls_direct, crate::specs::Terms::s_address))]
 pub fn muls_direct(word: u64, tmu: u8, pending: u16) -> bool
     requires { tmu < 2 }
     ensures { result ≡ muls_direct word tmu pending }
@@ -312,7 +285,6 @@ pub fn muls_direct(word: u64, tmu: u8, pending: u16) -> bool
 
 /// Whether a write of this TMU's S is direct: it asks for the word at an address that the shader computed.
 #[inline]
-#[tactic(auto, unfolding(crate::specs::Setups::is_direct))]
 pub fn is_direct(word: u64, tmu: u8, pending: u16) -> bool
     requires { tmu < 2 }
     ensures { result ≡ is_direct word tmu pending }
@@ -321,7 +293,6 @@ pub fn is_direct(word: u64, tmu: u8, pending: u16) -> bool
 }
 
 // The add unit has a setup write of this TMU.
-#[tactic(auto, unfolding(crate::specs::Setups::adds_setup))]
 fn adds_setup(word: u64, tmu: u8, pending: u16) -> bool
     requires { tmu < 2 }
     ensures { result ≡ adds_setup word tmu pending }
@@ -330,7 +301,6 @@ fn adds_setup(word: u64, tmu: u8, pending: u16) -> bool
 }
 
 // The multiply unit has a setup write of this TMU.
-#[tactic(auto, unfolding(crate::specs::Setups::muls_setup))]
 fn muls_setup(word: u64, tmu: u8, pending: u16) -> bool
     requires { tmu < 2 }
     ensures { result ≡ muls_setup word tmu pending }
@@ -340,7 +310,6 @@ fn muls_setup(word: u64, tmu: u8, pending: u16) -> bool
 
 /// Whether the instruction has a setup write of either TMU: one that isn't direct.
 #[inline]
-#[tactic(auto, unfolding(crate::specs::Setups::has_setup))]
 pub fn has_setup(word: u64, pending0: u16, pending1: u16) -> bool
     ensures { result ≡ has_setup word pending0 pending1 }
 {
@@ -350,7 +319,6 @@ pub fn has_setup(word: u64, pending0: u16, pending1: u16) -> bool
 
 /// Whether the instruction takes a uniform.
 #[inline]
-#[tactic(auto, unfolding(crate::specs::Setups::takes_with))]
 pub fn takes(word: u64, pending0: u16, pending1: u16) -> bool
     ensures { result ≡ takes_with word pending0 pending1 }
 {

@@ -24,17 +24,6 @@ fn fetch_offset(tiling: Tiling, width: u32, cpp: u32, x: u32, y: u32) -> u64
     }
 }
 
-/// The bytes of a fetch.
-#[tactic(auto, unfolding(crate::specs::Fetch::fetch_size_of))]
-fn fetch_size(tiling: Tiling, cpp: u32) -> u32
-    ensures { result ≡ fetch_size_of tiling cpp }
-{
-    match tiling {
-        Tiling::Raster => cpp,
-        Tiling::T | Tiling::Lt => 64,
-    }
-}
-
 impl Texture {
     ghost use Rattle.texture_layouts.specs.Setup.{tiling_at};
     ghost use Rattle.texture_layouts.specs.Fits.{is_unlisted};
@@ -74,11 +63,15 @@ impl Texture {
     }
 
     /// The bytes of a fetch of a level: 64 of a microtile, or in raster those of a pixel.
+    #[tactic(auto, unfolding(crate::specs::Fetch::fetch_size_of))]
     pub fn fetch_size(&self, level: u32) -> u32
         requires level { level ≤ self.now.levels }
         requires listed { is_unlisted self.now ≡ false }
         ensures { result ≡ fetch_size_of (tiling_at self.now level) self.now.cpp }
     {
-        fetch_size(self.level_tiling(level), self.pixel_bytes())
+        match self.level_tiling(level) {
+            Tiling::Raster => self.pixel_bytes(),
+            Tiling::T | Tiling::Lt => 64,
+        }
     }
 }

@@ -1,6 +1,6 @@
 //! How the pixels of a frame's surfaces lie, by the bits of the packets that load and store them.
 ghost use Rattle.std.specs.Prelude.{◌≡◌, IfSome};
-ghost use Rattle.texture_layouts.specs.Format.{tiling_named, buffer_pixel, written_pixel, general_tiling, general_pixel, frame_tiling, frame_pixel, styled, general_style, frame_style, IsShort};
+ghost use Rattle.texture_layouts.specs.Format.{tiling_named, general_tiling, general_pixel, frame_tiling, frame_pixel, styled, general_style, frame_style, IsShort};
 
 use crate::surface::Tiling;
 use field_words::field;
@@ -24,36 +24,6 @@ fn tiling_named(number: u64) -> Option<Tiling>
     }
 }
 
-/// The bytes of a pixel by a buffer and its format.
-fn buffer_pixel(buffer: u64, format: u64) -> Option<u32>
-    ensures value { result ≡ buffer_pixel buffer format }
-    ensures short { IfSome result IsShort }
-{
-    if buffer == 1 {
-        match format {
-            0 => Some(4),
-            3 => None,
-            _ => Some(2),
-        }
-    } else if buffer == 2 && format == 0 {
-        Some(4)
-    } else {
-        None
-    }
-}
-
-/// The bytes of a pixel by the frame's own format.
-fn written_pixel(format: u64) -> Option<u32>
-    ensures value { result ≡ written_pixel format }
-    ensures short { IfSome result IsShort }
-{
-    match format {
-        1 => Some(4),
-        3 => None,
-        _ => Some(2),
-    }
-}
-
 /// The tiling by the bits of a general load or store; `None` where there is no such.
 #[tactic(auto, unfolding(crate::specs::Format::general_tiling))]
 pub fn general_tiling(bits: u16) -> Option<Tiling>
@@ -69,7 +39,12 @@ pub fn general_pixel(bits: u16) -> Option<u32>
     ensures short { IfSome result IsShort }
 {
     let word = u64::from(bits);
-    buffer_pixel(field(word, 2, 0), field(word, 9, 8))
+    match (field(word, 2, 0), field(word, 9, 8)) {
+        (1, 0) | (2, 0) => Some(4),
+        (1, 3) => None,
+        (1, _) => Some(2),
+        _ => None,
+    }
 }
 
 /// The tiling by the frame's bits; `None` where there is no such.
@@ -86,7 +61,11 @@ pub fn frame_pixel(bits: u16) -> Option<u32>
     ensures value { result ≡ frame_pixel bits }
     ensures short { IfSome result IsShort }
 {
-    written_pixel(field(u64::from(bits), 3, 2))
+    match field(u64::from(bits), 3, 2) {
+        1 => Some(4),
+        3 => None,
+        _ => Some(2),
+    }
 }
 
 /// A style of this tiling and pixel, where there are both.

@@ -1,7 +1,7 @@
 //! The levels of a texture, each of half the sides of the one before.
 ghost use Rattle.std.specs.Prelude.{◌≡◌, ◌<◌, ◌≤◌, ◌^◌};
 ghost use Rattle.texture_layouts.specs.Surface.{IsPixelSize};
-ghost use Rattle.texture_layouts.specs.Level.{power_above, level_side_of, level_tiling_of, image_size_of, level_size_of};
+ghost use Rattle.texture_layouts.specs.Level.{power_above, level_side_of, level_tiling_of, level_size_of};
 
 use crate::surface::{Tiling, surface_size, tiling_of};
 
@@ -53,23 +53,10 @@ pub(crate) fn level_tiling(raster: bool, width: u32, height: u32, cpp: u32) -> T
     }
 }
 
-/// The bytes of a level of this width and height.
-#[inline(always)]
-#[tactic(auto, unfolding(crate::specs::Level::image_size_of))]
-fn image_size(raster: bool, width: u32, height: u32, cpp: u32) -> u64
-    requires width_limit { width ≤ 65535 }
-    requires height_limit { height ≤ 65535 }
-    requires pixel { IsPixelSize cpp }
-    ensures value { result ≡ image_size_of raster width height cpp }
-    ensures limit { result < 2 ^ 36 }
-{
-    surface_size(level_tiling(raster, width, height, cpp), width, height, cpp)
-}
-
 /// The bytes of level `level` of a texture of `width` times `height` pixels of `cpp` bytes. With a
 /// `cpp` of 8 the sides count blocks of 4x4 pixels.
 #[inline(always)]
-#[tactic(auto, unfolding(crate::specs::Level::level_size_of))]
+#[tactic(auto, unfolding(crate::specs::Level::level_size_of, crate::specs::Level::image_size_of))]
 pub fn level_size(raster: bool, width: u32, height: u32, cpp: u32, level: u32) -> u64
     requires width_from { 1 ≤ width }
     requires width_to { width ≤ 2048 }
@@ -80,10 +67,7 @@ pub fn level_size(raster: bool, width: u32, height: u32, cpp: u32, level: u32) -
     ensures value { result ≡ level_size_of raster width height cpp level }
     ensures limit { result < 2 ^ 36 }
 {
-    image_size(
-        raster,
-        level_side(width, level),
-        level_side(height, level),
-        cpp,
-    )
+    let width = level_side(width, level);
+    let height = level_side(height, level);
+    surface_size(level_tiling(raster, width, height, cpp), width, height, cpp)
 }

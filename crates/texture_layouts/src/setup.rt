@@ -1,4 +1,6 @@
 //! Textures, as their set-up words describe them.
+#![tactic(auto, unfolding(crate::proofs::Opened::setup))]
+
 ghost use Rattle.std.specs.Prelude.{◌≡◌, ◌<◌, ◌≤◌, ◌+◌, ◌*◌, ◌^◌, ◌⊎◌, true, false};
 ghost use Rattle.std.specs.Option.{SomeIff};
 ghost use Rattle.texture_layouts.specs.Surface.{IsPixelSize};
@@ -41,7 +43,6 @@ impl Texture {
 
     /// The texture that these four set-up words describe. A word that isn't there is 0.
     #[inline(always)]
-    #[tactic(auto, unfolding(crate::specs::Setup::texture_of))]
     pub fn of(words: &[u32; 4]) -> Texture
         ensures decoded { result ≡ texture_in words.now }
         ensures sound { IsTexture result }
@@ -61,7 +62,6 @@ impl Texture {
 
     /// How many faces there are: 6 in cube mode, else 1.
     #[inline(always)]
-    #[tactic(auto, unfolding(crate::specs::Setup::faces_of))]
     pub fn faces(&self) -> u32
         ensures value { result ≡ faces_of self.now }
         ensures some { 1 ≤ result }
@@ -81,7 +81,6 @@ impl Texture {
 
     /// Whether the type is none of the listed ones, so that a pixel has no size.
     #[inline(always)]
-    #[tactic(auto, unfolding(crate::specs::Fits::is_unlisted))]
     pub fn is_unlisted(&self) -> bool
         ensures { result ≡ is_unlisted self.now }
     {
@@ -89,7 +88,6 @@ impl Texture {
     }
 
     /// The bytes of a pixel, or of a block of 4x4 pixels of ETC1.
-    #[tactic(auto, unfolding(crate::specs::Fits::is_unlisted))]
     pub fn pixel_bytes(&self) -> u32
         requires { is_unlisted self.now ≡ false }
         ensures value { result ≡ self.now.cpp }
@@ -121,7 +119,6 @@ impl Texture {
     }
 
     /// The tiling of a level.
-    #[tactic(auto, unfolding(crate::specs::Fits::is_unlisted))]
     pub fn level_tiling(&self, level: u32) -> Tiling
         requires level { level ≤ self.now.levels }
         requires listed { is_unlisted self.now ≡ false }
@@ -135,7 +132,6 @@ impl Texture {
 
     /// The bytes of a level of one face.
     #[inline(always)]
-    #[tactic(auto, unfolding(crate::specs::Fits::is_unlisted))]
     pub fn level_size(&self, level: u32) -> u64
         requires level { level ≤ self.now.levels }
         requires listed { is_unlisted self.now ≡ false }
@@ -192,7 +188,6 @@ impl Texture {
 }
 
 /// Where the pixels of level 0 of the first face begin.
-#[tactic(auto, unfolding(crate::specs::Setup::base_of))]
 fn base(word: u32) -> u32
     ensures value { result ≡ base_of word }
     ensures limit { result ≤ 4294963200 }
@@ -201,14 +196,12 @@ fn base(word: u32) -> u32
 }
 
 /// Whether the first set-up word asks for a cube map.
-#[tactic(auto, unfolding(crate::specs::Setup::is_cube_word))]
 pub(crate) fn is_cube_word(word: u32) -> bool
     ensures { result ≡ is_cube_word word }
 {
     field(u64::from(word), 9, 9) == 1
 }
 
-#[tactic(auto, unfolding(crate::specs::Setup::levels_of))]
 fn levels(word: u32) -> u32
     ensures value { result ≡ levels_of word }
     ensures limit { result ≤ 15 }
@@ -216,7 +209,6 @@ fn levels(word: u32) -> u32
     field(u64::from(word), 3, 0) as u32
 }
 
-#[tactic(auto, unfolding(crate::specs::Setup::type_of))]
 fn texture_type(first: u32, second: u32) -> u64
     ensures value { result ≡ type_of first second }
     ensures limit { result ≤ 31 }
@@ -224,14 +216,12 @@ fn texture_type(first: u32, second: u32) -> u64
     field(u64::from(first), 7, 4) + 16 * field(u64::from(second), 31, 31)
 }
 
-#[tactic(auto, unfolding(crate::specs::Setup::kind_of))]
 pub(crate) fn kind(word: u32) -> u64
     ensures { result ≡ kind_of word }
 {
     field(u64::from(word), 31, 30)
 }
 
-#[tactic(auto, unfolding(crate::specs::Setup::stride_of))]
 fn stride(word: u32) -> u32
     ensures value { result ≡ stride_of word }
     ensures limit { result ≤ 1073737728 }
@@ -240,7 +230,6 @@ fn stride(word: u32) -> u32
 }
 
 /// From the pixels of a face to those of the next; 0 where neither word names a cube stride.
-#[tactic(auto, unfolding(crate::specs::Setup::cube_stride_of))]
 pub(crate) fn cube_stride(third: u32, fourth: u32) -> u32
     ensures value { result ≡ cube_stride_of third fourth }
     ensures limit { result ≤ 1073737728 }
@@ -255,7 +244,6 @@ pub(crate) fn cube_stride(third: u32, fourth: u32) -> u32
 }
 
 /// The bytes of a pixel, or of a block of 4x4 pixels of ETC1; 0 where the type isn't listed.
-#[tactic(auto, unfolding(crate::specs::Setup::pixel_bytes_of))]
 fn pixel_bytes(kind: u64) -> u32
     ensures value { result ≡ pixel_bytes_of kind }
     ensures listed { (result ≡ 0) ⊎ IsPixelSize result }
@@ -270,7 +258,6 @@ fn pixel_bytes(kind: u64) -> u32
 }
 
 /// A side in pixels by its field of 11 bits.
-#[tactic(auto, unfolding(crate::specs::Setup::pixels_of))]
 fn pixels(field: u64) -> u32
     requires { field ≤ 2047 }
     ensures value { result ≡ pixels_of field }
@@ -281,7 +268,6 @@ fn pixels(field: u64) -> u32
 }
 
 /// A side in pixels, or in blocks of 4x4 pixels of ETC1.
-#[tactic(auto, unfolding(crate::specs::Setup::side_of))]
 fn side(kind: u64, field: u64) -> u32
     requires { field ≤ 2047 }
     ensures value { result ≡ side_of kind field }
