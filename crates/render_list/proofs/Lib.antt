@@ -1,5 +1,6 @@
 pub mod Checked
 pub mod Length
+pub mod Opened
 pub mod Places
 pub mod Puts
 pub mod Rows

@@ -4,7 +4,7 @@ use Rattle.field_words.specs.Writes.{with_bytes}
 use Rattle.packets.specs.{declared.packet.Packet.Packet, Packet.slots_text, declared.packet.Packet.TheVariants.TileCoordinates}
 use Rattle.packets.proofs.{Slots.slots_append, Underway.IsUnderway, Underway.begins, Underway.next_room, Underway.goes_on, Underway.ends}
 use Rattle.job_format.specs.declared.file.Frame.{Frame}
-use Rattle.render_list.specs.Text.{packet_where, is_there, idle_store, load_slot, load_slots, list_slots, tile_slots, full_store_slot, zs_store_slot, color_store_slot}
+use Rattle.render_list.specs.Text.{packet_where, is_there, idle_store, load_slot, load_slots, wait_slot, list_slot, list_slots, tile_slots, full_store_slot, zs_store_slot, color_store_slot}
 use Rattle.render_list.specs.Text.{more_after_multisample_color, more_after_multisample_zs, some_before_zs, some_before_color, write_slots, HasRoom, Puts}
 use Rattle.render_list.specs.Frame.{place_at}
 
@@ -15,39 +15,24 @@ pub record IsLeft (window : List ℕ) (at : ℕ) (whole : List (Option Packet)) 
 pub starts : (window : List ℕ) (at : ℕ) (whole : List (Option Packet)) → HasRoom window at whole → IsLeft window at whole window at whole
 starts window at whole room = record { state = begins window at (slots_text whole) room }
 
--- There is room for the first of them, behind which the others are left,
-pub front_fits : (front rest : List (Option Packet)) {window : List ℕ} {at : ℕ} {whole : List (Option Packet)} {out : List ℕ} {here : ℕ}
-    → IsLeft window at whole out here (front ++ rest) → HasRoom out here front
-front_fits front rest {window} {at} {whole} {out} {here} left =
-    next_room window at (slots_text whole) out here (slots_text (front ++ rest)) (slots_text front) (slots_text rest) left.state (slots_append front rest)
-
-pub front_put : (front rest : List (Option Packet)) {window : List ℕ} {at : ℕ} {whole : List (Option Packet)} {out : List ℕ} {here : ℕ} {out2 : List ℕ} {here2 : ℕ}
-    → IsLeft window at whole out here (front ++ rest) → Puts front out here out2 here2 → IsLeft window at whole out2 here2 rest
-front_put front rest {window} {at} {whole} {out} {here} {out2} {here2} left puts = record {
-  state =
-      goes_on window at (slots_text whole) out here (slots_text (front ++ rest)) (slots_text front) (slots_text rest) out2 here2 left.state
-      (slots_append front rest) puts.text puts.end_is;
-}
-
--- and for the first one, as the code has it;
+-- There is room for the first of them, as the code has it,
 pub slot_fits : {window : List ℕ} {at : ℕ} {whole : List (Option Packet)} {out : List ℕ} {here : ℕ} {slot put : Option Packet} {rest : List (Option Packet)}
     → IsLeft window at whole out here (slot ∷ rest) → put ≡ slot → here + length (slots_text (put ∷ [])) ≤ length out
-slot_fits {out = out} {here = here} {slot = slot} {rest = rest} left same =
-    subst (λ s. here + length (slots_text (s ∷ [])) ≤ length out) (sym same) (front_fits (slot ∷ []) rest left)
+slot_fits {window} {at} {whole} {out} {here} {slot} {put} {rest} left same =
+    subst (λ s. here + length (slots_text (s ∷ [])) ≤ length out) (sym same)
+    (next_room window at (slots_text whole) out here (slots_text (slot ∷ rest)) (slots_text (slot ∷ [])) (slots_text rest) left.state (slots_append (slot ∷ []) rest))
 
+-- behind which the others are left,
 pub slot_put : {window : List ℕ} {at : ℕ} {whole : List (Option Packet)} {out : List ℕ} {here : ℕ} {slot put : Option Packet} {rest : List (Option Packet)} {out2 : List ℕ} {here2 : ℕ}
     → IsLeft window at whole out here (slot ∷ rest) → put ≡ slot → out2 ≡ with_bytes out here (slots_text (put ∷ [])) → here2 ≡ here + length (slots_text (put ∷ []))
     → IsLeft window at whole out2 here2 rest
-slot_put {out = out} {here = here} {slot = slot} {rest = rest} left same text end = front_put (slot ∷ []) rest left (record {
-  text = text ∙ ap (λ s. with_bytes out here (slots_text (s ∷ []))) same;
-  end_is = end ∙ ap (λ s. here + length (slots_text (s ∷ []))) same;
-})
+slot_put {window} {at} {whole} {out} {here} {slot} {put} {rest} {out2} {here2} left same text end = record {
+  state =
+      goes_on window at (slots_text whole) out here (slots_text (slot ∷ rest)) (slots_text (slot ∷ [])) (slots_text rest) out2 here2 left.state
+      (slots_append (slot ∷ []) rest) (text ∙ ap (λ s. with_bytes out here (slots_text (s ∷ []))) same) (end ∙ ap (λ s. here + length (slots_text (s ∷ []))) same);
+}
 
--- and once these are written, or none is left, all are.
-pub rest_put : {window : List ℕ} {at : ℕ} {whole rest : List (Option Packet)} {out : List ℕ} {here : ℕ} {out2 : List ℕ} {here2 : ℕ}
-    → IsLeft window at whole out here rest → Puts rest out here out2 here2 → Puts whole window at out2 here2
-rest_put left puts = record { text = puts.text ∙ left.state.bytes; end_is = puts.end_is ∙ left.state.place }
-
+-- and once none is left, all are written.
 pub all_put : {window : List ℕ} {at : ℕ} {whole : List (Option Packet)} {out : List ℕ} {here : ℕ} → IsLeft window at whole out here [] → Puts whole window at out here
 all_put {window} {at} {whole} {out} {here} left =
     let done = ends window at (slots_text whole) out here [] left.state refl in
@@ -91,9 +76,13 @@ unfolding load_slots
 no_loads frame places x y absent = no_loads_by frame (place_at places 0) (place_at places 2) x y absent
 
 -- and where but colour nothing is written either, that of a tile is its list's and that of this write.
+abbrev pub plain_slots : Frame → List (Option ℕ) → Option (ℕ × ℕ) → ℕ → ℕ → ℕ → List (Option Packet)
+plain_slots frame places grid slot x y =
+    Some (TileCoordinates x y) ∷ (wait_slot frame grid x y ∷ (list_slot grid slot x y ∷ (color_store_slot frame (place_at places 1) x y ∷ [])))
+
 pub plain_tile : (frame : Frame) (places : List (Option ℕ)) (grid : Option (ℕ × ℕ)) (slot x y : ℕ) → (is_there places 0 || is_there places 2) ≡ false → some_before_color places ≡ false
-    → slots_text (list_slots frame grid slot x y ++ (color_store_slot frame (place_at places 1) x y ∷ [])) ≡ slots_text (tile_slots frame places grid slot y x)
-unfolding tile_slots
+    → slots_text (plain_slots frame places grid slot x y) ≡ slots_text (tile_slots frame places grid slot y x)
+unfolding tile_slots list_slots
 plain_tile frame places grid slot x y absent none =
     let loads = load_slots frame places x y in
     let lists = list_slots frame grid slot x y in

@@ -1,14 +1,16 @@
 -- A renderer list: its packets, and their text, one after the other. The surfaces' places are absolute,
 -- and None where a surface is absent. A packet that stands only sometimes has a slot, which is None
 -- where it doesn't stand, so that each tile has the same fourteen slots.
-use Rattle.std.specs.Prelude.{◌≡◌, ◌≤◌, ℕ, ◌+◌, ◌*◌, ◌%◌, ◌||◌, ◌&&◌, not, Bool, true, false, List, [], ◌∷◌, ◌++◌, Option, Some, None, is_some, if◌then◌else◌, slice_index_or, bit_or, length}
+use Rattle.std.specs.Prelude.{◌≡◌, ◌≤◌, ℕ, ◌+◌, ◌*◌, ◌%◌, ◌||◌, ◌&&◌, not, Bool, true, false, List, [], ◌∷◌, ◌++◌, Option, Some, None, is_some, if◌then◌else◌, slice_index_or, bit_or, length, IsSome}
 use Rattle.std.specs.List.{flat_map, range_with_len}
 use Rattle.job_format.specs.declared.file.Frame.{Frame}
+use Rattle.buffer_table.specs.Table.{most_place}
+use Rattle.render_list.specs.declared.slots.{Scene.Scene, Tile.Tile}
 use Rattle.packets.specs.declared.packet.Packet.TheVariants.{WaitOnSemaphore, BranchToSubList, StoreTileColor, StoreTileColorAndEnd, StoreFullResolution, LoadFullResolution, StoreTileBuffer, LoadTileBuffer, TileRenderingMode, ClearColors, TileCoordinates}
 use Rattle.packets.specs.{declared.packet.Packet.Packet, Packet.slots_text}
 use Rattle.field_words.specs.Writes.{with_bytes}
 use Rattle.tile_memory.specs.Slots.{alloc_offset}
-use Rattle.render_list.specs.Frame.{color_read, color_write, zs_read, zs_write, multisample_color, multisample_zs, place_at, surface_at, is_full, full_place, is_first_tile, is_last_tile, tiles_across, tiles_down}
+use Rattle.render_list.specs.Frame.{color_read, color_write, zs_read, zs_write, multisample_color, multisample_zs, place_at, surface_at, is_full, full_place, is_first_tile, is_last_tile, tiles_across, tiles_down, IsSetupFor}
 
 -- The low bits of a full-resolution load's or store's address: colour is left out (1), depth and stencil
 -- are left out (2); and of a store's: the tile buffer isn't cleared behind it (4), it ends the frame (8).
@@ -164,20 +166,13 @@ list_slots frame grid slot x y =
     ∷ list_slot grid slot x y
     ∷ []
 
--- the stores of the two multisample surfaces
-abbrev pub multisample_color_store : Frame → List (Option ℕ) → ℕ → ℕ → Option Packet
-multisample_color_store frame places x y = full_store_slot frame (place_at places multisample_color) without_zs (more_after_multisample_color places) x y
-
-abbrev pub multisample_zs_store : Frame → List (Option ℕ) → ℕ → ℕ → Option Packet
-multisample_zs_store frame places x y = full_store_slot frame (place_at places multisample_zs) without_color (more_after_multisample_zs places) x y
-
 -- Its writes that are present, in the order multisample colour, multisample ZS, ZS, colour. All but the
 -- first have the coordinates before them.
 unfoldable pub write_slots : Frame → List (Option ℕ) → ℕ → ℕ → List (Option Packet)
 write_slots frame places x y =
-    multisample_color_store frame places x y
+    full_store_slot frame (place_at places multisample_color) without_zs (more_after_multisample_color places) x y
     ∷ coordinates_slot places multisample_zs (is_there places multisample_color) x y
-    ∷ multisample_zs_store frame places x y
+    ∷ full_store_slot frame (place_at places multisample_zs) without_color (more_after_multisample_zs places) x y
     ∷ coordinates_slot places zs_write (some_before_zs places) x y
     ∷ zs_store_slot frame (place_at places zs_write) (is_there places color_write) x y
     ∷ coordinates_slot places color_write (some_before_color places) x y
@@ -215,3 +210,17 @@ HasRoom window at slots = at + length (slots_text slots) ≤ length window
 pub record Puts (slots : List (Option Packet)) (before : List ℕ) (at : ℕ) (after : List ℕ) (end : ℕ) : Type 0 where
   pub text : after ≡ with_bytes before at (slots_text slots)
   pub end_is : end ≡ at + length (slots_text slots)
+
+-- What all tiles are written by is that of a checked frame; and by it the slots of a tile, of a row and of all tiles.
+pub record IsScene (scene : Scene) : Type 0 where
+  pub setup : IsSetupFor scene.frame scene.setup.places
+  pub slot : IsSome scene.tiles → scene.slot ≤ most_place
+
+abbrev pub tile_in : Scene → Tile → List (Option Packet)
+tile_in scene tile = tile_slots scene.frame scene.setup.places scene.tiles scene.slot tile.y tile.x
+
+abbrev pub row_in : Scene → ℕ → List (Option Packet)
+row_in scene y = row_slots scene.frame scene.setup.places scene.tiles scene.slot y
+
+abbrev pub tiles_in : Scene → List (Option Packet)
+tiles_in scene = all_tile_slots scene.frame scene.setup.places scene.tiles scene.slot

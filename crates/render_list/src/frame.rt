@@ -1,6 +1,6 @@
 //! The surfaces of a frame, and where the tiles of one in full resolution lie.
 ghost use Rattle.std.specs.Prelude.{◌≡◌, ◌<◌, ◌≤◌, ◌+◌, ◌*◌, ◌^◌};
-ghost use Rattle.render_list.specs.Frame.{surface_at, is_present, is_multisample, tile_side, is_full, full_tile, full_place, is_first_tile, is_last_tile};
+ghost use Rattle.render_list.specs.Frame.{surface_at, is_present, tile_side, is_full, full_tile, full_place, is_first_tile, is_last_tile};
 
 use job_format::{Frame, Surface};
 
@@ -48,20 +48,17 @@ pub fn is_full(k: usize, surface: &Surface) -> bool
     }
 }
 
-#[tactic(auto, unfolding(crate::specs::Frame::is_multisample))]
-fn is_multisample(frame: &Frame) -> bool
-    ensures { result ≡ is_multisample frame.now }
-{
-    surface(frame, COLOR_WRITE).bits % 2 == 1
-}
-
 /// A tile's side in pixels.
-#[tactic(auto, unfolding(crate::specs::Frame::tile_side))]
+#[tactic(auto, unfolding(crate::specs::Frame::tile_side, crate::specs::Frame::is_multisample))]
 pub fn tile_side(frame: &Frame) -> u32
     ensures value { result ≡ tile_side frame.now }
     ensures limit { result ≤ 64 }
 {
-    if is_multisample(frame) { 32 } else { 64 }
+    if surface(frame, COLOR_WRITE).bits % 2 == 1 {
+        32
+    } else {
+        64
+    }
 }
 
 /// Which tile of a surface in full resolution is the one at (x, y).

@@ -1,6 +1,8 @@
 //! The rules of a frame and its surfaces.
-ghost use Rattle.std.specs.Prelude.{◌≡◌, ◌<◌, ◌≤◌, ◌+◌, ◌^◌, ◌++◌, ℕ, None, Some, IfSome, IfOk, IfErr, MatchResult};
-ghost use Rattle.field_words.specs.Questions.{first_of, each, IsFirst};
+#![tactic(auto, unfolding(crate::proofs::Opened::tests))]
+
+ghost use Rattle.std.specs.Prelude.{◌≡◌, ◌<◌, ◌≤◌, ◌+◌, ◌^◌, ℕ, None, Some, true, false, IfSome, IfOk, IfErr, MatchResult};
+ghost use Rattle.field_words.specs.Questions.{first_of, each, GoesOn, IsFirst};
 ghost use Rattle.buffer_table.specs.Handles.{AreNumbersOf};
 ghost use Rattle.texture_layouts.specs.Format.{IsShort};
 ghost use Rattle.render_list.specs.Frame.{surface_at, is_full, FitsAt, IsTileSet, IsSetupFor};
@@ -28,7 +30,6 @@ const WRITE_FIELDS: u16 = 0x0001 | 0x000c | 0x0030 | 0x00c0;
 const GENERAL_FIELDS: u16 = 0x0007 | 0x0030 | 0x0300;
 
 /// Whether a smallest tile number is over its largest.
-#[tactic(auto, unfolding(crate::specs::Surfaces::is_reversed))]
 fn is_reversed(frame: &Frame) -> bool
     ensures { result ≡ is_reversed frame.now }
 {
@@ -36,7 +37,6 @@ fn is_reversed(frame: &Frame) -> bool
 }
 
 /// Whether the largest tile isn't in the binner's grid.
-#[tactic(auto, unfolding(crate::specs::Surfaces::is_outside_grid))]
 fn is_outside_grid(frame: &Frame, tiles: Option<(u8, u8)>) -> bool
     ensures { result ≡ is_outside_grid frame.now tiles }
 {
@@ -47,7 +47,6 @@ fn is_outside_grid(frame: &Frame, tiles: Option<(u8, u8)>) -> bool
 }
 
 /// Whether the largest tile has no pixel of the frame.
-#[tactic(auto, unfolding(crate::specs::Surfaces::is_outside_frame))]
 fn is_outside_frame(frame: &Frame) -> bool
     ensures { result ≡ is_outside_frame frame.now }
 {
@@ -56,25 +55,27 @@ fn is_outside_frame(frame: &Frame) -> bool
         || u32::from(frame.max_y) * side >= u32::from(frame.height)
 }
 
+/// A rule at an item, where it is broken.
+fn ask(broken: bool, rule: FrameRule, item: u8) -> Result<(), RenderFault>
+    ensures { MatchResult result (λ _. broken ≡ false) (λ found. (broken ≡ true) × (found ≡ fault rule item)) }
+{
+    if broken {
+        return Err(RenderFault::of(rule, item));
+    }
+    Ok(())
+}
+
 /// G1 to G3.
 #[tactic(auto, unfolding(crate::specs::Surfaces::frame_questions))]
-fn frame_fault(frame: &Frame, tiles: Option<(u8, u8)>) -> Option<RenderFault>
-    ensures { result ≡ first_of (frame_questions frame.now tiles) }
+fn check_frame(frame: &Frame, tiles: Option<(u8, u8)>) -> Result<(), RenderFault>
+    ensures { GoesOn (frame_questions frame.now tiles) (λ _. Unit {0}) result }
 {
-    if is_reversed(frame) {
-        return Some(RenderFault::of(FrameRule::Reversed, FRAME));
-    }
-    if is_outside_grid(frame, tiles) {
-        return Some(RenderFault::of(FrameRule::OutsideGrid, FRAME));
-    }
-    if is_outside_frame(frame) {
-        return Some(RenderFault::of(FrameRule::OutsideFrame, FRAME));
-    }
-    None
+    ask(is_reversed(frame), FrameRule::Reversed, FRAME)?;
+    ask(is_outside_grid(frame, tiles), FrameRule::OutsideGrid, FRAME)?;
+    ask(is_outside_frame(frame), FrameRule::OutsideFrame, FRAME)
 }
 
 /// Whether a flag is set that the surface doesn't have.
-#[tactic(auto, unfolding(crate::specs::Surfaces::has_unknown_flag))]
 fn has_unknown_flag(k: usize, surface: &Surface) -> bool
     ensures { result ≡ has_unknown_flag k surface.now }
 {
@@ -85,7 +86,6 @@ fn has_unknown_flag(k: usize, surface: &Surface) -> bool
 }
 
 /// Whether a bit is set outside the fields of this surface's bits.
-#[tactic(auto, unfolding(crate::specs::Surfaces::has_unknown_bit))]
 fn has_unknown_bit(k: usize, surface: &Surface) -> bool
     ensures { result ≡ has_unknown_bit k surface.now }
 {
@@ -98,7 +98,6 @@ fn has_unknown_bit(k: usize, surface: &Surface) -> bool
 }
 
 /// Whether the handle names no Plain buffer.
-#[tactic(auto, unfolding(crate::specs::Surfaces::is_unnamed))]
 fn is_unnamed(table: &Table, handles: &Handles, surface: &Surface) -> bool
     requires { AreNumbersOf table.now handles.now }
     ensures { result ≡ is_unnamed table.now handles.now surface.now }
@@ -107,7 +106,6 @@ fn is_unnamed(table: &Table, handles: &Handles, surface: &Surface) -> bool
 }
 
 /// The tiling by the surface's bits.
-#[tactic(auto, unfolding(crate::specs::Surfaces::surface_tiling))]
 fn surface_tiling(k: usize, surface: &Surface) -> Option<Tiling>
     ensures { result ≡ surface_tiling k surface.now }
 {
@@ -119,7 +117,6 @@ fn surface_tiling(k: usize, surface: &Surface) -> Option<Tiling>
 }
 
 /// The bytes of a pixel by the surface's bits.
-#[tactic(auto, unfolding(crate::specs::Surfaces::surface_pixel))]
 fn surface_pixel(k: usize, surface: &Surface) -> Option<u32>
     ensures value { result ≡ surface_pixel k surface.now }
     ensures short { IfSome result IsShort }
@@ -132,7 +129,6 @@ fn surface_pixel(k: usize, surface: &Surface) -> Option<u32>
 }
 
 /// Whether the tiling isn't one of the three.
-#[tactic(auto, unfolding(crate::specs::Surfaces::has_unlisted_tiling))]
 fn has_unlisted_tiling(k: usize, surface: &Surface) -> bool
     ensures { result ≡ has_unlisted_tiling k surface.now }
 {
@@ -140,14 +136,12 @@ fn has_unlisted_tiling(k: usize, surface: &Surface) -> bool
 }
 
 /// Whether the buffer and format aren't listed.
-#[tactic(auto, unfolding(crate::specs::Surfaces::has_unlisted_format))]
 fn has_unlisted_format(k: usize, surface: &Surface) -> bool
     ensures { result ≡ has_unlisted_format k surface.now }
 {
     !is_full(k, surface) && surface_pixel(k, surface).is_none()
 }
 
-#[tactic(auto, unfolding(crate::specs::Surfaces::is_unaligned))]
 fn is_unaligned(surface: &Surface) -> bool
     ensures { result ≡ is_unaligned surface.now }
 {
@@ -155,7 +149,6 @@ fn is_unaligned(surface: &Surface) -> bool
 }
 
 /// The bytes of the buffer that the surface lies in, and 0 where it names none.
-#[tactic(auto, unfolding(crate::specs::Surfaces::buffer_size))]
 fn buffer_size(table: &Table, handles: &Handles, surface: &Surface) -> u32
     requires { AreNumbersOf table.now handles.now }
     ensures { result ≡ buffer_size table.now handles.now surface.now }
@@ -185,7 +178,6 @@ fn styled_size(frame: &Frame, style: Option<Style>) -> u64
 }
 
 /// Where a surface that isn't in full resolution ends in its buffer.
-#[tactic(auto, unfolding(crate::specs::Surfaces::plain_end))]
 fn plain_end(frame: &Frame, k: usize, surface: &Surface) -> u64
     ensures { result ≡ plain_end frame.now k surface.now }
 {
@@ -194,7 +186,6 @@ fn plain_end(frame: &Frame, k: usize, surface: &Surface) -> u64
 }
 
 /// Whether a surface that isn't in full resolution has a side over the limit or goes past its buffer.
-#[tactic(auto, unfolding(crate::specs::Surfaces::is_too_large))]
 fn is_too_large(frame: &Frame, k: usize, surface: &Surface, size: u32) -> bool
     ensures { result ≡ is_too_large frame.now k surface.now size }
 {
@@ -207,7 +198,6 @@ fn is_too_large(frame: &Frame, k: usize, surface: &Surface, size: u32) -> bool
 }
 
 /// Whether ZS write is in full resolution, or a surface in full resolution has bits.
-#[tactic(auto, unfolding(crate::specs::Surfaces::is_full_with_bits))]
 fn is_full_with_bits(k: usize, surface: &Surface) -> bool
     ensures { result ≡ is_full_with_bits k surface.now }
 {
@@ -215,7 +205,6 @@ fn is_full_with_bits(k: usize, surface: &Surface) -> bool
 }
 
 /// Where the largest tile of a surface in full resolution ends in its buffer.
-#[tactic(auto, unfolding(crate::specs::Surfaces::full_end))]
 fn full_end(frame: &Frame, surface: &Surface) -> u64
     ensures { result ≡ full_end frame.now surface.now }
 {
@@ -225,99 +214,98 @@ fn full_end(frame: &Frame, surface: &Surface) -> u64
 }
 
 /// Whether a surface in full resolution goes past its buffer.
-#[tactic(auto, unfolding(crate::specs::Surfaces::is_too_large_full))]
 fn is_too_large_full(frame: &Frame, k: usize, surface: &Surface, size: u32) -> bool
     ensures { result ≡ is_too_large_full frame.now k surface.now size }
 {
     is_full(k, surface) && full_end(frame, surface) > u64::from(size)
 }
 
-/// A rule at surface `k`.
-fn at_surface(rule: FrameRule, k: usize) -> Option<RenderFault>
-    requires { k < 6 }
-    ensures { result ≡ Some (fault rule (k + 1)) }
-{
-    Some(RenderFault::of(rule, k as u8 + 1))
-}
-
 /// G4 to G9.
 #[tactic(auto, unfolding(crate::specs::Surfaces::shape_questions))]
-fn shape_fault(k: usize, surface: &Surface, table: &Table, handles: &Handles) -> Option<RenderFault>
+fn check_shape(
+    k: usize,
+    surface: &Surface,
+    table: &Table,
+    handles: &Handles,
+) -> Result<(), RenderFault>
     requires surface { k < 6 }
     requires made { AreNumbersOf table.now handles.now }
-    ensures { result ≡ first_of (shape_questions k surface.now table.now handles.now) }
+    ensures { GoesOn (shape_questions k surface.now table.now handles.now) (λ _. Unit {0}) result }
 {
-    if has_unknown_flag(k, surface) {
-        return at_surface(FrameRule::UnknownFlag, k);
-    }
-    if has_unknown_bit(k, surface) {
-        return at_surface(FrameRule::UnknownBit, k);
-    }
-    if is_unnamed(table, handles, surface) {
-        return at_surface(FrameRule::Unnamed, k);
-    }
-    if has_unlisted_tiling(k, surface) {
-        return at_surface(FrameRule::UnlistedTiling, k);
-    }
-    if has_unlisted_format(k, surface) {
-        return at_surface(FrameRule::UnlistedFormat, k);
-    }
-    if is_unaligned(surface) {
-        return at_surface(FrameRule::Unaligned, k);
-    }
-    None
+    let item = k as u8 + 1;
+    ask(has_unknown_flag(k, surface), FrameRule::UnknownFlag, item)?;
+    ask(has_unknown_bit(k, surface), FrameRule::UnknownBit, item)?;
+    ask(
+        is_unnamed(table, handles, surface),
+        FrameRule::Unnamed,
+        item,
+    )?;
+    ask(
+        has_unlisted_tiling(k, surface),
+        FrameRule::UnlistedTiling,
+        item,
+    )?;
+    ask(
+        has_unlisted_format(k, surface),
+        FrameRule::UnlistedFormat,
+        item,
+    )?;
+    ask(is_unaligned(surface), FrameRule::Unaligned, item)
 }
 
 /// G10 to G12.
 #[tactic(auto, unfolding(crate::specs::Surfaces::size_questions))]
-fn size_fault(frame: &Frame, k: usize, surface: &Surface, size: u32) -> Option<RenderFault>
+fn check_size(frame: &Frame, k: usize, surface: &Surface, size: u32) -> Result<(), RenderFault>
     requires { k < 6 }
-    ensures { result ≡ first_of (size_questions frame.now k surface.now size) }
+    ensures { GoesOn (size_questions frame.now k surface.now size) (λ _. Unit {0}) result }
 {
-    if is_too_large(frame, k, surface, size) {
-        return at_surface(FrameRule::TooLarge, k);
-    }
-    if is_full_with_bits(k, surface) {
-        return at_surface(FrameRule::FullWithBits, k);
-    }
-    if is_too_large_full(frame, k, surface, size) {
-        return at_surface(FrameRule::TooLargeFull, k);
-    }
-    None
+    let item = k as u8 + 1;
+    ask(
+        is_too_large(frame, k, surface, size),
+        FrameRule::TooLarge,
+        item,
+    )?;
+    ask(is_full_with_bits(k, surface), FrameRule::FullWithBits, item)?;
+    ask(
+        is_too_large_full(frame, k, surface, size),
+        FrameRule::TooLargeFull,
+        item,
+    )
 }
 
 /// G4 to G12 of surface `k`, where it is present.
 #[tactic(auto, unfolding(crate::specs::Surfaces::surface_questions), using(field_words::proofs::Questions::passes, field_words::proofs::Questions::stops))]
-fn surface_fault(frame: &Frame, table: &Table, handles: &Handles, k: usize) -> Option<RenderFault>
+fn check_surface(
+    frame: &Frame,
+    table: &Table,
+    handles: &Handles,
+    k: usize,
+) -> Result<(), RenderFault>
     requires surface { k < 6 }
     requires made { AreNumbersOf table.now handles.now }
-    ensures { result ≡ first_of (surface_questions frame.now table.now handles.now k) }
+    ensures { GoesOn (surface_questions frame.now table.now handles.now k) (λ _. Unit {0}) result }
 {
     let surface = surface(frame, k);
     if !is_present(&surface) {
-        return None;
+        return Ok(());
     }
-    match shape_fault(k, &surface, table, handles) {
-        Some(fault) => Some(fault),
-        None => size_fault(frame, k, &surface, buffer_size(table, handles, &surface)),
-    }
+    check_shape(k, &surface, table, handles)?;
+    check_size(frame, k, &surface, buffer_size(table, handles, &surface))
 }
 
 /// G4 to G12, surface by surface.
-fn surfaces_fault(frame: &Frame, table: &Table, handles: &Handles) -> Option<RenderFault>
+#[tactic(auto, using(field_words::proofs::Questions::each_on, field_words::proofs::Questions::each_stop, field_words::proofs::Questions::each_end))]
+fn check_each(frame: &Frame, table: &Table, handles: &Handles) -> Result<(), RenderFault>
     requires { AreNumbersOf table.now handles.now }
-    ensures { result ≡ first_of (each (surface_questions frame.now table.now handles.now) 0 6) }
+    ensures { GoesOn (each (surface_questions frame.now table.now handles.now) 0 6) (λ _. Unit {0}) result }
 {
-    for k in 0..6 {
-        if let Some(fault) = surface_fault(frame, table, handles, k) {
-            return Some(fault);
-        }
+    for k in 0..6usize {
+        check_surface(frame, table, handles, k)?;
     }
-    None
+    Ok(())
 }
 
 /// Whether something is written.
-#[tactic(auto, unfolding(crate::specs::Surfaces::is_written))]
 fn is_written(frame: &Frame) -> bool
     ensures { result ≡ is_written frame.now }
 {
@@ -329,42 +317,26 @@ fn is_written(frame: &Frame) -> bool
 
 /// G13.
 #[tactic(auto, unfolding(crate::specs::Surfaces::whole_questions))]
-fn whole_fault(frame: &Frame) -> Option<RenderFault>
-    ensures { result ≡ first_of (whole_questions frame.now) }
+fn check_whole(frame: &Frame) -> Result<(), RenderFault>
+    ensures { GoesOn (whole_questions frame.now) (λ _. Unit {0}) result }
 {
-    if is_written(frame) {
-        return None;
-    }
-    Some(RenderFault::of(FrameRule::NothingWritten, WHOLE))
+    ask(!is_written(frame), FrameRule::NothingWritten, WHOLE)
 }
 
-/// G4 to G13.
-#[tactic(auto, using(field_words::proofs::Questions::passes, field_words::proofs::Questions::stops))]
-fn later_fault(frame: &Frame, table: &Table, handles: &Handles) -> Option<RenderFault>
-    requires { AreNumbersOf table.now handles.now }
-    ensures { result ≡ first_of (each (surface_questions frame.now table.now handles.now) 0 6 ++ whole_questions frame.now) }
-{
-    match surfaces_fault(frame, table, handles) {
-        Some(fault) => Some(fault),
-        None => whole_fault(frame),
-    }
-}
-
-/// The first of G1 to G13.
+/// G1 to G13.
 #[tactic(auto, unfolding(crate::specs::Surfaces::surface_faults), using(field_words::proofs::Questions::passes, field_words::proofs::Questions::stops))]
-fn first_fault(
+fn check_rules(
     frame: &Frame,
     tiles: Option<(u8, u8)>,
     table: &Table,
     handles: &Handles,
-) -> Option<RenderFault>
+) -> Result<(), RenderFault>
     requires { AreNumbersOf table.now handles.now }
-    ensures { result ≡ first_of (surface_faults frame.now tiles table.now handles.now) }
+    ensures { GoesOn (surface_faults frame.now tiles table.now handles.now) (λ _. Unit {0}) result }
 {
-    match frame_fault(frame, tiles) {
-        Some(fault) => Some(fault),
-        None => later_fault(frame, table, handles),
-    }
+    check_frame(frame, tiles)?;
+    check_each(frame, table, handles)?;
+    check_whole(frame)
 }
 
 /// The absolute place of surface `k`, where it is present.
@@ -426,8 +398,8 @@ pub fn check_surfaces(
     ensures first { IfErr result (λ fault. IsFirst (surface_faults frame.now tiles table.now handles.now) fault) }
     ensures setup { IfOk result (λ setup. IsSetupFor frame.now setup.places) }
 {
-    match first_fault(frame, tiles, table, handles) {
-        Some(fault) => Err(fault),
-        None => Ok(places(frame, table, handles)),
+    match check_rules(frame, tiles, table, handles) {
+        Err(fault) => Err(fault),
+        Ok(_) => Ok(places(frame, table, handles)),
     }
 }

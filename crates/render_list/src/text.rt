@@ -5,65 +5,38 @@ ghost use Rattle.field_words.specs.Writes.{with_bytes};
 ghost use Rattle.packets.specs.Packet.{slots_text};
 ghost use Rattle.render_list.specs.Frame.{IsSetupFor};
 ghost use Rattle.render_list.specs.Length.{render_length};
-ghost use Rattle.render_list.specs.Text.{head_packet, clear_slots, front_slots, row_slots, all_tile_slots, render_slots, render_text, HasRoom, Puts};
+ghost use Rattle.render_list.specs.Text.{head_packet, clear_slots, front_slots, row_in, tiles_in, render_slots, render_text, HasRoom, Puts, IsScene};
 
 use crate::setup::Setup;
-use crate::slots::{Tile, clear_slots, head_packet, is_plain};
+use crate::slots::{Scene, Tile, clear_slots, head_packet};
 use crate::tile::put_tile;
 use job_format::Frame;
 use packets::put_present;
 use relocation::Layout;
 
 /// The tiles of row `y`, from left to right.
-fn put_row(
-    out: &mut [u8],
-    at: usize,
-    frame: &Frame,
-    setup: &Setup,
-    tiles: Option<(u8, u8)>,
-    slot: u32,
-    y: u8,
-) -> usize
-    requires setup { IsSetupFor frame.now setup.now.places }
-    requires row { y ≤ frame.now.max_y }
-    requires slot { IsSome tiles → slot ≤ most_place }
-    requires room { HasRoom out.old at (row_slots frame.now setup.now.places tiles slot y) }
-    ensures { Puts (row_slots frame.now setup.now.places tiles slot y) out.old at out.new result }
+fn put_row(out: &mut [u8], at: usize, scene: &Scene, y: u8) -> usize
+    requires scene { IsScene scene.now }
+    requires row { y ≤ scene.now.frame.max_y }
+    requires room { HasRoom out.old at (row_in scene.now y) }
+    ensures { Puts (row_in scene.now y) out.old at out.new result }
 {
-    let is_plain = is_plain(setup);
     let mut here = at;
-    for x in frame.min_x..=frame.max_x {
-        here = put_tile(
-            out,
-            here,
-            frame,
-            setup,
-            tiles,
-            slot,
-            is_plain,
-            Tile { x, y },
-        );
+    for x in scene.frame.min_x..=scene.frame.max_x {
+        here = put_tile(out, here, scene, Tile { x, y });
     }
     here
 }
 
 /// All tiles of the set, row by row.
-fn put_tiles(
-    out: &mut [u8],
-    at: usize,
-    frame: &Frame,
-    setup: &Setup,
-    tiles: Option<(u8, u8)>,
-    slot: u32,
-) -> usize
-    requires setup { IsSetupFor frame.now setup.now.places }
-    requires slot { IsSome tiles → slot ≤ most_place }
-    requires room { HasRoom out.old at (all_tile_slots frame.now setup.now.places tiles slot) }
-    ensures { Puts (all_tile_slots frame.now setup.now.places tiles slot) out.old at out.new result }
+fn put_tiles(out: &mut [u8], at: usize, scene: &Scene) -> usize
+    requires scene { IsScene scene.now }
+    requires room { HasRoom out.old at (tiles_in scene.now) }
+    ensures { Puts (tiles_in scene.now) out.old at out.new result }
 {
     let mut here = at;
-    for y in frame.min_y..=frame.max_y {
-        here = put_row(out, here, frame, setup, tiles, slot, y);
+    for y in scene.frame.min_y..=scene.frame.max_y {
+        here = put_row(out, here, scene, y);
     }
     here
 }
@@ -81,21 +54,13 @@ fn put_front(out: &mut [u8], at: usize, frame: &Frame, setup: &Setup) -> usize
 
 /// The whole list.
 #[tactic(auto, using(crate::proofs::Rows::render_parts, crate::proofs::Rows::length_parts, field_words::proofs::Writes::with_two))]
-fn put_list(
-    out: &mut [u8],
-    at: usize,
-    frame: &Frame,
-    setup: &Setup,
-    tiles: Option<(u8, u8)>,
-    slot: u32,
-) -> usize
-    requires setup { IsSetupFor frame.now setup.now.places }
-    requires slot { IsSome tiles → slot ≤ most_place }
-    requires room { HasRoom out.old at (render_slots frame.now setup.now.places tiles slot) }
-    ensures { Puts (render_slots frame.now setup.now.places tiles slot) out.old at out.new result }
+fn put_list(out: &mut [u8], at: usize, scene: &Scene) -> usize
+    requires scene { IsScene scene.now }
+    requires room { HasRoom out.old at (render_slots scene.now.frame scene.now.setup.places scene.now.tiles scene.now.slot) }
+    ensures { Puts (render_slots scene.now.frame scene.now.setup.places scene.now.tiles scene.now.slot) out.old at out.new result }
 {
-    let at = put_front(out, at, frame, setup);
-    put_tiles(out, at, frame, setup, tiles, slot)
+    let at = put_front(out, at, &scene.frame, &scene.setup);
+    put_tiles(out, at, scene)
 }
 
 /// Writes the renderer list of the frame at its place in `out`, the window of the lists' region, and
@@ -109,12 +74,11 @@ pub fn build(frame: &Frame, setup: &Setup, tiles: Option<(u8, u8)>, layout: &Lay
     requires room { layout.now.render + render_length frame.now (is_some tiles) ≤ length out.old }
     ensures { out.new ≡ with_bytes out.old layout.now.render (render_text frame.now setup.now.places tiles layout.now.slot) }
 {
-    let _end = put_list(
-        out,
-        layout.render as usize,
-        frame,
-        setup,
+    let scene = Scene {
+        frame: *frame,
+        setup: *setup,
         tiles,
-        layout.slot,
-    );
+        slot: layout.slot,
+    };
+    let _end = put_list(out, layout.render as usize, &scene);
 }

@@ -6,27 +6,27 @@ use Rattle.render_list.proofs.{Places.tile_fits, Rows.span_step, Rows.span_end}
 use Rattle.render_list.proofs.text.put_row.Goals as goal
 
 pub loop-x-init : goal.loop-x-init
-loop-x-init c = begins c.args.out.now c.args.at (slots_text (row_slots c.args.frame.now c.args.setup.now.places c.args.tiles c.args.slot c.args.y)) c.requires.room
+loop-x-init c = begins c.args.out.now c.args.at (slots_text (row_slots c.args.scene.now.frame c.args.scene.now.setup.places c.args.scene.now.tiles c.args.scene.now.slot c.args.y)) c.requires.room
 
 pub put_tile-here-requires-clause-fits : goal.put_tile-here-requires-clause-fits
 put_tile-here-requires-clause-fits c =
-    tile_fits c.args.frame.now c.args.setup.now.places c.loop-x.x c.args.y (omega arith) c.requires.row c.requires.setup
+    tile_fits c.args.scene.now.frame c.args.scene.now.setup.places c.loop-x.x c.args.y (omega arith) c.requires.row c.requires.scene.setup
 
 pub put_tile-here-requires-clause-room : goal.put_tile-here-requires-clause-room
 put_tile-here-requires-clause-room c =
-    let frame = c.args.frame.now in
-    let tiles = tile_slots frame c.args.setup.now.places c.args.tiles c.args.slot c.args.y in
+    let frame = c.args.scene.now.frame in
+    let tiles = tile_slots frame c.args.scene.now.setup.places c.args.scene.now.tiles c.args.scene.now.slot c.args.y in
     let x = c.loop-x.x in
-    next_room c.args.out.now c.args.at (slots_text (row_slots frame c.args.setup.now.places c.args.tiles c.args.slot c.args.y)) c.loop-x.out c.loop-x.here
+    next_room c.args.out.now c.args.at (slots_text (row_slots frame c.args.scene.now.setup.places c.args.scene.now.tiles c.args.scene.now.slot c.args.y)) c.loop-x.out c.loop-x.here
     (slots_text (span_slots tiles x (frame.max_x + 1 - x))) (slots_text (tiles x)) (slots_text (span_slots tiles (x + 1) (frame.max_x + 1 - (x + 1))))
     c.loop-x.invariant (span_step tiles x (frame.max_x + 1) (omega arith))
 
 pub loop-x-preserved : goal.loop-x-preserved
 loop-x-preserved c =
-    let frame = c.args.frame.now in
-    let tiles = tile_slots frame c.args.setup.now.places c.args.tiles c.args.slot c.args.y in
+    let frame = c.args.scene.now.frame in
+    let tiles = tile_slots frame c.args.scene.now.setup.places c.args.scene.now.tiles c.args.scene.now.slot c.args.y in
     let x = c.loop-x.x in
-    goes_on c.args.out.now c.args.at (slots_text (row_slots frame c.args.setup.now.places c.args.tiles c.args.slot c.args.y)) c.loop-x.out c.loop-x.here
+    goes_on c.args.out.now c.args.at (slots_text (row_slots frame c.args.scene.now.setup.places c.args.scene.now.tiles c.args.scene.now.slot c.args.y)) c.loop-x.out c.loop-x.here
     (slots_text (span_slots tiles x (frame.max_x + 1 - x))) (slots_text (tiles x)) (slots_text (span_slots tiles (x + 1) (frame.max_x + 1 - (x + 1))))
     c.put_tile-here.new.out c.put_tile-here.result c.loop-x.invariant (span_step tiles x (frame.max_x + 1) (omega arith))
     c.put_tile-here.ensures.text c.put_tile-here.ensures.end_is
@@ -34,9 +34,9 @@ loop-x-preserved c =
 -- after the last tile
 pub returns-2 : goal.returns-2
 returns-2 c =
-    let frame = c.args.frame.now in
-    let tiles = tile_slots frame c.args.setup.now.places c.args.tiles c.args.slot c.args.y in
-    let row = slots_text (row_slots frame c.args.setup.now.places c.args.tiles c.args.slot c.args.y) in
+    let frame = c.args.scene.now.frame in
+    let tiles = tile_slots frame c.args.scene.now.setup.places c.args.scene.now.tiles c.args.scene.now.slot c.args.y in
+    let row = slots_text (row_slots frame c.args.scene.now.setup.places c.args.scene.now.tiles c.args.scene.now.slot c.args.y) in
     let x = c.loop-x.x in
     let later = slots_text (span_slots tiles (x + 1) (frame.max_x + 1 - (x + 1))) in
     let state =

@@ -7,5 +7,5 @@ use Rattle.render_list.proofs.text.put_row.Given as goal
 
 abbrev pub invariant-loop-x : goal.invariant-loop-x
 invariant-loop-x l =
-    IsUnderway l.fn.out l.fn.at (slots_text (row_slots l.fn.frame l.fn.setup.places l.fn.tiles l.fn.slot l.fn.y)) l.out l.here
-    (slots_text (span_slots (tile_slots l.fn.frame l.fn.setup.places l.fn.tiles l.fn.slot l.fn.y) l.x (l.x-end + 1 - l.x)))
+    IsUnderway l.fn.out l.fn.at (slots_text (row_slots l.fn.scene.frame l.fn.scene.setup.places l.fn.scene.tiles l.fn.scene.slot l.fn.y)) l.out l.here
+    (slots_text (span_slots (tile_slots l.fn.scene.frame l.fn.scene.setup.places l.fn.scene.tiles l.fn.scene.slot l.fn.y) l.x (l.x-end + 1 - l.x)))

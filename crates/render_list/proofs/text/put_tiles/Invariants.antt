@@ -7,5 +7,5 @@ use Rattle.render_list.proofs.text.put_tiles.Given as goal
 
 abbrev pub invariant-loop-y : goal.invariant-loop-y
 invariant-loop-y l =
-    IsUnderway l.fn.out l.fn.at (slots_text (all_tile_slots l.fn.frame l.fn.setup.places l.fn.tiles l.fn.slot)) l.out l.here
-    (slots_text (span_slots (row_slots l.fn.frame l.fn.setup.places l.fn.tiles l.fn.slot) l.y (l.y-end + 1 - l.y)))
+    IsUnderway l.fn.out l.fn.at (slots_text (all_tile_slots l.fn.scene.frame l.fn.scene.setup.places l.fn.scene.tiles l.fn.scene.slot)) l.out l.here
+    (slots_text (span_slots (row_slots l.fn.scene.frame l.fn.scene.setup.places l.fn.scene.tiles l.fn.scene.slot) l.y (l.y-end + 1 - l.y)))

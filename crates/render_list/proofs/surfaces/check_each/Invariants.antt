@@ -2,7 +2,7 @@
 use Rattle.std.proofs.Common.{◌≡◌, ◌-◌}
 use Rattle.field_words.specs.Questions.{first_of, each}
 use Rattle.render_list.specs.Surfaces.{surface_questions}
-use Rattle.render_list.proofs.surfaces.surfaces_fault.Given as goal
+use Rattle.render_list.proofs.surfaces.check_each.Given as goal
 
 abbrev pub invariant-loop-k : goal.invariant-loop-k
 invariant-loop-k l =
