@@ -11,4 +11,4 @@ pub use example::example_text;
 pub use lines::{Filled, PIECE, put_part};
 pub use span::{Span, insert_span};
 pub use text::{IMAGE_END, image_head, refusal_text};
-pub use trace::{ending_text, push_number, push_place, push_unit, trace_text};
+pub use trace::{ending_name, ending_text, push_number, push_place, push_unit, trace_text};

@@ -1,6 +1,6 @@
 //! The texts of an accepted file and of a refusal.
 ghost use Rattle.std.specs.Prelude.{◌≡◌, ◌<◌, ◌++◌, length, IfOk, OnOk, string_bytes};
-ghost use Rattle.dumper.specs.Text.{place_text, list_line, memory_line, slot_line, layout_text, lines_of, job_line, jobs_text, layouts_text, head_text, AreOfVersion, refused_text};
+ghost use Rattle.dumper.specs.Text.{place_text, list_line, slot_line, layout_text, lines_of, job_line, jobs_text, layouts_text, head_text, AreOfVersion, refused_text};
 
 use field_words::NoMemory;
 use job_format::Refusal;
@@ -23,13 +23,6 @@ fn list_line(alloc: Global, name: &str, place: u64, length: u32) -> Result<Strin
 {
     let place = place_text(alloc, place)?;
     format!(in alloc; "{name} {place} {length}\n")
-}
-
-#[tactic(auto, unfolding(crate::specs::Text::memory_line))]
-fn memory_line(alloc: Global, size: u32) -> Result<String, AllocError>
-    ensures { IfOk result (λ line. string_bytes line ≡ memory_line size) }
-{
-    format!(in alloc; "memory {size}\n")
 }
 
 #[tactic(auto, unfolding(crate::specs::Text::slot_line))]
@@ -61,28 +54,7 @@ fn push_layout(
     out.extend_from_slice(slot_line(alloc, u64::from(layout.slot))?.as_bytes())
 }
 
-#[tactic(auto, unfolding(crate::specs::Text::job_line))]
-fn job_line(alloc: Global, job: usize) -> Result<String, AllocError>
-    ensures { IfOk result (λ line. string_bytes line ≡ job_line job) }
-{
-    format!(in alloc; "job {job}\n")
-}
-
-#[tactic(auto, unfolding(crate::specs::Text::lines_of))]
-fn push_lines(
-    alloc: Global,
-    out: &mut Vec<u8>,
-    layouts: &[Layout],
-    lengths: &[Lengths],
-    job: usize,
-) -> Result<(), AllocError>
-    requires layout { job < length layouts.now }
-    requires lengths { job < length lengths.now }
-    ensures { OnOk result (out.new.items ≡ out.old.items ++ lines_of layouts.now lengths.now job) }
-{
-    push_layout(alloc, out, &layouts[job], &lengths[job])
-}
-
+#[tactic(auto, unfolding(crate::specs::Text::job_line, crate::specs::Text::lines_of))]
 fn push_job(
     alloc: Global,
     out: &mut Vec<u8>,
@@ -94,8 +66,9 @@ fn push_job(
     requires lengths { job < length lengths.now }
     ensures { OnOk result (out.new.items ≡ out.old.items ++ (job_line job ++ lines_of layouts.now lengths.now job)) }
 {
-    out.extend_from_slice(job_line(alloc, job)?.as_bytes())?;
-    push_lines(alloc, out, layouts, lengths, job)
+    let line = format!(in alloc; "job {job}\n")?;
+    out.extend_from_slice(line.as_bytes())?;
+    push_layout(alloc, out, &layouts[job], &lengths[job])
 }
 
 fn push_jobs(
@@ -113,7 +86,7 @@ fn push_jobs(
     Ok(())
 }
 
-#[tactic(auto, unfolding(crate::specs::Text::layouts_text))]
+#[tactic(auto, unfolding(crate::specs::Text::layouts_text, crate::specs::Text::lines_of))]
 fn push_layouts(
     alloc: Global,
     out: &mut Vec<u8>,
@@ -125,7 +98,7 @@ fn push_layouts(
     ensures { OnOk result (out.new.items ≡ out.old.items ++ layouts_text version layouts.now lengths.now) }
 {
     if version == 1 {
-        return push_lines(alloc, out, layouts, lengths, 0);
+        return push_layout(alloc, out, &layouts[0], &lengths[0]);
     }
     push_jobs(alloc, out, layouts, lengths)
 }
@@ -134,7 +107,7 @@ fn push_layouts(
 /// layout and one record of lengths for each job, of which a file of version 1 has one. Places have eight hexadecimal digits, or more
 /// where they need more; lengths and the memory's size in bytes are decimal. In version 2 the lines of a job stand behind its number.
 /// The rows come from [`put_part`](crate::put_part), and [`IMAGE_END`] stands behind them.
-#[tactic(auto, unfolding(crate::specs::Text::head_text))]
+#[tactic(auto, unfolding(crate::specs::Text::head_text, crate::specs::Text::memory_line))]
 pub fn image_head(
     alloc: Global,
     version: u32,
@@ -147,7 +120,8 @@ pub fn image_head(
 {
     let mut out = Vec::new(alloc);
     out.extend_from_slice(b"accepted\n")?;
-    out.extend_from_slice(memory_line(alloc, size)?.as_bytes())?;
+    let line = format!(in alloc; "memory {size}\n")?;
+    out.extend_from_slice(line.as_bytes())?;
     push_layouts(alloc, &mut out, version, layouts, lengths)?;
     Ok(out)
 }

@@ -1,6 +1,5 @@
 //! The text of a run.
 ghost use Rattle.std.specs.Prelude.{◌≡◌, ◌≤◌, ◌<◌, ◌++◌, length, codes, IfOk, OnOk, string_bytes};
-ghost use Rattle.std.specs.List.{flat_map};
 ghost use Rattle.dumper.specs.Trace.{unit_text, counts_text, reach_text, step_end, step_text, ending_name, ending_text, trace_text};
 ghost use Rattle.dumper.specs.Text.{place_text};
 ghost use Rattle.std.specs.Fmt.{decimal};
@@ -67,7 +66,6 @@ fn push_reach(alloc: Global, out: &mut Vec<u8>, line: &TraceLine) -> Result<(), 
     push_place(alloc, out, line.high)
 }
 
-/// Appends how many reads and how many writes a step did.
 #[tactic(auto, unfolding(crate::specs::Trace::counts_text))]
 fn push_counts(out: &mut Vec<u8>, line: &TraceLine) -> Result<(), AllocError>
     ensures { OnOk result (out.new.items ≡ out.old.items ++ counts_text line.now) }
@@ -106,21 +104,8 @@ fn push_step(
     push_step_end(out, version, line.job)
 }
 
-fn push_steps(
-    alloc: Global,
-    out: &mut Vec<u8>,
-    version: u32,
-    lines: &[TraceLine],
-) -> Result<(), AllocError>
-    ensures { OnOk result (out.new.items ≡ out.old.items ++ flat_map (step_text version) lines.now) }
-{
-    for line in lines {
-        push_step(alloc, out, version, line)?;
-    }
-    Ok(())
-}
-
-fn ending_name(ending: Ending) -> &'static str
+/// How a run ended, in words.
+pub fn ending_name(ending: Ending) -> &'static str
     ensures { result.now ≡ ending_name ending }
 {
     match ending {
@@ -149,7 +134,9 @@ pub fn trace_text(alloc: Global, version: u32, trace: &Trace) -> Result<Vec<u8>,
     ensures { IfOk result (λ text. text.items ≡ trace_text version trace.now) }
 {
     let mut out = Vec::with_capacity(alloc, STEP_LINE.saturating_mul(trace.lines.len()))?;
-    push_steps(alloc, &mut out, version, &trace.lines)?;
+    for line in &trace.lines {
+        push_step(alloc, &mut out, version, line)?;
+    }
     out.extend_from_slice(ending_text(alloc, trace.ending, trace.lines.len())?.as_bytes())?;
     Ok(out)
 }

@@ -8,7 +8,8 @@ use Rattle.field_words.specs.Words.{IsBytes}
 use Rattle.script.specs.Lines.{before, lines_of, onto_line}
 use Rattle.job_text.proofs.Marks.{Free, free_append, free_before, free_by}
 use Rattle.job_text.specs.Made.{words_of, digits_read, size_named, word_by, word_read, words_read, line_read, part_read, stays_inside, lines_read, both, made, is_blank, past_blanks, says}
-use Rattle.job_text.specs.Shown.{remark, is_in, is_past, mark_text, reason_text, line_text, lines_text, shown}
+use Rattle.job_text.specs.Meanings.{said_if}
+use Rattle.job_text.specs.Shown.{remark, is_in, is_past, reason_text, end_text, line_text, lines_text, shown}
 use Rattle.job_text.specs.{declared.note.Note.Note, declared.note.Note.TheVariants.Unread, declared.note.Piece.Piece}
 
 before_mark : (mark : ℕ) (xs rest : List ℕ) → Free mark xs → before mark (xs ++ mark ∷ rest) ≡ xs
@@ -129,20 +130,19 @@ to_end a b r m w rest = simp append_assoc
 to_mark : (a r : List ℕ) → a ++ (codes "  # " ++ r) ≡ (a ++ codes "  ") ++ 35 ∷ 32 ∷ r
 to_mark a r = sym (append_assoc a (codes "  ") (35 ∷ 32 ∷ r))
 
-free_mark : (is : Bool) → Free 10 (mark_text is)
-unfolding mark_text
+free_mark : (is : Bool) → Free 10 (said_if is (codes " <== refused here"))
 free_mark true = free_by 10 (codes " <== refused here") refl
 free_mark false = tt
 
 line_again : (n at b : ℕ) (bytes rest why : List ℕ) (note : Note) (refused : Option ℕ) → IsBytes (b ∷ bytes)
     → lines_read n false (lines_of (line_text at (b ∷ bytes) note refused why ++ rest))
     ≡ both (Ok (b ∷ bytes)) (lines_read (n + 1) false (lines_of (reason_text (is_in at (length (b ∷ bytes)) refused) why ++ rest)))
-unfolding line_text remark
+unfolding line_text end_text remark
 line_again n at b bytes rest why note refused fits =
     let digits = encode_lower (b ∷ bytes) in
     let is = is_in at (length (b ∷ bytes)) refused in
     let r = remark at (b ∷ bytes) note in
-    let m = mark_text is in
+    let m = said_if is (codes " <== refused here") in
     let w = reason_text is why in
     let line = digits ++ (codes "  # " ++ (r ++ m)) in
     let free_note : Free 10 (r ++ m) = free_append 10 r m (free_before 10 _) (free_mark is) in

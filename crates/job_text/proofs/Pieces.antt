@@ -1,7 +1,7 @@
 -- Lines behind others.
 use Rattle.std.proofs.Common.{◌≡◌, ℕ, ◌+◌, List, [], ◌∷◌, ◌++◌, length, length-append, Option, sym, subst, ◌∙◌, ap, append_assoc, append-nil, arith}
 use Rattle.std.proofs.Math.Seq.{take-append_seam, drop-append_seam}
-use Rattle.job_text.specs.{declared.note.Note.Note, declared.note.Piece.Piece, Shown.line_text, Shown.lines_text, Cuts.AreLines}
+use Rattle.job_text.specs.{declared.note.Note.Note, declared.note.Piece.Piece, Shown.line_text, Shown.lines_text, Cuts.AreLines, Cuts.AreAllLines}
 
 pub line_lines : (old new front why : List ℕ) (refused : Option ℕ) (at : ℕ) (note : Note) → new ≡ old ++ line_text at front note refused why
     → AreLines old new at front refused why
@@ -38,7 +38,7 @@ lines_step old pen mid all rest front back why refused start at split here later
 
 -- lines of all bytes
 pub whole_lines : (old new bytes why : List ℕ) (refused : Option ℕ) → AreLines old new 0 bytes refused why
-    → (pieces : List Piece) × (new ≡ old ++ lines_text 0 bytes pieces refused why)
+    → AreAllLines old new bytes refused why
 unfolding AreLines lines_text line_text
 whole_lines old new bytes why refused are =
     let all = are [] [] in (all.0, sym (append-nil new) ∙ (all.1 ∙ ap (λ l. old ++ lines_text 0 l all.0 refused why) (append-nil bytes)))

@@ -7,3 +7,7 @@ unfoldable pub AreLines : (old new : List ℕ) → ℕ → List ℕ → Option �
 AreLines old new at bytes refused why =
     (rest : List ℕ) (later : List Piece) → (pieces : List Piece)
     × (new ++ lines_text (at + length bytes) rest later refused why ≡ old ++ lines_text at (bytes ++ rest) pieces refused why)
+
+-- Lines of all bytes, for some cut into pieces, stand behind a text.
+abbrev pub AreAllLines : (old new bytes : List ℕ) → Option ℕ → List ℕ → Type 0
+AreAllLines old new bytes refused why = (pieces : List Piece) × (new ≡ old ++ lines_text 0 bytes pieces refused why)

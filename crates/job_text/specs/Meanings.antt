@@ -1,5 +1,5 @@
 -- What a field's number means, as it is said behind the number.
-use Rattle.std.specs.Prelude.{ℕ, ◌++◌, List, [], codes, decimal, ◌==◌, ◌%◌, ◌/◌, Option, Some, None, if◌then◌else◌}
+use Rattle.std.specs.Prelude.{ℕ, Bool, ◌++◌, List, [], codes, decimal, ◌==◌, ◌%◌, ◌/◌, Option, Some, None, if◌then◌else◌}
 use Rattle.packets.specs.StateWord.{attribute_count, is_extended}
 use Rattle.texture_layouts.specs.declared.surface.Tiling.TheVariants.{Raster, T, Lt}
 use Rattle.texture_layouts.specs.{declared.surface.Tiling.Tiling, declared.format.Style.Style, Format.general_style, Format.frame_style}
@@ -44,19 +44,12 @@ mode_name n =
 unfoldable pub index_text : ℕ → List ℕ
 index_text n = if n / 16 == 0 then codes "; 1 byte an index)" else codes "; 2 bytes an index)"
 
--- what is said where a number is one, and where its bit 0 is set
-unfoldable pub said_of_one : ℕ → List ℕ → List ℕ
-said_of_one n text = if n == 1 then text else []
-
-unfoldable pub said_of_bit : ℕ → List ℕ → List ℕ
-said_of_bit n text = if n % 2 == 1 then text else []
+-- what is said where it is so
+abbrev pub said_if : Bool → List ℕ → List ℕ
+said_if is text = if is then text else []
 
 unfoldable pub kind_text : ℕ → List ℕ
 kind_text n = if n == 0 then codes " (data)" else (if n == 1 then codes " (code)" else codes " (no kind)")
-
--- a surface that is absent has a handle's index of all ones
-unfoldable pub absent_text : ℕ → List ℕ
-absent_text n = if n == 4294967295 then codes " (absent)" else []
 
 -- what a shader state's word says of its record
 unfoldable pub extended_text : ℕ → List ℕ
@@ -68,14 +61,14 @@ state_text n = codes " (attributes: " ++ (decimal (attribute_count n) ++ extende
 -- what the number of a field means; nothing where the name says it
 abbrev pub field_meaning : Field → ℕ → List ℕ
 field_meaning Kind n = kind_text n
-field_meaning Flags n = said_of_one n (codes " (the clear values are used)")
-field_meaning HandleIndex n = absent_text n
+field_meaning Flags n = said_if (n == 1) (codes " (the clear values are used)")
+field_meaning HandleIndex n = said_if (n == 4294967295) (codes " (absent)")
 field_meaning FrameBits n = style_text (frame_style (n % 65536))
 field_meaning GeneralBits n = style_text (general_style (n % 65536))
-field_meaning SurfaceFlags n = said_of_bit n (codes " (full resolution)")
+field_meaning SurfaceFlags n = said_if (n % 2 == 1) (codes " (full resolution)")
 field_meaning PrimitiveMode n = codes " (" ++ (mode_name (n % 16) ++ codes ")")
 field_meaning IndexMode n = codes " (" ++ (mode_name (n % 16) ++ index_text n)
 field_meaning StateWord n = state_text n
-field_meaning BinnerFlags n = said_of_bit n (codes " (four samples a pixel)")
-field_meaning RecordFlags n = said_of_bit n (codes " (single-threaded)")
+field_meaning BinnerFlags n = said_if (n % 2 == 1) (codes " (four samples a pixel)")
+field_meaning RecordFlags n = said_if (n % 2 == 1) (codes " (single-threaded)")
 field_meaning field n = []

@@ -1,13 +1,13 @@
 -- What a line says of its bytes.
-use Rattle.std.specs.Prelude.{ℕ, ◌++◌, List, [], codes, decimal, drop, slice_index, Option, Some, None, Bool, if◌then◌else◌}
+use Rattle.std.specs.Prelude.{ℕ, ◌++◌, List, [], codes, decimal, drop, slice_index, Option, Some, None}
 use Rattle.field_words.specs.Words.{u32_at, u64_at}
 use Rattle.qpu_asm.specs.Printed.{word_text}
 use Rattle.qpu_isa.specs.Terms.{is_switch, is_end, writes_s}
 use Rattle.job_text.specs.declared.note.Note.TheVariants.{Number, Named, Sized, Handle, Packet, BehindHalt, Records, Uniform, Taken, Data, Instruction, Unread}
 use Rattle.job_text.specs.{declared.note.Note.Note, declared.note.Meaning.Meaning, declared.note.Part.Part, declared.note.Stage.Stage}
-use Rattle.job_text.specs.{declared.note.Field.Field, Meanings.bits_style, Meanings.size_text, Uniforms.meaning_text}
-use Rattle.job_text.specs.Names.{named_text, of_job, part_text, stage_name, packet_name}
-use Rattle.job_text.specs.Rows.{packet_fields, valued, fields_text}
+use Rattle.job_text.specs.{declared.note.Field.Field, Meanings.bits_style, Meanings.size_text, Meanings.said_if, Uniforms.meaning_text}
+use Rattle.job_text.specs.Names.{named_text, of_job, part_text, stage_name}
+use Rattle.job_text.specs.Rows.{packet_text, valued}
 
 -- the same of the number that some bytes are, where numbers count
 unfoldable pub counted : ℕ → List ℕ → ℕ → List ℕ → List ℕ → List ℕ
@@ -21,13 +21,6 @@ taken_text (Some uniform) = codes "; takes uniform " ++ decimal uniform
 -- which shader takes a uniform, and what it makes of it
 unfoldable pub meant_text : ℕ → Stage → Meaning → List ℕ
 meant_text k stage meaning = codes "; record " ++ (decimal k ++ (codes " " ++ (stage_name stage ++ (codes ": " ++ meaning_text meaning))))
-
--- the name of a packet, and its fields
-unfoldable pub packet_text : List ℕ → List ℕ
-packet_text packet = packet_name (slice_index packet 0) ++ fields_text (packet_fields (slice_index packet 0)) (drop 1 packet)
-
-abbrev pub said_if : Bool → List ℕ → List ℕ
-said_if is text = if is then text else []
 
 -- what an instruction does beside its operations
 unfoldable pub facts_text : ℕ → List ℕ
@@ -46,31 +39,23 @@ numbered_text b i = codes "buffer " ++ (decimal b ++ (codes " instruction " ++ (
 
 -- a packet of a job's list, and the buffer of indexes behind it
 unfoldable pub listed_text : ℕ → Option ℕ → List ℕ → List ℕ
-listed_text j buffer packet = of_job j (codes "binner list: " ++ (packet_text packet ++ named_text buffer))
+listed_text j buffer packet = of_job j (codes "binner list: " ++ (packet_text (slice_index packet 0) (drop 1 packet) ++ named_text buffer))
 
 -- a field, and what its part is
 unfoldable pub field_text : Part → Field → List ℕ → List ℕ
 field_text part field bytes = part_text part ++ (codes ": " ++ valued field bytes)
 
--- the bits of a surface, and the bytes that it takes in a frame of a width and height
-unfoldable pub sized_text : Part → Field → ℕ → ℕ → List ℕ → List ℕ
-sized_text part field width height bytes = field_text part field bytes ++ size_text (bits_style field (u32_at bytes 0)) width height
-
--- a uniform, and what the shader that takes it makes of it
-unfoldable pub uniform_text : ℕ → ℕ → ℕ → Stage → Meaning → List ℕ → List ℕ
-uniform_text j i k stage meaning bytes = counted j (codes "uniform ") i (codes ": ") bytes ++ meant_text k stage meaning
-
 -- what a line says of its bytes
 unfoldable pub note_text : Note → List ℕ → List ℕ
 note_text (Number part field) bytes = field_text part field bytes
 note_text (Named part field buffer) bytes = field_text part field bytes ++ named_text buffer
-note_text (Sized part field width height) bytes = sized_text part field width height bytes
+note_text (Sized part field width height) bytes = field_text part field bytes ++ size_text (bits_style field (u32_at bytes 0)) width height
 note_text (Handle j i) bytes = counted j (codes "handle ") i (codes ": buffer ") bytes
 note_text (Packet j buffer) bytes = listed_text j buffer bytes
 note_text (BehindHalt j) bytes = of_job j (codes "binner list: behind the halt")
 note_text (Records j) bytes = of_job j (codes "shader records")
 note_text (Uniform j i) bytes = counted j (codes "uniform ") i (codes ": ") bytes
-note_text (Taken j i k stage meaning) bytes = uniform_text j i k stage meaning bytes
+note_text (Taken j i k stage meaning) bytes = counted j (codes "uniform ") i (codes ": ") bytes ++ meant_text k stage meaning
 note_text (Data b) bytes = codes "buffer " ++ (decimal b ++ codes " content")
 note_text (Instruction b i uniform) bytes = numbered_text b i ++ instruction_text (u64_at bytes 0) uniform
 note_text Unread bytes = codes "unread"

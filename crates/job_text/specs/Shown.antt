@@ -2,7 +2,7 @@
 use Rattle.std.specs.Prelude.{ℕ, ◌+◌, ◌&&◌, Bool, false, nat_le, nat_lt, List, [], ◌∷◌, ◌++◌, length, take, drop, codes, decimal, Option, Some, None, if◌then◌else◌}
 use Rattle.hex.specs.Hex.{encode_lower}
 use Rattle.script.specs.Lines.{before}
-use Rattle.job_text.specs.{declared.note.Note.Note, declared.note.Note.TheVariants.Unread, declared.note.Piece.Piece, Notes.note_text}
+use Rattle.job_text.specs.{declared.note.Note.Note, declared.note.Note.TheVariants.Unread, declared.note.Piece.Piece, Meanings.said_if, Notes.note_text}
 
 -- the offset of the bytes, and what they are, up to a line's end
 unfoldable pub remark : ℕ → List ℕ → Note → List ℕ
@@ -17,22 +17,20 @@ unfoldable pub is_past : ℕ → Option ℕ → Bool
 is_past count None = false
 is_past count (Some offset) = nat_le count offset
 
--- what stands behind the note on the line of that offset, and on a line of its own below it
-unfoldable pub mark_text : Bool → List ℕ
-mark_text is = if is then codes " <== refused here" else []
-
+-- a line of its own below the line of that offset
 unfoldable pub reason_text : Bool → List ℕ → List ℕ
 reason_text is why = if is then codes "# " ++ (before 10 why ++ codes "\n") else []
+
+-- a line's end: where it is refused there, a mark and the reason
+unfoldable pub end_text : Bool → List ℕ → List ℕ
+end_text is why = said_if is (codes " <== refused here") ++ (codes "\n" ++ reason_text is why)
 
 -- the line of some bytes, and the reason where the refusal's offset lies in them; none where there is no byte
 unfoldable pub line_text : ℕ → List ℕ → Note → Option ℕ → List ℕ → List ℕ
 line_text at [] note refused why = []
 line_text at (byte ∷ bytes) note refused why =
     encode_lower (byte ∷ bytes)
-    ++ (codes "  # "
-    ++ (remark at (byte ∷ bytes) note
-    ++ (mark_text (is_in at (length (byte ∷ bytes)) refused)
-    ++ (codes "\n" ++ reason_text (is_in at (length (byte ∷ bytes)) refused) why))))
+    ++ (codes "  # " ++ (remark at (byte ∷ bytes) note ++ end_text (is_in at (length (byte ∷ bytes)) refused) why))
 
 -- the lines of bytes from an offset on, piece by piece
 unfoldable pub lines_text : ℕ → List ℕ → List Piece → Option ℕ → List ℕ → List ℕ

@@ -30,14 +30,14 @@ setup_text n words =
     if n == 0 then base_text (texture_in words) else (if n == 1 then sides_text (texture_in words) else codes "further set-up word")
 
 -- the number of a sample before what is said of it
-unfoldable pub of_sample : ℕ → List ℕ → List ℕ
-of_sample i text = codes "sample " ++ (decimal i ++ (codes " " ++ text))
+unfoldable pub sample_text : ℕ → List ℕ
+sample_text i = codes "sample " ++ (decimal i ++ codes " ")
 
 -- what a shader makes of the word
 unfoldable pub meaning_text : Meaning → List ℕ
 meaning_text Plain = codes "number"
 meaning_text Stream = codes "address of the uniforms"
-meaning_text (Source i buffer) = of_sample i (codes "handle" ++ named_text buffer)
-meaning_text (Address i) = of_sample i (codes "address")
-meaning_text (Bound i) = of_sample i (codes "bound")
-meaning_text (Setup i n words) = of_sample i (setup_text n words)
+meaning_text (Source i buffer) = sample_text i ++ (codes "handle" ++ named_text buffer)
+meaning_text (Address i) = sample_text i ++ codes "address"
+meaning_text (Bound i) = sample_text i ++ codes "bound"
+meaning_text (Setup i n words) = sample_text i ++ setup_text n words

@@ -75,11 +75,7 @@ fn block_text(alloc: Global, line: usize, lines: &[u8]) -> Result<Vec<u8>, Stop<
         put_asm_line(&mut text, cut.first)?;
         rest = cut.rest;
     }
-    Err(Stop::Fault(MakeFault {
-        line,
-        column: 1,
-        mistake: Mistake::NoEnd,
-    }))
+    Err(Stop::Fault(MakeFault::new(line, 1, Mistake::NoEnd)))
 }
 
 // Appends instruction words, of each the lowest byte first.
@@ -124,11 +120,7 @@ fn put_assembled(
     ensures fault { IfErr result (IsFaultOf (assembled line text.now)) }
 {
     if text.len() >= 4_294_967_295 {
-        return Err(Stop::Fault(MakeFault {
-            line,
-            column: 1,
-            mistake: Mistake::LongBlock,
-        }));
+        return Err(Stop::Fault(MakeFault::new(line, 1, Mistake::LongBlock)));
     }
     match assemble(alloc, text) {
         Ok(words) => {

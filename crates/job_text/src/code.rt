@@ -6,24 +6,12 @@ use qpu_isa::writes::{takes, tmu_writes, writes_s};
 
 /// What is known before an instruction: the uniforms taken so far, the set-up words that each TMU keeps, and how many
 /// instructions there are from the program end on.
-#[derive(Clone, Copy)]
+#[derive(Clone, Copy, Default)]
 pub struct Taking {
     count: usize,
     pending0: u16,
     pending1: u16,
     behind: usize,
-}
-
-impl Taking {
-    /// What is known before the first instruction.
-    pub(crate) fn first() -> Taking {
-        Taking {
-            count: 0,
-            pending0: 0,
-            pending1: 0,
-            behind: 0,
-        }
-    }
 }
 
 // How many set-up words a TMU keeps behind an instruction.

@@ -49,3 +49,15 @@ pub struct MakeFault {
     pub column: usize,
     pub mistake: Mistake,
 }
+
+impl MakeFault {
+    pub(crate) fn new(line: usize, column: usize, mistake: Mistake) -> MakeFault
+        ensures { result ≡ record { line = line; column = column; mistake = mistake } }
+    {
+        MakeFault {
+            line,
+            column,
+            mistake,
+        }
+    }
+}

@@ -1,7 +1,8 @@
 //! What a line says of an instruction.
 ghost use Rattle.std.specs.Prelude.{◌≡◌, ◌++◌, OnOk};
-ghost use Rattle.job_text.specs.Notes.{taken_text, said_if, facts_text, instruction_text, numbered_text};
+ghost use Rattle.job_text.specs.Notes.{taken_text, facts_text, instruction_text, numbered_text};
 
+use crate::meanings::put_if;
 use crate::numbers::put_number;
 use qpu_asm::put_word;
 use qpu_isa::word::{is_end, is_switch};
@@ -19,15 +20,6 @@ fn put_taken(out: &mut Vec<u8>, uniform: Option<usize>) -> Result<(), AllocError
             put_number(out, uniform)
         }
     }
-}
-
-fn put_if(out: &mut Vec<u8>, is: bool, text: &[u8]) -> Result<(), AllocError>
-    ensures { OnOk result (out.new.items ≡ out.old.items ++ said_if is text.now) }
-{
-    if is {
-        out.extend_from_slice(text)?;
-    }
-    Ok(())
 }
 
 // Appends what an instruction does beside its operations.

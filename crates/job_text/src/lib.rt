@@ -10,7 +10,6 @@ mod chunks;
 mod code;
 mod cuts;
 mod fault;
-mod fields;
 mod instructions;
 mod list;
 mod meanings;

@@ -1,7 +1,8 @@
 //! A binner list and the records of its states as pieces.
 
 use crate::chunks::{push_chunks, push_limited};
-use crate::note::{Cut, Field, Note, Part, Stage};
+use crate::names::field_size;
+use crate::note::{Cut, Field, Note, Part, STAGES, Stage};
 use field_words::get_u32;
 use packets::opcode::{BUFFER_HANDLES, GL_SHADER_STATE, HALT, INDEXED_PRIMITIVE_LIST};
 use packets::{attribute_count, bin_taken, is_extended};
@@ -9,31 +10,12 @@ use std::alloc::AllocError;
 
 /// The buffer that a handle names, by the handles of its job.
 pub(crate) fn buffer_of(handles: &[u8], index: u32) -> Option<usize> {
-    match get_u32(handles, 4 * index as usize) {
-        Some(buffer) => Some(buffer as usize),
-        None => None,
-    }
+    Some(get_u32(handles, 4 * index as usize)? as usize)
 }
 
-// The buffer of indexes behind a packet, where `before` is the one before it.
-fn index_buffer(handles: &[u8], packet: &[u8], opcode: u8, before: Option<usize>) -> Option<usize> {
-    if opcode == BUFFER_HANDLES {
-        match get_u32(packet, 1) {
-            Some(index) => buffer_of(handles, index),
-            None => None,
-        }
-    } else {
-        before
-    }
-}
-
-// The buffer that a packet's line names.
-fn named(opcode: u8, buffer: Option<usize>) -> Option<usize> {
-    if opcode == BUFFER_HANDLES || opcode == INDEXED_PRIMITIVE_LIST {
-        buffer
-    } else {
-        None
-    }
+/// The buffer of the handle whose index stands at a place.
+pub(crate) fn buffer_at(handles: &[u8], bytes: &[u8], at: usize) -> Option<usize> {
+    buffer_of(handles, get_u32(bytes, at)?)
 }
 
 /// Appends the pieces of a binner list: its packets, and what stands behind a halt.
@@ -45,56 +27,53 @@ pub(crate) fn push_list(
 ) -> Result<(), AllocError> {
     let mut rest = list;
     let mut buffer = buffer_of(handles, 0);
-    while let Some((opcode, _)) = rest.split_first() {
-        let size = (bin_taken(*opcode) as usize).min(rest.len());
-        buffer = index_buffer(handles, rest, *opcode, buffer);
-        out.push(Cut::line(size, Note::Packet(job, named(*opcode, buffer))))?;
-        let halts = *opcode == HALT;
+    while let Some((opcode, behind)) = rest.split_first() {
+        let opcode = *opcode;
+        let size = (bin_taken(opcode) as usize).min(rest.len());
+        if opcode == BUFFER_HANDLES {
+            buffer = buffer_at(handles, behind, 0);
+        }
+        let is_named = opcode == BUFFER_HANDLES || opcode == INDEXED_PRIMITIVE_LIST;
+        let named = if is_named { buffer } else { None };
+        out.push(Cut::line(size, Note::Packet(job, named)))?;
         rest = &rest[size..];
-        if halts {
+        if opcode == HALT {
             break;
         }
     }
     push_chunks(out, 16, rest.len(), Note::BehindHalt(job))
 }
 
-// Appends a handle of a record.
+// A record of a job's by its number, all the records, and the handles of the job.
+#[derive(Clone, Copy)]
+struct Record<'a> {
+    job: u32,
+    number: usize,
+    records: &'a [u8],
+    handles: &'a [u8],
+}
+
+// Appends a handle of a record of which so many bytes are left, and says how many are left behind it, as those below do.
 fn push_handle(
     out: &mut Vec<Cut>,
     left: usize,
-    records: &[u8],
-    handles: &[u8],
+    record: Record<'_>,
     part: Part,
 ) -> Result<usize, AllocError> {
-    let index = get_u32(records, records.len().saturating_sub(left)).unwrap_or(u32::MAX);
-    let buffer = buffer_of(handles, index);
+    let at = record.records.len().saturating_sub(left);
+    let buffer = buffer_at(record.handles, record.records, at);
     push_limited(out, left, 4, Note::Named(part, Field::NamedHandle, buffer))
 }
 
-// Appends the handles of a record with so many attributes.
-fn push_handles(
+fn push_fields(
     out: &mut Vec<Cut>,
     left: usize,
-    records: &[u8],
-    handles: &[u8],
-    job: u32,
-    record: usize,
-    attributes: usize,
+    part: Part,
+    fields: &[Field],
 ) -> Result<usize, AllocError> {
-    let part = Part::Shader(job, record, Stage::Fragment);
-    let left = push_handle(out, left, records, handles, part)?;
-    let part = Part::Shader(job, record, Stage::Vertex);
-    let left = push_handle(out, left, records, handles, part)?;
-    let part = Part::Shader(job, record, Stage::Coordinate);
-    let mut left = push_handle(out, left, records, handles, part)?;
-    for attribute in 0..attributes {
-        left = push_handle(
-            out,
-            left,
-            records,
-            handles,
-            Part::Attribute(job, record, attribute),
-        )?;
+    let mut left = left;
+    for field in fields {
+        left = push_limited(out, left, field_size(*field), Note::Number(part, *field))?;
     }
     Ok(left)
 }
@@ -103,78 +82,87 @@ fn push_handles(
 fn push_stage(
     out: &mut Vec<Cut>,
     left: usize,
-    job: u32,
-    record: usize,
+    record: Record<'_>,
     stage: Stage,
 ) -> Result<usize, AllocError> {
-    let part = Part::Shader(job, record, stage);
-    let left = push_limited(out, left, 4, Note::Number(part, Field::CodeAddress))?;
-    push_limited(out, left, 4, Note::Number(part, Field::UniformsAddress))
+    let part = Part::Shader(record.job, record.number, stage);
+    push_fields(
+        out,
+        left,
+        part,
+        &[Field::CodeAddress, Field::UniformsAddress],
+    )
 }
 
-// Appends the fixed part of a record.
-fn push_fixed(
+fn push_fixed(out: &mut Vec<Cut>, left: usize, record: Record<'_>) -> Result<usize, AllocError> {
+    let part = Part::Record(record.job, record.number);
+    let left = push_fields(out, left, part, &[Field::RecordFlags, Field::FurtherBytes])?;
+    let left = push_stage(out, left, record, Stage::Fragment)?;
+    let left = push_fields(out, left, part, &[Field::FurtherWord])?;
+    let left = push_stage(out, left, record, Stage::Vertex)?;
+    let left = push_fields(out, left, part, &[Field::FurtherWord])?;
+    push_stage(out, left, record, Stage::Coordinate)
+}
+
+// Appends these fields of each of so many attributes of a record.
+fn push_attributes(
     out: &mut Vec<Cut>,
     left: usize,
-    job: u32,
-    record: usize,
-) -> Result<usize, AllocError> {
-    let part = Part::Record(job, record);
-    let left = push_limited(out, left, 2, Note::Number(part, Field::RecordFlags))?;
-    let left = push_limited(out, left, 2, Note::Number(part, Field::FurtherBytes))?;
-    let left = push_stage(out, left, job, record, Stage::Fragment)?;
-    let left = push_limited(out, left, 4, Note::Number(part, Field::FurtherWord))?;
-    let left = push_stage(out, left, job, record, Stage::Vertex)?;
-    let left = push_limited(out, left, 4, Note::Number(part, Field::FurtherWord))?;
-    push_stage(out, left, job, record, Stage::Coordinate)
-}
-
-// Appends the two words of an attribute.
-fn push_attribute(out: &mut Vec<Cut>, left: usize, part: Part) -> Result<usize, AllocError> {
-    let left = push_limited(out, left, 4, Note::Number(part, Field::DataAddress))?;
-    let left = push_limited(out, left, 1, Note::Number(part, Field::DataSize))?;
-    let left = push_limited(out, left, 1, Note::Number(part, Field::Stride))?;
-    let left = push_limited(out, left, 1, Note::Number(part, Field::VertexOffset))?;
-    push_limited(out, left, 1, Note::Number(part, Field::CoordinateOffset))
-}
-
-// Appends what an extended record has behind its attributes: the room of those up to eight, and the strides' words.
-fn push_extension(
-    out: &mut Vec<Cut>,
-    left: usize,
-    job: u32,
-    record: usize,
+    record: Record<'_>,
     attributes: usize,
+    fields: &[Field],
 ) -> Result<usize, AllocError> {
-    let unused = if attributes < 8 { 8 - attributes } else { 0 };
-    let mut left = push_limited(out, left, 8 * unused, Note::Records(job))?;
+    let mut left = left;
     for attribute in 0..attributes {
-        let note = Note::Number(Part::Attribute(job, record, attribute), Field::HighStride);
-        left = push_limited(out, left, 4, note)?;
+        let part = Part::Attribute(record.job, record.number, attribute);
+        left = push_fields(out, left, part, fields)?;
     }
     Ok(left)
 }
 
-// Appends the pieces of a record by its state's word.
+fn push_handles(
+    out: &mut Vec<Cut>,
+    left: usize,
+    record: Record<'_>,
+    attributes: usize,
+) -> Result<usize, AllocError> {
+    let mut left = left;
+    for stage in STAGES {
+        let part = Part::Shader(record.job, record.number, stage);
+        left = push_handle(out, left, record, part)?;
+    }
+    for attribute in 0..attributes {
+        let part = Part::Attribute(record.job, record.number, attribute);
+        left = push_handle(out, left, record, part)?;
+    }
+    Ok(left)
+}
+
+// Appends the pieces of a record by its state's word. An extended one has behind its attributes the room of those up to eight, and the
+// strides' words.
 fn push_record(
     out: &mut Vec<Cut>,
     left: usize,
-    records: &[u8],
-    handles: &[u8],
-    job: u32,
-    record: usize,
+    record: Record<'_>,
     state: u32,
 ) -> Result<usize, AllocError> {
     let attributes = attribute_count(state) as usize;
-    let left = push_handles(out, left, records, handles, job, record, attributes)?;
-    let mut left = push_fixed(out, left, job, record)?;
-    for attribute in 0..attributes {
-        left = push_attribute(out, left, Part::Attribute(job, record, attribute))?;
+    let fields = [
+        Field::Address,
+        Field::DataSize,
+        Field::Stride,
+        Field::VertexOffset,
+        Field::CoordinateOffset,
+    ];
+    let left = push_handles(out, left, record, attributes)?;
+    let left = push_fixed(out, left, record)?;
+    let left = push_attributes(out, left, record, attributes, &fields)?;
+    if !is_extended(state) {
+        return Ok(left);
     }
-    if is_extended(state) {
-        left = push_extension(out, left, job, record, attributes)?;
-    }
-    Ok(left)
+    let unused = 8usize.saturating_sub(attributes);
+    let left = push_limited(out, left, 8 * unused, Note::Records(record.job))?;
+    push_attributes(out, left, record, attributes, &[Field::HighStride])
 }
 
 /// Appends the pieces of a job's shader records, which are those of its list's states, and to `starts` where each begins.
@@ -188,17 +176,20 @@ pub(crate) fn push_records(
 ) -> Result<(), AllocError> {
     let mut rest = list;
     let mut left = records.len();
-    let mut record = 0usize;
     while let Some((opcode, behind)) = rest.split_first() {
         let size = (bin_taken(*opcode) as usize).min(rest.len());
         if *opcode == HALT || left == 0 {
             break;
         }
         if *opcode == GL_SHADER_STATE {
-            let state = get_u32(behind, 0).unwrap_or(0);
+            let record = Record {
+                job,
+                number: starts.len(),
+                records,
+                handles,
+            };
             starts.push(records.len().saturating_sub(left))?;
-            left = push_record(out, left, records, handles, job, record, state)?;
-            record = record.saturating_add(1);
+            left = push_record(out, left, record, get_u32(behind, 0).unwrap_or(0))?;
         }
         rest = &rest[size..];
     }

@@ -2,7 +2,7 @@
 ghost use Rattle.std.specs.Prelude.{◌≡◌, ◌++◌, ◌%◌, ◌<◌, ◌^◌, codes, OnOk, IfSome};
 ghost use Rattle.texture_layouts.specs.Format.{IsShort};
 ghost use Rattle.texture_layouts.specs.Surface.{size_for};
-ghost use Rattle.job_text.specs.Meanings.{tiling_name, style_text, bits_style, size_text, mode_name, index_text, said_of_one, said_of_bit, kind_text, absent_text, extended_text, state_text, field_meaning};
+ghost use Rattle.job_text.specs.Meanings.{tiling_name, style_text, bits_style, size_text, mode_name, index_text, said_if, kind_text, extended_text, state_text, field_meaning};
 
 use crate::note::Field;
 use crate::numbers::put_number;
@@ -67,14 +67,12 @@ pub(crate) fn put_size(
     requires { IfSome style (λ style. IsShort style.cpp) }
     ensures { OnOk result (out.new.items ≡ out.old.items ++ size_text style width height) }
 {
-    match style {
-        None => Ok(()),
-        Some(style) => {
-            out.extend_from_slice(b", ")?;
-            put_number(out, style_size(style, width, height) as usize)?;
-            out.extend_from_slice(b" bytes")
-        }
+    if let Some(style) = style {
+        out.extend_from_slice(b", ")?;
+        put_number(out, style_size(style, width, height) as usize)?;
+        out.extend_from_slice(b" bytes")?;
     }
+    Ok(())
 }
 
 #[tactic(auto, unfolding(crate::specs::Meanings::mode_name))]
@@ -104,32 +102,22 @@ fn index_text(number: u32) -> &'static str
     }
 }
 
+/// Appends a text where it is so.
+pub(crate) fn put_if(out: &mut Vec<u8>, is: bool, text: &[u8]) -> Result<(), AllocError>
+    ensures { OnOk result (out.new.items ≡ out.old.items ++ said_if is text.now) }
+{
+    if is {
+        out.extend_from_slice(text)?;
+    }
+    Ok(())
+}
+
 fn put_mode(out: &mut Vec<u8>, number: u32, end: &str) -> Result<(), AllocError>
     ensures { OnOk result (out.new.items ≡ out.old.items ++ (codes " (" ++ (mode_name (number % 16) ++ end.now))) }
 {
     out.extend_from_slice(b" (")?;
     out.extend_from_slice(mode_name(number % 16).as_bytes())?;
     out.extend_from_slice(end.as_bytes())
-}
-
-#[tactic(auto, unfolding(crate::specs::Meanings::said_of_one))]
-fn put_of_one(out: &mut Vec<u8>, number: u32, text: &[u8]) -> Result<(), AllocError>
-    ensures { OnOk result (out.new.items ≡ out.old.items ++ said_of_one number text.now) }
-{
-    if number == 1 {
-        out.extend_from_slice(text)?;
-    }
-    Ok(())
-}
-
-#[tactic(auto, unfolding(crate::specs::Meanings::said_of_bit))]
-fn put_of_bit(out: &mut Vec<u8>, number: u32, text: &[u8]) -> Result<(), AllocError>
-    ensures { OnOk result (out.new.items ≡ out.old.items ++ said_of_bit number text.now) }
-{
-    if number % 2 == 1 {
-        out.extend_from_slice(text)?;
-    }
-    Ok(())
 }
 
 #[tactic(auto, unfolding(crate::specs::Meanings::kind_text))]
@@ -141,16 +129,6 @@ fn kind_text(number: u32) -> &'static str
         1 => " (code)",
         _ => " (no kind)",
     }
-}
-
-#[tactic(auto, unfolding(crate::specs::Meanings::absent_text))]
-fn put_absent(out: &mut Vec<u8>, number: u32) -> Result<(), AllocError>
-    ensures { OnOk result (out.new.items ≡ out.old.items ++ absent_text number) }
-{
-    if number == u32::MAX {
-        out.extend_from_slice(b" (absent)")?;
-    }
-    Ok(())
 }
 
 #[tactic(auto, unfolding(crate::specs::Meanings::extended_text))]
@@ -180,16 +158,16 @@ pub(crate) fn put_meaning(out: &mut Vec<u8>, field: Field, number: u32) -> Resul
 {
     match field {
         Field::Kind => out.extend_from_slice(kind_text(number).as_bytes()),
-        Field::Flags => put_of_one(out, number, b" (the clear values are used)"),
-        Field::HandleIndex => put_absent(out, number),
+        Field::Flags => put_if(out, number == 1, b" (the clear values are used)"),
+        Field::HandleIndex => put_if(out, number == u32::MAX, b" (absent)"),
         Field::FrameBits => put_style(out, frame_style((number % 65536) as u16)),
         Field::GeneralBits => put_style(out, general_style((number % 65536) as u16)),
-        Field::SurfaceFlags => put_of_bit(out, number, b" (full resolution)"),
+        Field::SurfaceFlags => put_if(out, number % 2 == 1, b" (full resolution)"),
         Field::PrimitiveMode => put_mode(out, number, ")"),
         Field::IndexMode => put_mode(out, number, index_text(number)),
         Field::StateWord => put_state(out, number),
-        Field::BinnerFlags => put_of_bit(out, number, b" (four samples a pixel)"),
-        Field::RecordFlags => put_of_bit(out, number, b" (single-threaded)"),
+        Field::BinnerFlags => put_if(out, number % 2 == 1, b" (four samples a pixel)"),
+        Field::RecordFlags => put_if(out, number % 2 == 1, b" (single-threaded)"),
         _ => Ok(()),
     }
 }

@@ -1,15 +1,9 @@
 //! The names of what a file has.
 ghost use Rattle.std.specs.Prelude.{◌≡◌, ◌++◌, codes, decimal, OnOk};
-ghost use Rattle.job_text.specs.Names.{named_text, role_name, stage_name, field_name, field_size, part_text, packet_name, of_job};
+ghost use Rattle.job_text.specs.Names.{named_text, role_name, stage_name, field_name, field_size, part_text, of_job};
 
 use crate::note::{Field, Part, Role, Stage};
 use crate::numbers::put_number;
-use packets::opcode::{
-    ARRAY_PRIMITIVE_LIST, BUFFER_HANDLES, CLIP_WINDOW, CLIPPER_XY_SCALING, CLIPPER_Z_SCALING,
-    CONFIGURATION_BITS, DEPTH_OFFSET, FLAT_SHADE_FLAGS, FLUSH, GL_SHADER_STATE, HALT,
-    INCREMENT_SEMAPHORE, INDEXED_PRIMITIVE_LIST, LINE_WIDTH, NOP, POINT_SIZE,
-    PRIMITIVE_LIST_FORMAT, RHT_X_BOUNDARY, START_TILE_BINNING, TILE_BINNING_MODE, VIEWPORT_OFFSET,
-};
 use std::alloc::AllocError;
 
 fn role_name(role: Role) -> &'static str
@@ -25,7 +19,6 @@ fn role_name(role: Role) -> &'static str
     }
 }
 
-/// The name of a shader.
 pub(crate) fn stage_name(stage: Stage) -> &'static str
     ensures { result.now ≡ stage_name stage }
 {
@@ -40,153 +33,105 @@ pub(crate) fn stage_name(stage: Stage) -> &'static str
 pub(crate) fn put_named(out: &mut Vec<u8>, buffer: Option<usize>) -> Result<(), AllocError>
     ensures { OnOk result (out.new.items ≡ out.old.items ++ named_text buffer) }
 {
-    match buffer {
-        None => Ok(()),
-        Some(buffer) => {
-            out.extend_from_slice(b" (buffer ")?;
-            put_number(out, buffer)?;
-            out.extend_from_slice(b")")
-        }
+    if let Some(buffer) = buffer {
+        out.extend_from_slice(b" (buffer ")?;
+        put_number(out, buffer)?;
+        out.extend_from_slice(b")")?;
     }
+    Ok(())
 }
 
-/// The name of a field.
-pub(crate) fn field_name(field: Field) -> &'static str
-    ensures { result.now ≡ field_name field }
+/// The name of a field, and how many bytes it has.
+pub(crate) fn field_row(field: Field) -> (&'static str, usize)
+    ensures name { result.0.now ≡ field_name field }
+    ensures size { result.1 ≡ field_size field }
 {
     match field {
-        Field::Magic => "letters",
-        Field::Version => "version",
-        Field::MemorySize => "memory size",
-        Field::ListsPlace => "lists' place",
-        Field::ListsSize => "lists' size",
-        Field::TilePlace => "tile region's place",
-        Field::TileSlots => "tile slots",
-        Field::Buffers => "buffers",
-        Field::Jobs => "jobs",
-        Field::Place => "place",
-        Field::Size => "size",
-        Field::Client => "client",
-        Field::Kind => "kind",
-        Field::Content => "bytes of content",
-        Field::Flags => "flags",
-        Field::Handles => "handles",
-        Field::BinSize => "bytes of the binner list",
-        Field::RecordsSize => "bytes of the records",
-        Field::States => "declared shader states",
-        Field::UniformsSize => "bytes of the uniforms",
-        Field::Width => "width",
-        Field::Height => "height",
-        Field::MinX => "smallest tile x",
-        Field::MinY => "smallest tile y",
-        Field::MaxX => "largest tile x",
-        Field::MaxY => "largest tile y",
-        Field::HandleIndex => "handle's index",
-        Field::Offset => "offset",
-        Field::FrameBits => "bits",
-        Field::GeneralBits => "bits",
-        Field::SampleBits => "bits",
-        Field::SurfaceFlags => "flags",
-        Field::FirstColor => "clear colour 0",
-        Field::SecondColor => "clear colour 1",
-        Field::ClearZ => "clear Z",
-        Field::ClearStencil => "clear stencil",
-        Field::Zeros => "zeros",
-        Field::PrimitiveMode => "mode",
-        Field::IndexMode => "mode and index type",
-        Field::Length => "length",
-        Field::FirstIndex => "first index",
-        Field::IndexAddress => "address",
-        Field::MaxIndex => "maximum index",
-        Field::ListFormat => "format",
-        Field::StateWord => "word",
-        Field::ConfigurationBits => "bits",
-        Field::FlatFlags => "flags",
-        Field::PointWidth => "value",
-        Field::Boundary => "boundary",
-        Field::DepthFactor => "factor",
-        Field::DepthUnits => "units",
-        Field::ClipLeft => "left",
-        Field::ClipBottom => "bottom",
-        Field::ClipWidth => "width",
-        Field::ClipHeight => "height",
-        Field::CenterX => "x",
-        Field::CenterY => "y",
-        Field::ScaleX => "x scale",
-        Field::ScaleY => "y scale",
-        Field::ScaleZ => "z scale",
-        Field::OffsetZ => "z offset",
-        Field::ListsAddress => "allocation address",
-        Field::ListsBytes => "allocation size",
-        Field::StatesAddress => "state address",
-        Field::TilesAcross => "tiles across",
-        Field::TilesDown => "tiles down",
-        Field::BinnerFlags => "flags",
-        Field::IndexHandle => "handle of the index buffer",
-        Field::FurtherHandle => "further handle",
-        Field::NamedHandle => "handle",
-        Field::RecordFlags => "flags",
-        Field::FurtherBytes => "further bytes",
-        Field::CodeAddress => "code address",
-        Field::UniformsAddress => "uniforms' address",
-        Field::FurtherWord => "further word",
-        Field::DataAddress => "address",
-        Field::DataSize => "size less one",
-        Field::Stride => "stride",
-        Field::VertexOffset => "vertex shader's offset",
-        Field::CoordinateOffset => "coordinate shader's offset",
-        Field::HighStride => "high bits of the stride",
+        Field::Magic => ("letters", 4),
+        Field::Version => ("version", 4),
+        Field::MemorySize => ("memory size", 4),
+        Field::ListsPlace => ("lists' place", 4),
+        Field::ListsSize => ("lists' size", 4),
+        Field::TilePlace => ("tile region's place", 4),
+        Field::TileSlots => ("tile slots", 4),
+        Field::Buffers => ("buffers", 4),
+        Field::Jobs => ("jobs", 4),
+        Field::Place => ("place", 4),
+        Field::Size => ("size", 4),
+        Field::Client => ("client", 4),
+        Field::Kind => ("kind", 4),
+        Field::Content => ("bytes of content", 4),
+        Field::Flags => ("flags", 4),
+        Field::Handles => ("handles", 4),
+        Field::BinSize => ("bytes of the binner list", 4),
+        Field::RecordsSize => ("bytes of the records", 4),
+        Field::States => ("declared shader states", 4),
+        Field::UniformsSize => ("bytes of the uniforms", 4),
+        Field::Width => ("width", 2),
+        Field::Height => ("height", 2),
+        Field::MinX => ("smallest tile x", 1),
+        Field::MinY => ("smallest tile y", 1),
+        Field::MaxX => ("largest tile x", 1),
+        Field::MaxY => ("largest tile y", 1),
+        Field::HandleIndex => ("handle's index", 4),
+        Field::Offset => ("offset", 4),
+        Field::FrameBits => ("bits", 2),
+        Field::GeneralBits => ("bits", 2),
+        Field::SampleBits => ("bits", 2),
+        Field::SurfaceFlags => ("flags", 2),
+        Field::FirstColor => ("clear colour 0", 4),
+        Field::SecondColor => ("clear colour 1", 4),
+        Field::ClearZ => ("clear Z", 4),
+        Field::ClearStencil => ("clear stencil", 1),
+        Field::Zeros => ("zeros", 3),
+        Field::PrimitiveMode => ("mode", 1),
+        Field::IndexMode => ("mode and index type", 1),
+        Field::Length => ("length", 4),
+        Field::FirstIndex => ("first index", 4),
+        Field::MaxIndex => ("maximum index", 4),
+        Field::ListFormat => ("format", 1),
+        Field::StateWord => ("word", 4),
+        Field::ConfigurationBits => ("bits", 3),
+        Field::FlatFlags => ("flags", 4),
+        Field::PointWidth => ("value", 4),
+        Field::Boundary => ("boundary", 2),
+        Field::DepthFactor => ("factor", 2),
+        Field::DepthUnits => ("units", 2),
+        Field::ClipLeft => ("left", 2),
+        Field::ClipBottom => ("bottom", 2),
+        Field::CenterX => ("x", 2),
+        Field::CenterY => ("y", 2),
+        Field::ScaleX => ("x scale", 4),
+        Field::ScaleY => ("y scale", 4),
+        Field::ScaleZ => ("z scale", 4),
+        Field::OffsetZ => ("z offset", 4),
+        Field::ListsAddress => ("allocation address", 4),
+        Field::ListsBytes => ("allocation size", 4),
+        Field::StatesAddress => ("state address", 4),
+        Field::TilesAcross => ("tiles across", 1),
+        Field::TilesDown => ("tiles down", 1),
+        Field::BinnerFlags => ("flags", 1),
+        Field::IndexHandle => ("handle of the index buffer", 4),
+        Field::FurtherHandle => ("further handle", 4),
+        Field::NamedHandle => ("handle", 4),
+        Field::RecordFlags => ("flags", 2),
+        Field::FurtherBytes => ("further bytes", 2),
+        Field::CodeAddress => ("code address", 4),
+        Field::UniformsAddress => ("uniforms' address", 4),
+        Field::FurtherWord => ("further word", 4),
+        Field::Address => ("address", 4),
+        Field::DataSize => ("size less one", 1),
+        Field::Stride => ("stride", 1),
+        Field::VertexOffset => ("vertex shader's offset", 1),
+        Field::CoordinateOffset => ("coordinate shader's offset", 1),
+        Field::HighStride => ("high bits of the stride", 4),
     }
 }
 
-/// How many bytes a field has.
 pub(crate) fn field_size(field: Field) -> usize
     ensures { result ≡ field_size field }
 {
-    match field {
-        Field::Width | Field::Height => 2,
-        Field::MinX | Field::MinY | Field::MaxX | Field::MaxY => 1,
-        Field::FrameBits | Field::GeneralBits | Field::SampleBits | Field::SurfaceFlags => 2,
-        Field::Boundary | Field::DepthFactor | Field::DepthUnits | Field::ClipLeft => 2,
-        Field::ClipBottom | Field::ClipWidth | Field::ClipHeight | Field::CenterX => 2,
-        Field::CenterY | Field::RecordFlags | Field::FurtherBytes => 2,
-        Field::ClearStencil | Field::PrimitiveMode | Field::IndexMode | Field::ListFormat => 1,
-        Field::TilesAcross | Field::TilesDown | Field::BinnerFlags | Field::DataSize => 1,
-        Field::Stride | Field::VertexOffset | Field::CoordinateOffset => 1,
-        Field::Zeros | Field::ConfigurationBits => 3,
-        _ => 4,
-    }
-}
-
-/// The name of a binner list's packet.
-#[tactic(auto, unfolding(crate::specs::Names::packet_name))]
-pub(crate) fn packet_name(opcode: u8) -> &'static str
-    ensures { result.now ≡ packet_name opcode }
-{
-    match opcode {
-        HALT => "halt",
-        NOP => "nop",
-        FLUSH => "flush",
-        START_TILE_BINNING => "start of tile binning",
-        INCREMENT_SEMAPHORE => "increment of the semaphore",
-        INDEXED_PRIMITIVE_LIST => "indexed primitive list",
-        ARRAY_PRIMITIVE_LIST => "array primitive list",
-        PRIMITIVE_LIST_FORMAT => "primitive list format",
-        GL_SHADER_STATE => "GL shader state",
-        CONFIGURATION_BITS => "configuration bits",
-        FLAT_SHADE_FLAGS => "flat shade flags",
-        POINT_SIZE => "point size",
-        LINE_WIDTH => "line width",
-        RHT_X_BOUNDARY => "right hand triangle x boundary",
-        DEPTH_OFFSET => "depth offset",
-        CLIP_WINDOW => "clip window",
-        VIEWPORT_OFFSET => "viewport offset",
-        CLIPPER_XY_SCALING => "clipper xy scaling",
-        CLIPPER_Z_SCALING => "clipper z scaling",
-        TILE_BINNING_MODE => "tile binning mode configuration",
-        BUFFER_HANDLES => "buffer handles",
-        _ => "no packet",
-    }
+    field_row(field).1
 }
 
 /// Appends a job's number, and what is said of a part of it.
@@ -233,7 +178,6 @@ fn put_attribute(
     put_number(out, attribute)
 }
 
-/// Appends the name of a part of the file.
 #[tactic(auto, unfolding(crate::specs::Names::of_job))]
 pub(crate) fn put_part(out: &mut Vec<u8>, part: Part) -> Result<(), AllocError>
     ensures { OnOk result (out.new.items ≡ out.old.items ++ part_text part) }

@@ -44,7 +44,6 @@ pub enum Field {
     IndexMode,
     Length,
     FirstIndex,
-    IndexAddress,
     MaxIndex,
     ListFormat,
     StateWord,
@@ -56,8 +55,6 @@ pub enum Field {
     DepthUnits,
     ClipLeft,
     ClipBottom,
-    ClipWidth,
-    ClipHeight,
     CenterX,
     CenterY,
     ScaleX,
@@ -78,7 +75,7 @@ pub enum Field {
     CodeAddress,
     UniformsAddress,
     FurtherWord,
-    DataAddress,
+    Address,
     DataSize,
     Stride,
     VertexOffset,
@@ -104,6 +101,9 @@ pub enum Stage {
     Vertex,
     Coordinate,
 }
+
+/// The shaders of a record, in its order.
+pub(crate) const STAGES: [Stage; 3] = [Stage::Fragment, Stage::Vertex, Stage::Coordinate];
 
 /// The part of the file that a field belongs to: the header, the entry of the buffer or of the job of a number, a surface in
 /// the entry of a job, or in a job's records the record of a number, its shader, or its attribute of a number.

@@ -41,9 +41,6 @@ pub(crate) fn number(bytes: &[u8]) -> u32
 pub(crate) fn instruction(bytes: &[u8]) -> u64
     ensures { result ≡ u64_at bytes.now 0 }
 {
-    if let [a, b, c, d, e, f, g, h] = bytes {
-        return u64::from_le_bytes([*a, *b, *c, *d, *e, *f, *g, *h]);
-    }
     u64::from_le_bytes([
         byte_at(bytes, 0),
         byte_at(bytes, 1),

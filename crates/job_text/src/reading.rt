@@ -24,14 +24,10 @@ pub(crate) fn digit_value(character: u8) -> Option<u8>
     }
 }
 
-// The digit at the front of a text.
 fn front_digit(text: &[u8]) -> Option<u8>
     ensures { result ≡ front_digit text.now }
 {
-    match text.first() {
-        Some(character) => digit_value(*character),
-        None => None,
-    }
+    digit_value(*text.first()?)
 }
 
 // The byte of the two digits at a column, of which the first is given.
@@ -39,18 +35,10 @@ fn byte_at(line: usize, column: usize, first: u8, others: &[u8]) -> Result<u8, M
     ensures { result ≡ byte_at line column (hex_digit_value first) (front_digit others.now) }
 {
     let Some(high) = digit_value(first) else {
-        return Err(MakeFault {
-            line,
-            column,
-            mistake: Mistake::WrongCharacter,
-        });
+        return Err(MakeFault::new(line, column, Mistake::WrongCharacter));
     };
     let Some(low) = front_digit(others) else {
-        return Err(MakeFault {
-            line,
-            column,
-            mistake: Mistake::LoneDigit,
-        });
+        return Err(MakeFault::new(line, column, Mistake::LoneDigit));
     };
     Ok(16 * high + low)
 }
@@ -98,11 +86,7 @@ fn put_number(
             return Ok(());
         }
     }
-    Err(Stop::Fault(MakeFault {
-        line,
-        column,
-        mistake: Mistake::WrongNumber,
-    }))
+    Err(Stop::Fault(MakeFault::new(line, column, Mistake::WrongNumber)))
 }
 
 // Appends the bytes of a word, which begins at a column.
@@ -124,7 +108,6 @@ fn put_word(
     }
 }
 
-// Appends the bytes of a line.
 fn put_line(out: &mut Vec<u8>, line: usize, text: &[u8]) -> Result<(), Stop<MakeFault>>
     ensures bytes { IfOk result (λ _. both (Ok out.old.items) (line_read line text.now) ≡ Ok out.new.items) }
     ensures fault { IfErr result (IsFaultOf (line_read line text.now)) }

@@ -2,40 +2,23 @@
 
 use crate::chunks::push_chunks;
 use crate::cuts::{part_at, word};
-use crate::list::buffer_of;
-use crate::note::{Cut, Meaning, Note, Stage};
-use field_words::{MOST_CODE, NoMemory, Stop, get_u32};
+use crate::list::{buffer_at, buffer_of};
+use crate::note::{Cut, Meaning, Note, STAGES, Stage};
+use field_words::{MOST_CODE, NoMemory, Stop};
 use job_check::shader_in;
 use job_format::{ENTRY_SIZE, HEADER_SIZE};
 use qpu_isa::{Sample, ShaderInfo};
 use std::alloc::{AllocError, Global};
 
-// What is known of a shader; nothing where a rule refuses it.
-fn shader_of(alloc: Global, code: &[u8]) -> Result<Option<ShaderInfo>, NoMemory> {
-    if code.len() > MOST_CODE as usize {
+// What is known of the shader in a buffer of a kind; nothing where it isn't code, or a rule refuses it.
+fn known_shader(alloc: Global, kind: u32, code: &[u8]) -> Result<Option<ShaderInfo>, NoMemory> {
+    if kind != 1 || code.len() > MOST_CODE as usize {
         return Ok(None);
     }
     match shader_in(alloc, code) {
         Ok(info) => Ok(Some(info)),
         Err(Stop::Fault(_)) => Ok(None),
         Err(Stop::NoMemory) => Err(NoMemory),
-    }
-}
-
-// What is known of the shader in a buffer whose content begins at an offset, and where that ends.
-fn known_shader(
-    alloc: Global,
-    bytes: &[u8],
-    buffer: u32,
-    start: usize,
-) -> Result<(Option<ShaderInfo>, usize), NoMemory> {
-    let entry = HEADER_SIZE + ENTRY_SIZE * buffer as usize;
-    let size = word(bytes, entry + 16) as usize;
-    let end = start.saturating_add(size);
-    if word(bytes, entry + 12) == 1 {
-        Ok((shader_of(alloc, part_at(bytes, start, size))?, end))
-    } else {
-        Ok((None, end))
     }
 }
 
@@ -49,25 +32,13 @@ pub(crate) fn known_shaders(
     let mut known = Vec::new(alloc);
     let mut at = start;
     for buffer in 0..buffers {
-        let (shader, end) = known_shader(alloc, bytes, buffer, at)?;
+        let entry = HEADER_SIZE + ENTRY_SIZE * buffer as usize;
+        let size = word(bytes, entry + 16) as usize;
+        let shader = known_shader(alloc, word(bytes, entry + 12), part_at(bytes, at, size))?;
         known.push(shader)?;
-        at = end;
+        at = at.saturating_add(size);
     }
     Ok(known)
-}
-
-// The shader that a handle of a record starts.
-fn used_shader<'a>(
-    records: &[u8],
-    at: usize,
-    handles: &[u8],
-    shaders: &'a [Option<ShaderInfo>],
-) -> Option<&'a ShaderInfo> {
-    let buffer = buffer_of(handles, get_u32(records, at)?)?;
-    match shaders.get(buffer) {
-        Some(Some(info)) => Some(info),
-        _ => None,
-    }
 }
 
 fn set(meanings: &mut [Meaning], at: usize, meaning: Meaning) {
@@ -91,13 +62,10 @@ fn setup_word(stream: &[u8], before: usize, word: Option<u32>) -> u32 {
 
 // What the set-up word of a number of a sample is.
 fn meaning_of(sample: &Sample, number: u32, index: u8, words: [u32; 4]) -> Meaning {
-    if !sample.direct {
-        return Meaning::Setup(number, index, words);
-    }
-    if index == 0 {
-        Meaning::Address(number)
-    } else {
-        Meaning::Bound(number)
+    match (sample.direct, index) {
+        (false, _) => Meaning::Setup(number, index, words),
+        (true, 0) => Meaning::Address(number),
+        (true, _) => Meaning::Bound(number),
     }
 }
 
@@ -151,10 +119,6 @@ fn set_words(meanings: &mut [Meaning], info: &ShaderInfo, stream: &[u8]) {
         set_sample(meanings, stream, before, sample, number);
         number = number.saturating_add(1);
     }
-}
-
-fn set_addresses(meanings: &mut [Meaning], info: &ShaderInfo) {
-    let before = info.samples.len();
     for at in &info.address_words {
         set(
             meanings,
@@ -164,82 +128,69 @@ fn set_addresses(meanings: &mut [Meaning], info: &ShaderInfo) {
     }
 }
 
-// How many words of uniforms were told, and whether what follows is known.
+// The uniforms of a job, and by what they are known.
 #[derive(Clone, Copy)]
-struct Told {
-    words: usize,
-    is_known: bool,
+struct Uniforms<'a> {
+    job: u32,
+    handles: &'a [u8],
+    records: &'a [u8],
+    uniforms: &'a [u8],
+    shaders: &'a [Option<ShaderInfo>],
 }
 
-// Appends the words of a shader's stream, which begins behind so many words.
+// The shader that the handle at an offset of the records starts.
+fn used_shader<'a>(of: Uniforms<'a>, at: usize) -> Option<&'a ShaderInfo> {
+    let buffer = buffer_at(of.handles, of.records, at)?;
+    match of.shaders.get(buffer) {
+        Some(Some(info)) => Some(info),
+        _ => None,
+    }
+}
+
+// Appends the words of a shader's stream, which begins behind so many words, and counts them. It says whether all of them are there.
 fn push_stream(
     alloc: Global,
     out: &mut Vec<Cut>,
-    job: u32,
-    record: usize,
-    stage: Stage,
-    info: &ShaderInfo,
-    handles: &[u8],
-    uniforms: &[u8],
-    before: usize,
-) -> Result<Told, AllocError> {
-    let stream = part_at(uniforms, before.saturating_mul(4), uniforms.len());
+    of: Uniforms<'_>,
+    shader: (usize, Stage, &ShaderInfo),
+    words: &mut usize,
+) -> Result<bool, AllocError> {
+    let (record, stage, info) = shader;
+    let stream = part_at(of.uniforms, words.saturating_mul(4), of.uniforms.len());
     let total = info.samples.len().saturating_add(info.uniforms as usize);
     if stream.len() / 4 < total {
-        return Ok(Told {
-            words: before,
-            is_known: false,
-        });
+        return Ok(false);
     }
-    let mut meanings = meanings_of(alloc, info, stream, handles)?;
+    let mut meanings = meanings_of(alloc, info, stream, of.handles)?;
     set_words(&mut meanings, info, stream);
-    set_addresses(&mut meanings, info);
-    let mut words = before;
     for meaning in &meanings {
-        let note = Note::Taken(job, words, record, stage, *meaning);
+        let note = Note::Taken(of.job, *words, record, stage, *meaning);
         out.push(Cut::line(4, note))?;
-        words = words.saturating_add(1);
+        *words = words.saturating_add(1);
     }
-    Ok(Told {
-        words,
-        is_known: true,
-    })
+    Ok(true)
 }
 
-// Appends the words that the shaders of a record take, which begins at an offset of the records.
+// Appends the words that the shaders of a record take, which begins at an offset of the records, in the same way.
 fn push_streams(
     alloc: Global,
     out: &mut Vec<Cut>,
-    job: u32,
+    of: Uniforms<'_>,
     record: usize,
     start: usize,
-    handles: &[u8],
-    records: &[u8],
-    uniforms: &[u8],
-    shaders: &[Option<ShaderInfo>],
-    before: usize,
-) -> Result<Told, AllocError> {
-    let mut told = Told {
-        words: before,
-        is_known: true,
-    };
+    words: &mut usize,
+) -> Result<bool, AllocError> {
     let mut at = start;
-    for stage in [Stage::Fragment, Stage::Vertex, Stage::Coordinate] {
-        let Some(info) = used_shader(records, at, handles, shaders) else {
-            return Ok(Told {
-                words: told.words,
-                is_known: false,
-            });
+    for stage in STAGES {
+        let Some(info) = used_shader(of, at) else {
+            return Ok(false);
         };
-        told = push_stream(
-            alloc, out, job, record, stage, info, handles, uniforms, told.words,
-        )?;
-        if !told.is_known {
-            return Ok(told);
+        if !push_stream(alloc, out, of, (record, stage, info), words)? {
+            return Ok(false);
         }
         at = at.saturating_add(4);
     }
-    Ok(told)
+    Ok(true)
 }
 
 /// Appends the pieces of a job's uniforms, by the shaders of the records that begin at these offsets. Behind a shader that isn't known they
@@ -254,22 +205,16 @@ pub(crate) fn push_uniforms(
     uniforms: &[u8],
     shaders: &[Option<ShaderInfo>],
 ) -> Result<(), AllocError> {
+    let of = Uniforms {
+        job,
+        handles,
+        records,
+        uniforms,
+        shaders,
+    };
     let mut words = 0;
     for record in 0..starts.len() {
-        let told = push_streams(
-            alloc,
-            out,
-            job,
-            record,
-            starts[record],
-            handles,
-            records,
-            uniforms,
-            shaders,
-            words,
-        )?;
-        words = told.words;
-        if !told.is_known {
+        if !push_streams(alloc, out, of, record, starts[record], &mut words)? {
             break;
         }
     }

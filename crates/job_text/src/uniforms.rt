@@ -1,8 +1,7 @@
 //! What a line says of a uniform.
-ghost use Rattle.std.specs.Prelude.{◌≡◌, ◌++◌, false, codes, decimal, OnOk};
+ghost use Rattle.std.specs.Prelude.{◌≡◌, ◌++◌, false, OnOk};
 ghost use Rattle.texture_layouts.specs.Fits.{is_unlisted};
-ghost use Rattle.job_text.specs.Names.{named_text};
-ghost use Rattle.job_text.specs.Uniforms.{listed_text, pixel_text, told, base_text, sides_text, setup_text, of_sample, meaning_text};
+ghost use Rattle.job_text.specs.Uniforms.{listed_text, pixel_text, told, base_text, sides_text, setup_text, sample_text, meaning_text};
 
 use crate::meanings::tiling_name;
 use crate::names::put_named;
@@ -80,46 +79,13 @@ fn put_setup(out: &mut Vec<u8>, number: u8, words: &[u32; 4]) -> Result<(), Allo
     out.extend_from_slice(b"further set-up word")
 }
 
+#[tactic(auto, unfolding(crate::specs::Uniforms::sample_text))]
 fn put_sample(out: &mut Vec<u8>, sample: u32) -> Result<(), AllocError>
-    ensures { OnOk result (out.new.items ≡ out.old.items ++ (codes "sample " ++ (decimal sample ++ codes " "))) }
+    ensures { OnOk result (out.new.items ≡ out.old.items ++ sample_text sample) }
 {
     out.extend_from_slice(b"sample ")?;
     put_number(out, sample as usize)?;
-    out.extend_from_slice(b" ")?;
-    Ok(())
-}
-
-#[tactic(auto, unfolding(crate::specs::Uniforms::of_sample))]
-fn put_source(out: &mut Vec<u8>, sample: u32, buffer: Option<usize>) -> Result<(), AllocError>
-    ensures { OnOk result (out.new.items ≡ out.old.items ++ of_sample sample (codes "handle" ++ named_text buffer)) }
-{
-    put_sample(out, sample)?;
-    out.extend_from_slice(b"handle")?;
-    put_named(out, buffer)?;
-    Ok(())
-}
-
-#[tactic(auto, unfolding(crate::specs::Uniforms::of_sample))]
-fn put_of_sample(out: &mut Vec<u8>, sample: u32, text: &[u8]) -> Result<(), AllocError>
-    ensures { OnOk result (out.new.items ≡ out.old.items ++ of_sample sample text.now) }
-{
-    put_sample(out, sample)?;
-    out.extend_from_slice(text)?;
-    Ok(())
-}
-
-#[tactic(auto, unfolding(crate::specs::Uniforms::of_sample))]
-fn put_set_up(
-    out: &mut Vec<u8>,
-    sample: u32,
-    number: u8,
-    words: &[u32; 4],
-) -> Result<(), AllocError>
-    ensures { OnOk result (out.new.items ≡ out.old.items ++ of_sample sample (setup_text number words.now)) }
-{
-    put_sample(out, sample)?;
-    put_setup(out, number, words)?;
-    Ok(())
+    out.extend_from_slice(b" ")
 }
 
 /// Appends what a shader makes of a word of its uniforms.
@@ -130,9 +96,22 @@ pub(crate) fn put_use(out: &mut Vec<u8>, meaning: Meaning) -> Result<(), AllocEr
     match meaning {
         Meaning::Plain => out.extend_from_slice(b"number"),
         Meaning::Stream => out.extend_from_slice(b"address of the uniforms"),
-        Meaning::Source(sample, buffer) => put_source(out, sample, buffer),
-        Meaning::Address(sample) => put_of_sample(out, sample, b"address"),
-        Meaning::Bound(sample) => put_of_sample(out, sample, b"bound"),
-        Meaning::Setup(sample, number, words) => put_set_up(out, sample, number, &words),
+        Meaning::Source(sample, buffer) => {
+            put_sample(out, sample)?;
+            out.extend_from_slice(b"handle")?;
+            put_named(out, buffer)
+        }
+        Meaning::Address(sample) => {
+            put_sample(out, sample)?;
+            out.extend_from_slice(b"address")
+        }
+        Meaning::Bound(sample) => {
+            put_sample(out, sample)?;
+            out.extend_from_slice(b"bound")
+        }
+        Meaning::Setup(sample, number, words) => {
+            put_sample(out, sample)?;
+            put_setup(out, number, &words)
+        }
     }
 }

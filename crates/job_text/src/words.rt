@@ -71,10 +71,7 @@ pub(crate) fn number_named(text: &[u8]) -> Option<u32>
     if front == b"0x".as_slice() {
         return hex_number(rest);
     }
-    match read_number(text, u64::from(u32::MAX)) {
-        Some(number) => Some(number as u32),
-        None => None,
-    }
+    Some(read_number(text, u64::from(u32::MAX))? as u32)
 }
 
 /// How many bytes the number of a word has, by what stands before its colon.

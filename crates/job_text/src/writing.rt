@@ -1,13 +1,13 @@
 //! A file as text.
-ghost use Rattle.std.specs.Prelude.{◌≡◌, ◌≤◌, ◌<◌, ◌^◌, ◌+◌, ◌++◌, ◌-◌, codes, length, take, drop, List, IfOk, OnOk, Ok};
-ghost use Rattle.hex.specs.Hex.{encode_lower};
+ghost use Rattle.std.specs.Prelude.{◌≡◌, ◌≤◌, ◌<◌, ◌^◌, ◌+◌, ◌++◌, length, List, IfOk, OnOk, Ok};
 ghost use Rattle.job_text.specs.declared.note.Piece.{Piece as PieceModel};
-ghost use Rattle.job_text.specs.Shown.{remark, is_in, is_past, mark_text, reason_text, line_text, lines_text, shown};
-ghost use Rattle.job_text.specs.Cuts.{AreLines};
+ghost use Rattle.job_text.specs.Shown.{remark, is_in, is_past, reason_text, end_text, line_text, shown};
+ghost use Rattle.job_text.specs.Cuts.{AreLines, AreAllLines};
 ghost use Rattle.job_text.specs.Made.{made};
 
 use crate::code::{Taking, next, uniform_of};
 use crate::cuts::cuts_of;
+use crate::meanings::put_if;
 use crate::note::{Cut, Note};
 use crate::notes::put_note;
 use crate::numbers::{instruction, put_number};
@@ -58,17 +58,6 @@ fn is_past(count: usize, refused: Option<u64>) -> bool
     }
 }
 
-#[tactic(auto, unfolding(crate::specs::Shown::mark_text))]
-fn put_mark(out: &mut Vec<u8>, is: bool) -> Result<(), AllocError>
-    ensures { OnOk result (out.new.items ≡ out.old.items ++ mark_text is) }
-{
-    if is {
-        out.extend_from_slice(b" <== refused here")?;
-    }
-    Ok(())
-}
-
-// Writes the line of the reason.
 #[tactic(auto, unfolding(crate::specs::Shown::reason_text))]
 fn put_reason(out: &mut Vec<u8>, is: bool, why: &[u8]) -> Result<(), AllocError>
     ensures { OnOk result (out.new.items ≡ out.old.items ++ reason_text is why.now) }
@@ -81,24 +70,16 @@ fn put_reason(out: &mut Vec<u8>, is: bool, why: &[u8]) -> Result<(), AllocError>
     Ok(())
 }
 
-// Writes bytes in hexadecimal.
-fn put_hex(alloc: Global, out: &mut Vec<u8>, bytes: &[u8]) -> Result<(), AllocError>
-    ensures { OnOk result (out.new.items ≡ out.old.items ++ encode_lower bytes.now) }
-{
-    let digits = hex::encode(alloc, bytes)?;
-    out.extend_from_slice(digits.as_bytes())
-}
-
 // Writes a line's end, and the line of the reason where it is refused there.
+#[tactic(auto, unfolding(crate::specs::Shown::end_text))]
 fn put_end(out: &mut Vec<u8>, is: bool, why: &[u8]) -> Result<(), AllocError>
-    ensures { OnOk result (out.new.items ≡ out.old.items ++ (mark_text is ++ (codes "\n" ++ reason_text is why.now))) }
+    ensures { OnOk result (out.new.items ≡ out.old.items ++ end_text is why.now) }
 {
-    put_mark(out, is)?;
+    put_if(out, is, b" <== refused here")?;
     out.extend_from_slice(b"\n")?;
     put_reason(out, is, why)
 }
 
-// Writes the line of some bytes.
 #[tactic(auto, unfolding(crate::specs::Shown::line_text), using(crate::proofs::Texts::four_parts))]
 fn put_line(
     alloc: Global,
@@ -114,7 +95,8 @@ fn put_line(
     if bytes.is_empty() {
         return Ok(());
     }
-    put_hex(alloc, out, bytes)?;
+    let digits = hex::encode(alloc, bytes)?;
+    out.extend_from_slice(digits.as_bytes())?;
     out.extend_from_slice(b"  # ")?;
     put_remark(alloc, out, at, bytes, note)?;
     put_end(out, is_in(at, bytes.len(), refused), why)?;
@@ -134,7 +116,7 @@ fn put_code(
     requires { at + length code.now < 2 ^ 64 }
     ensures { OnOk result (AreLines out.old.items out.new.items at code.now refused why.now) }
 {
-    let mut now = Taking::first();
+    let mut now = Taking::default();
     let mut rest = code;
     let mut number = 0;
     while !rest.is_empty() {
@@ -150,7 +132,6 @@ fn put_code(
     Ok(())
 }
 
-// Writes the lines of a part.
 fn put_cut(
     alloc: Global,
     out: &mut Vec<u8>,
@@ -181,7 +162,7 @@ fn put_lines(
     refused: Option<u64>,
     why: &[u8],
 ) -> Result<(), NoMemory>
-    ensures { OnOk result ((pieces : List PieceModel) × (out.new.items ≡ out.old.items ++ lines_text 0 bytes.now pieces refused why.now)) }
+    ensures { OnOk result (AreAllLines out.old.items out.new.items bytes.now refused why.now) }
 {
     let mut rest = bytes;
     let mut at = 0;

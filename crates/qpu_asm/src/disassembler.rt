@@ -6,7 +6,7 @@ ghost use Rattle.qpu_asm.specs.Walk.{are_ready, field_text};
 ghost use Rattle.qpu_asm.specs.Printed.{name_of as name_in, value_text, item_text, rows_text, kind_of as kind_by, kind_text, word_text, line_text, AsmText, PrintedReturns, FieldsInOrder};
 ghost use Rattle.qpu_asm.specs.Seen.{named_seen, row_seen, rows_seen, kind_seen};
 
-use crate::table::{Kind, NOP, Named, Row, alu, branch, load_imm, nop};
+use crate::table::{ALU_KIND, BRANCH_KIND, Kind, LOAD_IMM_KIND, NOP, NOP_KIND, Named, Row};
 use field_words::NoMemory;
 use itoa::Buffer;
 use std::alloc::{AllocError, Global};
@@ -45,12 +45,12 @@ fn kind_of(word: u64) -> Kind
     ensures { kind_seen result ≡ kind_by word }
 {
     if word == NOP {
-        return nop();
+        return NOP_KIND;
     }
     match (word >> 60) % 16 {
-        14 => load_imm(),
-        15 => branch(),
-        _ => alu(),
+        14 => LOAD_IMM_KIND,
+        15 => BRANCH_KIND,
+        _ => ALU_KIND,
     }
 }
 

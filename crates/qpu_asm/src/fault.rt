@@ -2,8 +2,6 @@
 ghost use Rattle.std.specs.Prelude.{◌≡◌};
 ghost use Rattle.qpu_asm.specs.Items.{mistake_number};
 
-use thiserror::Error;
-
 /// What is wrong on a line.
 #[derive(Clone, Copy, Debug, PartialEq, Eq)]
 pub enum Mistake {
@@ -32,44 +30,11 @@ impl Mistake {
             Mistake::LabelTwice => 5,
         }
     }
-
-    /// The kind as a sentence.
-    pub fn sentence(self) -> &'static str {
-        match self {
-            Mistake::UnknownWord => "a word or an item's name is unknown",
-            Mistake::BadOperand =>
-                "a value is no number or name, or an item is repeated or out of order",
-            Mistake::OutOfRange => "a number is over its field",
-            Mistake::UnknownLabel => "a label isn't defined",
-            Mistake::LabelTwice => "a label is defined twice",
-        }
-    }
 }
 
-const MISTAKES: [Mistake; 5] = [
-    Mistake::UnknownWord,
-    Mistake::BadOperand,
-    Mistake::OutOfRange,
-    Mistake::UnknownLabel,
-    Mistake::LabelTwice,
-];
-
 /// The first fault of an assembler's text: the least line that has one, counted from 1, and the least kind there.
-#[derive(Clone, Copy, Debug, PartialEq, Eq, Error)]
-#[error("line {line}: {sentence}", sentence = self.sentence())]
+#[derive(Clone, Copy, Debug, PartialEq, Eq)]
 pub struct AsmFault {
     pub line: u32,
     pub kind: u8,
-}
-
-impl AsmFault {
-    /// The kind as a sentence.
-    pub fn sentence(&self) -> &'static str {
-        for mistake in MISTAKES {
-            if mistake.number() == self.kind {
-                return mistake.sentence();
-            }
-        }
-        "no kind has this number"
-    }
 }

@@ -12,7 +12,7 @@ use crate::fault::Mistake;
 use crate::label::{Labels, find_spot};
 use crate::lines::next_word;
 use crate::names::is_name;
-use crate::table::{Kind, Named, Row, alu, branch, load_imm, nop};
+use crate::table::{ALU_KIND, BRANCH_KIND, Kind, LOAD_IMM_KIND, NOP_KIND, Named, Row};
 use script::{Cut, cut_at, is_number, number_up_to};
 use std::marker::Model;
 
@@ -85,13 +85,13 @@ pub fn kind_named(word: &[u8]) -> Option<Kind>
     ensures { MatchOption result (kind_by word.now ≡ None) (λ kind. kind_by word.now ≡ Some (kind_seen kind)) }
 {
     if word == b"nop".as_slice() {
-        Some(nop())
+        Some(NOP_KIND)
     } else if word == b"alu".as_slice() {
-        Some(alu())
+        Some(ALU_KIND)
     } else if word == b"li".as_slice() {
-        Some(load_imm())
+        Some(LOAD_IMM_KIND)
     } else if word == b"br".as_slice() {
-        Some(branch())
+        Some(BRANCH_KIND)
     } else {
         None
     }
@@ -204,14 +204,8 @@ fn put_named<'a>(
     ensures { result ≡ named_read (spots_in labels.now) index (rows_seen all.now) partial cut.entry.first.now cut.entry.rest.now }
 {
     if has_row(cut.first, partial.rows) {
-        return skip_to(
-            labels,
-            index,
-            partial.fault,
-            partial.word,
-            partial.rows,
-            cut,
-        );
+        let (word, rows) = (partial.word, partial.rows);
+        return skip_to(labels, index, partial.fault, word, rows, cut);
     }
     with_fault(partial, mistake_of(cut.first, all))
 }

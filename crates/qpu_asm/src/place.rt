@@ -55,6 +55,14 @@ pub struct FaultPlace {
     pub wanted: Wanted,
 }
 
+impl FaultPlace {
+    fn new(column: u32, wanted: Wanted) -> FaultPlace
+        ensures { result ≡ record { column = column; wanted = wanted } }
+    {
+        FaultPlace { column, wanted }
+    }
+}
+
 /// A word with the column of its first byte, what comes after it on the line, and the column at which that begins.
 #[derive(Clone, Copy)]
 struct Placed<'a> {
@@ -205,10 +213,8 @@ fn item_place<'a>(
         let rows = partial.rows_left();
         partial = put_item(labels, 0, of.rows, partial.without_fault(), item);
         if is_of(kind, &partial) {
-            return Some(FaultPlace {
-                column: placed.column,
-                wanted: wanted_item(opcode, of.rows, rows, item),
-            });
+            let wanted = wanted_item(opcode, of.rows, rows, item);
+            return Some(FaultPlace::new(placed.column, wanted));
         }
         column = placed.next;
         rest = placed.cut.rest;
@@ -228,10 +234,7 @@ fn code_place<'a>(
     requires { from + length items.now < 2 ^ 32 }
     ensures { result ≡ code_place (spots_in labels.now) kind column opcode.now (placed_words from items.now) (kind_by opcode.now) }
 {
-    let first = FaultPlace {
-        column,
-        wanted: Wanted::FirstWord,
-    };
+    let first = FaultPlace::new(column, Wanted::FirstWord);
     match kind_named(opcode) {
         Some(of) => {
             let opcode = opcode_of(opcode);
@@ -247,25 +250,13 @@ fn place_on<'a>(labels: &Labels<'a>, kind: u8, line: &'a [u8]) -> FaultPlace
     ensures { result ≡ words_place (spots_in labels.now) kind (line_read line.now) (placed_words 1 line.now) }
 {
     let Some(placed) = next_placed(line, 1) else {
-        return FaultPlace {
-            column: 1,
-            wanted: Wanted::FirstWord,
-        };
+        return FaultPlace::new(1, Wanted::FirstWord);
     };
     let column = placed.column;
     match read_line(line) {
-        Line::Blank => FaultPlace {
-            column,
-            wanted: Wanted::FirstWord,
-        },
-        Line::Label(_) => FaultPlace {
-            column,
-            wanted: Wanted::NewLabel,
-        },
-        Line::BadLabel => FaultPlace {
-            column,
-            wanted: Wanted::LabelLine,
-        },
+        Line::Blank => FaultPlace::new(column, Wanted::FirstWord),
+        Line::Label(_) => FaultPlace::new(column, Wanted::NewLabel),
+        Line::BadLabel => FaultPlace::new(column, Wanted::LabelLine),
         Line::Coded(code) => {
             let items = placed.cut.rest;
             code_place(labels, kind, column, code.first, items, placed.next)

@@ -1,7 +1,4 @@
 //! The kinds of instructions, their items, and the names of values.
-ghost use Rattle.std.specs.Prelude.{◌≡◌};
-ghost use Rattle.qpu_asm.specs.Seen.{kind_seen};
-ghost use Rattle.qpu_asm.specs.Table.{nop_kind, alu_kind, load_imm_kind, branch_kind};
 
 /// A value's name.
 #[derive(Clone, Copy)]
@@ -169,42 +166,26 @@ pub const BRANCH: [Row; 9] = [
     },
 ];
 
-pub fn nop() -> Kind
-    ensures { kind_seen result ≡ nop_kind }
-{
-    Kind {
-        opcode: b"nop",
-        above: NOP,
-        rows: &[],
-    }
-}
+pub const NOP_KIND: Kind = Kind {
+    opcode: b"nop",
+    above: NOP,
+    rows: &[],
+};
 
-pub fn alu() -> Kind
-    ensures { kind_seen result ≡ alu_kind }
-{
-    Kind {
-        opcode: b"alu",
-        above: 0,
-        rows: &ALU,
-    }
-}
+pub const ALU_KIND: Kind = Kind {
+    opcode: b"alu",
+    above: 0,
+    rows: &ALU,
+};
 
-pub fn load_imm() -> Kind
-    ensures { kind_seen result ≡ load_imm_kind }
-{
-    Kind {
-        opcode: b"li",
-        above: 14,
-        rows: &LOAD_IMM,
-    }
-}
+pub const LOAD_IMM_KIND: Kind = Kind {
+    opcode: b"li",
+    above: 14,
+    rows: &LOAD_IMM,
+};
 
-pub fn branch() -> Kind
-    ensures { kind_seen result ≡ branch_kind }
-{
-    Kind {
-        opcode: b"br",
-        above: 15,
-        rows: &BRANCH,
-    }
-}
+pub const BRANCH_KIND: Kind = Kind {
+    opcode: b"br",
+    above: 15,
+    rows: &BRANCH,
+};

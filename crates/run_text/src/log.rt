@@ -1,6 +1,5 @@
 //! The text of all accesses of a run.
 ghost use Rattle.std.specs.Prelude.{◌≡◌, ◌++◌, IfOk, OnOk};
-ghost use Rattle.std.specs.List.{flat_map};
 ghost use Rattle.run_text.specs.Log.{offset_text, spot_text, way_text, actor_text, reach_text, access_text, log_text};
 
 use crate::spot::{Spot, spot_of};
@@ -97,22 +96,6 @@ fn push_access(
     out.extend_from_slice(b"\n")
 }
 
-fn push_accesses(
-    alloc: Global,
-    out: &mut Vec<u8>,
-    regions: &Regions,
-    buffers: &[Buffer],
-    layouts: &[Layout],
-    accesses: &[Logged],
-) -> Result<(), AllocError>
-    ensures { OnOk result (out.new.items ≡ out.old.items ++ flat_map (access_text regions.now buffers.now layouts.now) accesses.now) }
-{
-    for logged in accesses {
-        push_access(alloc, out, regions, buffers, layouts, logged)?;
-    }
-    Ok(())
-}
-
 /// The text of all accesses of a run over a memory with these regions, these buffers and the lists of these jobs: a line for each, and how
 /// the run ended after how many steps. A line has the number of the step, from 0 on, its unit and its job, what it did, the place and how
 /// many bytes, and what lies there.
@@ -127,7 +110,9 @@ pub fn log_text(
     ensures { IfOk result (λ text. text.items ≡ log_text regions.now buffers.now layouts.now log.now) }
 {
     let mut out = Vec::with_capacity(alloc, ACCESS_LINE.saturating_mul(log.accesses.len()))?;
-    push_accesses(alloc, &mut out, regions, buffers, layouts, &log.accesses)?;
+    for logged in &log.accesses {
+        push_access(alloc, &mut out, regions, buffers, layouts, logged)?;
+    }
     let ending = ending_text(alloc, log.ending, log.steps as usize)?;
     out.extend_from_slice(ending.as_bytes())?;
     Ok(out)

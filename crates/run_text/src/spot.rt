@@ -69,7 +69,6 @@ fn lists_spot(layouts: &[Layout], place: u64) -> Spot
     Spot::Spare
 }
 
-/// Which buffer holds the place.
 #[tactic(auto, unfolding(crate::specs::Spot::buffer_spot))]
 fn buffer_spot(buffers: &[Buffer], place: u64) -> Spot
     ensures { result ≡ buffer_spot 0 buffers.now place }

@@ -41,16 +41,10 @@ fn copy_row(from: Order, to: Order, width: u32, cpp: u32, y: u32, source: &[u8],
     let source_row = row_start(from, width, cpp, y);
     let target_row = row_start(to, width, cpp, y);
     for mx in 0..parts_across(width, cpp) {
-        let count = pixels_there(width, cpp, mx) * cpp;
-        let source_at = source_row + part_offset(from, cpp, mx);
-        let target_at = target_row + part_offset(to, cpp, mx);
-        copy_part(
-            source,
-            source_at as usize,
-            target,
-            target_at as usize,
-            count as usize,
-        );
+        let count = (pixels_there(width, cpp, mx) * cpp) as usize;
+        let source_at = (source_row + part_offset(from, cpp, mx)) as usize;
+        let target_at = (target_row + part_offset(to, cpp, mx)) as usize;
+        copy_part(source, source_at, target, target_at, count);
     }
 }
 

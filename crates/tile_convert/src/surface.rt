@@ -30,19 +30,12 @@ pub fn untile(
         (λ raster. IsPicture tiling width height cpp bytes.now raster.items) result }
     ensures honest { NeverHidesFault (length_questions bytes.now (size_for tiling width height cpp)) result }
 {
-    let wanted = picture_size(Order::Surface(tiling), width, height, cpp);
+    let order = Order::Surface(tiling);
+    let wanted = picture_size(order, width, height, cpp);
     if bytes.len() as u64 != wanted {
         return Err(Stop::Fault(wanted));
     }
-    Ok(copied(
-        alloc,
-        Order::Surface(tiling),
-        Order::Rows,
-        width,
-        height,
-        cpp,
-        bytes,
-    )?)
+    Ok(copied(alloc, order, Order::Rows, width, height, cpp, bytes)?)
 }
 
 /// The surface of a picture, `raster`, of `width` times `height` pixels of `cpp` bytes by rows of pixels. The surface's bytes are
@@ -65,19 +58,12 @@ pub fn tile(
         (λ surface. IsSurface tiling width height cpp raster.now surface.items) result }
     ensures honest { NeverHidesFault (length_questions raster.now (width * height * cpp)) result }
 {
+    let order = Order::Surface(tiling);
     let wanted = picture_size(Order::Rows, width, height, cpp);
     if raster.len() as u64 != wanted {
         return Err(Stop::Fault(wanted));
     }
-    Ok(copied(
-        alloc,
-        Order::Rows,
-        Order::Surface(tiling),
-        width,
-        height,
-        cpp,
-        raster,
-    )?)
+    Ok(copied(alloc, Order::Rows, order, width, height, cpp, raster)?)
 }
 
 /// A law: what [`untile`] gives of what [`tile`] gave of a raster is that raster.

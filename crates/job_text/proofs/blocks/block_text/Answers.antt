@@ -1,4 +1,4 @@
-use Rattle.std.proofs.{Common.sym, Common.◌∙◌, Common.arith, lemmas.Bool.Decides.nat_tests}
+use Rattle.std.proofs.{Common.ap, Common.Err, Common.sym, Common.◌∙◌, Common.arith, lemmas.Bool.Decides.nat_tests}
 use Rattle.script.specs.Lines.{lines_of}
 use Rattle.job_text.specs.Made.{block_text}
 use Rattle.job_text.proofs.BlockSteps.{block_ends, block_step, block_open}
@@ -19,3 +19,4 @@ pub returns-clause-fault : goal.returns-clause-fault
 returns-clause-fault c =
     block_open c.args.line c.loop-rest.text.items c.loop-rest.rest.now (block_text c.args.line (lines_of c.args.lines.now))
     (grind (arith, nat_tests, c.is_empty.ensures, c.loop-rest-test.false)) c.loop-rest.invariant
+    ∙ ap Err (sym c.new.ensures)

@@ -1,6 +1,6 @@
 use Rattle.std.proofs.Common.{◌≡◌, ◌++◌, List, ℕ, OnOk, codes, subst}
 use Rattle.qpu_isa.specs.Terms.{is_switch, is_end, writes_s}
-use Rattle.job_text.specs.Notes.{said_if, facts_text}
+use Rattle.job_text.specs.{Meanings.said_if, Notes.facts_text}
 use Rattle.job_text.proofs.Texts.{four_parts}
 use Rattle.job_text.proofs.instructions.put_facts.Goals as goal
 

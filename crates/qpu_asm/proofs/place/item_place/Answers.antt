@@ -10,7 +10,7 @@ pub returns-then-is_of : goal.returns-then-is_of
 returns-then-is_of c =
     let read = read_item (spots_in c.args.labels.now) 0 (rows_seen c.args.of.rows.now) in
     let told = item_told _ _ _ _ _ _ _ (c.put_item-partial.ensures ∙ ap (λ p. read p c.in-Some.placed.cut.first.now) c.without_fault.ensures) in
-    rw (c.wanted_item.ensures, c.rows_left-rows.ensures)
+    rw (c.new.ensures, c.wanted_item-wanted.ensures, c.rows_left-rows.ensures)
     (sym (sym c.loop-placed.invariant.same
     ∙ place_here (spots_in c.args.labels.now) c.args.kind c.args.opcode (rows_seen c.args.of.rows.now) c.loop-placed.partial.rows _ _ _ _ c.in-Some.ensures.words told.1
     (sym c.is_of.ensures ∙ c.if-is_of.true)))
