@@ -454,15 +454,15 @@ gets_law rights plains first tmu row t known = record {
 }
 
 -- whether a thread may step is seen at its instruction
-looks_there : (rights : List Rights) (h : Home) (n : ℕ) (m : List ℕ) (t : Thread) (one : Rights) (queued0 queued1 : ℕ) → IsHome m one.region h → IsThread h n t → GlancesIn (Inside one.region) (thread_ready t queued0 queued1) m
+pub looks_there : (h : Home) (n : ℕ) (m : List ℕ) (t : Thread) (one : Rights) (queued0 queued1 : ℕ) → IsHome m one.region h → IsThread h n t → GlancesIn (Inside one.region) (thread_ready t queued0 queued1) m
 unfolding thread_ready
-looks_there rights h n m t one queued0 queued1 home is =
+looks_there h n m t one queued0 queued1 home is =
     let inside : n < checked_of h.code = in_checked h.code n home.sound is.at.inside in
     (subst (λ q. Inside one.region q 8) (sym is.at.place) (home.code_in n (omega (arith, inside, checked_of-le h.code))), tt)
 
 thread_looks_law : (rights : List Rights) (plains : ℕ → List Interval) (first : List ℕ) (t : Thread) (queued0 queued1 : ℕ) (m : List ℕ) → HasReadOnly rights first m → ThreadFine rights plains first t
     → GlancesIn (Inside (rights_of rights t.job).region) (thread_ready t queued0 queued1) m
-thread_looks_law rights plains first t queued0 queued1 m here known = looks_there rights known.home known.stands.index m t (rights_of rights t.job) queued0 queued1 (known.fine.stands m here) known.stands.is
+thread_looks_law rights plains first t queued0 queued1 m here known = looks_there known.home known.stands.index m t (rights_of rights t.job) queued0 queued1 (known.fine.stands m here) known.stands.is
 
 -- all of them
 unit_laws : (rights : List Rights) (plains : ℕ → List Interval) (first : List ℕ) → ArePlain rights plains → UnitLaws rights (HasReadOnly rights first) (facts_of rights plains first)
@@ -485,7 +485,7 @@ each_start : (P : ℕ → Lists → Type 0) (n : ℕ) (starts : List Start) → 
 each_start P n [] all = tt
 each_start P n (start ∷ starts) all = (all.0, each_start P (n + 1) starts all.1)
 
-idle_fine : (f : Facts) (n : ℕ) → Every (QpuFine f) (replicate n idle_qpu)
+pub idle_fine : (f : Facts) (n : ℕ) → Every (QpuFine f) (replicate n idle_qpu)
 idle_fine f zero = tt
 idle_fine f (suc n) = (record { first = tt; other = tt; rests = tt; queue0 = tt; queue1 = tt }, idle_fine f n)
 

@@ -4,25 +4,30 @@ use Rattle.std.proofs.lemmas.Bool.{false≢true}
 use Rattle.std.specs.Prelude.{IfSome, is_some, nat_lt}
 use Rattle.field_words.specs.declared.access.Actor.TheVariants.{Tmu as TheTmu}
 use Rattle.machine_plan.specs.{declared.who.Who.Who, World.mapped, Glance.Glance, Glance.Now, Glance.glanced}
-use Rattle.machine_plan.specs.{Plan.Plan, Plan.carried, Regions.Interval, Regions.Rights}
+use Rattle.machine_plan.specs.{Plan.Plan, Plan.carried, Regions.Interval}
 use Rattle.machine_plan.proofs.{Plans.keeps_accesses, Worlds.keeps_mapped}
 use Rattle.machine_plan.proofs.Others.{run_holds, safe_law, same_law, safe_alone, same_alone}
-use Rattle.qpu_machine.specs.{declared.state.Qpu.Qpu, declared.state.Request.Request, Request.ask_plan}
+use Rattle.qpu_machine.specs.{declared.state.Qpu.Qpu, declared.state.Ask.Ask, declared.state.Request.Request, Request.ask_plan}
 use Rattle.qpu_machine.specs.Qpu.{oldest, queue_of, job_of_request, tmu_ready, served, serving}
-use Rattle.qpu_law.specs.Asks.{IsReadIn}
+use Rattle.qpu_law.specs.Asks.{IsFineAsk, IsOneOf, IsReadIn}
 use Rattle.qpu_law.proofs.Reading.{asks_stay_in_law}
 use Rattle.machine.specs.State.{Units, State, units_start, item_at}
 use Rattle.machine.specs.Step.{with_qpu, tmu_may, tmu_turn, tmu_job, enabled, job_of, ready, turn}
-use Rattle.machine_law.specs.{Units.AskOf, Units.QpuFine, Jobs.facts_of, Laws.AreFine}
+use Rattle.machine_law.specs.{Units.AskOf, Units.Facts, Units.QpuFine, Units.UnitsFine, Jobs.facts_of, Laws.AreFine}
 use Rattle.machine_law.specs.Sound.{ReadInOne, TexturesReadIn, MachineSound, JobsSound, SoundJobsAreSafe}
 use Rattle.machine_law.proofs.Owes.{item_fine, oldest_fine, queue_of_fine, units_owe_law, start_fine}
 use Rattle.machine_law.proofs.Begins.{each_begins}
 
+-- each request that is known reads inside one buffer of its job
+abbrev pub ReadsIn : Facts → (ℕ → List Interval) → Type 0
+ReadsIn f plains = (j : ℕ) (ask : Ask) → f.OfAsk j ask → IsFineAsk (IsOneOf (plains j)) ask
+
 -- a texture unit by its oldest request
-request_reads : (rights : List Rights) (plains : ℕ → List Interval) (first : List ℕ) (u : Units) (k n : ℕ) (q : Qpu) (found : Option Request) (words m : List ℕ) → IfSome found (AskOf (facts_of rights plains first)) → is_some found ≡ true
+request_reads : (f : Facts) (plains : ℕ → List Interval) → ReadsIn f plains → (u : Units) (k n : ℕ) (q : Qpu) (found : Option Request) (words m : List ℕ) → IfSome found (AskOf f) → is_some found ≡ true
     → ReadInOne (plains (job_of_request found)) (carried (record { unit = TheTmu k n; job = job_of_request found }) (mapped (with_qpu u k) (serving found q n words)) m).accesses
-request_reads rights plains first u k n q None words m asked on = absurd (false≢true on)
-request_reads rights plains first u k n q (Some request) words m asked on =
+request_reads f plains in_one u k n q None words m known on = absurd (false≢true on)
+request_reads f plains in_one u k n q (Some request) words m known on =
+    let asked = in_one request.job request.ask known in
     let who : Who = record { unit = TheTmu k n; job = request.job } in
     let within : Interval = record { place = asked.place; size = asked.size } in
     let L : ℕ → ℕ → Type 0 = λ place len. ⊥ in
@@ -41,17 +46,16 @@ pub there_on : (there : Bool) (glance : Glance Bool) (m : List ℕ) → IsTrue (
 there_on true glance m on = on
 there_on false glance m on = absurd (false≢true on)
 
-tmu_reads : (rights : List Rights) (plains : ℕ → List Interval) (first : List ℕ) (u : Units) (k n : ℕ) (found : Option Qpu) (words m : List ℕ) → IfSome found (QpuFine (facts_of rights plains first)) → IsTrue (glanced (tmu_may found n) m)
+tmu_reads : (f : Facts) (plains : ℕ → List Interval) → ReadsIn f plains → (u : Units) (k n : ℕ) (found : Option Qpu) (words m : List ℕ) → IfSome found (QpuFine f) → IsTrue (glanced (tmu_may found n) m)
     → ReadInOne (plains (tmu_job found n)) (carried (tmu_turn u k n found words).who (tmu_turn u k n found words).plan m).accesses
-tmu_reads rights plains first u k n None words m known on = absurd (false≢true on)
-tmu_reads rights plains first u k n (Some q) words m known on =
-    let f = facts_of rights plains first in
-    request_reads rights plains first u k n q (oldest (queue_of q n)) words m (oldest_fine f (queue_of q n) (queue_of_fine f q n known)) (there_on (nat_lt n 2) (tmu_ready q n) m on)
+tmu_reads f plains in_one u k n None words m known on = absurd (false≢true on)
+tmu_reads f plains in_one u k n (Some q) words m known on =
+    request_reads f plains in_one u k n q (oldest (queue_of q n)) words m (oldest_fine f (queue_of q n) (queue_of_fine f q n known)) (there_on (nat_lt n 2) (tmu_ready q n) m on)
 
-textures_read : (rights : List Rights) (plains : ℕ → List Interval) (first : List ℕ) (s : State) → AreFine rights plains first s.units → TexturesReadIn plains s
+pub textures_read : (f : Facts) (plains : ℕ → List Interval) → ReadsIn f plains → (s : State) → UnitsFine f s.units → TexturesReadIn plains s
 unfolding turn enabled job_of
-textures_read rights plains first s known k n words on =
-    tmu_reads rights plains first s.units k n (item_at s.units.qpus k) words s.memory (item_fine (QpuFine (facts_of rights plains first)) s.units.qpus k known.qpus) on
+textures_read f plains in_one s known k n words on =
+    tmu_reads f plains in_one s.units k n (item_at s.units.qpus k) words s.memory (item_fine (QpuFine f) s.units.qpus k known.qpus) on
 
 pub machine_sound_law : MachineSound
 machine_sound_law rights plains first m u plain has fine =
@@ -62,7 +66,7 @@ machine_sound_law rights plains first m u plain has fine =
       same = same_law ready turn rights first m I u owes has fine;
       textures = λ happenings found t run.
           let ran = run_holds ready turn rights first I owes happenings (record { memory = m; units = u }) (record { units = fine; has = has }) run.allowed in
-          textures_read rights plains first t (subst (λ s. I s.units) (sym run.last) ran.0.units);
+          textures_read (facts_of rights plains first) plains (λ j ask known. known) t (subst (λ s. I s.units) (sym run.last) ran.0.units);
     }
 
 pub jobs_sound_law : JobsSound
