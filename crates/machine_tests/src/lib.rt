@@ -1,5 +1,5 @@
-//! Tests of shader rules (`shader_check`), of arithmetic (`qpu_alu`), of the memory (`phys_mem`), of shader processors (`qpu_machine`), of
-//! machines with their list units (`machine`), and of replays (`replay`). A crate with tests is proved twice, so those of many crates stand in one, which has nothing else.
+//! Tests of arithmetic (`qpu_alu`), of the memory (`phys_mem`), of shader processors (`qpu_machine`), of machines with their list units
+//! (`machine`), and of replays (`replay`). A crate with tests is proved twice, so those of many crates stand in one, which has nothing else.
 #![tactic(auto)]
 
 #[cfg(test)]
@@ -14,5 +14,3 @@ mod qpu_alu_tests;
 mod qpu_machine_tests;
 #[cfg(test)]
 mod replay_tests;
-#[cfg(test)]
-mod shader_check_tests;
