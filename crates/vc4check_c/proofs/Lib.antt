@@ -3,6 +3,7 @@ mod Fronts
 pub mod MayRun
 pub mod Telling
 pub mod Places
+pub mod Safe
 mod Sizes
 pub mod Spots
 pub mod Submissions

@@ -1,16 +1,17 @@
 -- The job of an accepted submission may run over each memory that is prepared for it.
-use Rattle.std.proofs.Common.{◌≡◌, ◌==◌, ◌≤◌, ◌<◌, ℕ, suc, Bool, true, false, List, [], ◌∷◌, length, map, refl, Some, None, arith, if◌then◌else◌}
+use Rattle.std.proofs.Common.{◌≡◌, ◌==◌, ◌≤◌, ℕ, suc, Bool, true, false, List, [], ◌∷◌, length, map, refl, Some, None, arith, if◌then◌else◌}
 use Rattle.std.specs.List.{slice_get, AllByRecursion}
 use Rattle.field_words.specs.{Questions.first_of, Sizes.most_code, Words.IsBytes}
 use Rattle.field_words.proofs.Nones.{front_none, rest_none}
 use Rattle.job_format.specs.File.{BufferFits, Fits}
 use Rattle.job_check.specs.Faults.{place_stages}
+use Rattle.accepted_law.specs.{Neighbours.IsFaultless, Prepared.IsPrepared}
 use Rattle.accepted_law.proofs.ByteTexts.{bytes_none}
+use Rattle.job_safety.specs.Prepared.{MayRunOver}
 use Rattle.job_safety.proofs.Prepared.{prepared_jobs_law}
-use Rattle.driver_law.proofs.Driver.{may_be_admitted_law}
 use Rattle.vc4check_c.specs.{declared.submission.GivenBuffer.GivenBuffer, declared.submission.Submission.Submission}
-use Rattle.vc4check_c.specs.Submission.{content_in, entry_in, file_of, own_questions}
-use Rattle.vc4check_c.specs.MayRun.{GivenFits, IsOfTypes, AcceptedSubmissionsMayRun, AcceptedSubmissionsAreFaultless, AcceptedSubmissionsMayBeAdmitted}
+use Rattle.vc4check_c.specs.Submission.{content_in, entry_in, file_of, own_questions, submission_questions}
+use Rattle.vc4check_c.specs.Types.{GivenFits, IsOfTypes}
 use Rattle.vc4check_c.proofs.Submissions.{shaders_few, well_formed}
 
 bytes_if : (stands : Bool) (bytes : List ℕ) → IsBytes bytes → IsBytes (if stands then bytes else [])
@@ -46,21 +47,12 @@ fits s types none = record {
   jobs = (types.job, tt);
 }
 
-pub faultless_submissions_law : AcceptedSubmissionsAreFaultless
-faultless_submissions_law s types none =
+pub faultless : (s : Submission) → IsOfTypes s → first_of (submission_questions s) ≡ None → IsFaultless (file_of s)
+faultless s types none =
     let own = front_none (own_questions s) (place_stages (file_of s)) none in
     record { well_formed = well_formed s own; fits = fits s types own; none = rest_none (own_questions s) (place_stages (file_of s)) none }
 
-pub accepted_submissions_law : AcceptedSubmissionsMayRun
-accepted_submissions_law s types none m prepared =
-    let f = file_of s in
-    let own = front_none (own_questions s) (place_stages f) none in
-    prepared_jobs_law f (well_formed s own) (fits s types own) (rest_none (own_questions s) (place_stages f) none) m prepared
-
-one_job : (s : Submission) → 0 < length (file_of s).jobs
-unfolding file_of
-one_job s = omega arith
-
-pub submissions_admitted_law : AcceptedSubmissionsMayBeAdmitted
-submissions_admitted_law s types none d prepared apart =
-    may_be_admitted_law d (file_of s) 0 (record { accepted = faultless_submissions_law s types none; inside = one_job s; prepared = prepared; apart = apart })
+pub may_run : (s : Submission) → IsOfTypes s → first_of (submission_questions s) ≡ None → (m : List ℕ) → IsPrepared (file_of s) m → MayRunOver (file_of s) m
+may_run s types none m prepared =
+    let are = faultless s types none in
+    prepared_jobs_law (file_of s) are.well_formed are.fits are.none m prepared

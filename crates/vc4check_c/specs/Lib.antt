@@ -1,11 +1,13 @@
 pub mod Block
 pub mod Bound
 pub mod Jobs
-pub mod MayRun
+pub mod Joins
 pub mod Places
+pub mod Safe
 pub mod Sentence
 pub mod Shader
 pub mod Spots
 pub mod Submission
 pub mod Submit
 pub mod Telling
+pub mod Types

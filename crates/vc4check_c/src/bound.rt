@@ -69,7 +69,7 @@ fn unbounded(refusal: &Refusal) -> BoundAnswer
     }
 }
 
-/// Checks the job file that `bytes` hold, and tells how many steps a run of its jobs takes at most, by which a driver may set its timer.
+/// Checks the job file that `bytes` hold, and tells how many steps a run of its jobs takes at most, but for those at which a renderer stays at an item.
 /// No memory of the jobs is made.
 ///
 /// | Status | Meaning | `answer` |

@@ -8,7 +8,6 @@ mod block;
 mod bound;
 mod jobs;
 mod known;
-mod law;
 mod place;
 mod sentence;
 mod shader;
@@ -21,10 +20,6 @@ mod version;
 pub use block::{Known, MadeAnswer};
 pub use bound::BoundAnswer;
 pub use jobs::{JobLists, JobsAnswer};
-pub use law::{
-    accepted_submissions_are_faultless, accepted_submissions_may_be_admitted,
-    accepted_submissions_may_run,
-};
 pub use shader::{ShaderAnswer, ShaderSample};
 pub use submission::{GivenBuffer, GivenFrame, GivenSurface, Submission};
 pub use submit::Verdict;

@@ -6,6 +6,7 @@ ghost use Rattle.job_format.specs.Reading.{file_at};
 ghost use Rattle.job_check.specs.Region.{region_of};
 ghost use Rattle.job_check.specs.Whole.{place_questions};
 ghost use Rattle.vc4check_c.specs.Places.{ArePlaced, IsNotPlaced};
+ghost use Rattle.vc4check_c.specs.Safe.{AreSafeToRun};
 
 use crate::jobs::{JobsAnswer, accepted, put, refused};
 use crate::status::{NO_MEMORY, REFUSED};
@@ -36,6 +37,8 @@ pub extern "C" fn vc4check_place(
     ensures statuses { result ≤ 3 }
     ensures accepted { result ≡ 0 → ArePlaced bytes.now answer.new }
     ensures relocated { result ≡ 0 → window.new ≡ with_bytes window.old 0 (region_of (file_at bytes.now)) }
+    // With the window's bytes where the answer says, every run of the jobs is safe.
+    ensures safe { result ≡ 0 → AreSafeToRun (file_at bytes.now) window.new answer.new }
     ensures refused { result ≡ 1 → IsNotPlaced bytes.now (first_of (place_questions bytes.now)) answer.new }
     ensures short { result ≡ 2 → ArePlaced bytes.now answer.new }
     ensures fits { result ≡ 0 → length (region_of (file_at bytes.now)) ≤ length window.old }

@@ -6,6 +6,9 @@ ghost use Rattle.job_format.specs.Parts.{parts_view};
 ghost use Rattle.job_check.specs.Faults.{place_stages};
 ghost use Rattle.job_check.specs.Region.{region_of, IsRegion};
 ghost use Rattle.vc4check_c.specs.Telling.{AreKnown};
+ghost use Rattle.vc4check_c.specs.Types.{IsOfTypes};
+ghost use Rattle.vc4check_c.specs.Safe.{IsSafeToRun};
+ghost use Rattle.vc4check_c.specs.Joins.{MayJoin};
 ghost use Rattle.vc4check_c.specs.Submission.{file_of, own_questions, submission_questions};
 ghost use Rattle.vc4check_c.specs.Submit.{accepted_verdict, refused_verdict, Tells, IsTaken, IsNotTaken};
 
@@ -140,6 +143,10 @@ pub extern "C" fn vc4check_submit(
     ensures statuses { result ≤ 3 }
     ensures accepted { result ≡ 0 → IsTaken submission.now answer.new }
     ensures relocated { result ≡ 0 → window.new ≡ with_bytes window.old 0 (region_of (file_of submission.now)) }
+    // With the window's bytes where the answer says, every run of the job is safe: the numbers are of their types, and no more is asked.
+    ensures safe { result ≡ 0 → IsOfTypes submission.now → IsSafeToRun submission.now window.new answer.new }
+    // And it may join jobs that are live, where the driver keeps its duties.
+    ensures joins { result ≡ 0 → IsOfTypes submission.now → MayJoin submission.now window.new answer.new }
     ensures refused { result ≡ 1 → IsNotTaken submission.now (first_of (submission_questions submission.now)) answer.new }
     ensures short { result ≡ 2 → IsTaken submission.now answer.new }
     ensures fits { result ≡ 0 → length (region_of (file_of submission.now)) ≤ length window.old }
