@@ -1,4 +1,3 @@
-pub mod Counts
 pub mod Headline
 pub mod Told
 pub mod Appending
@@ -6,3 +5,4 @@ pub mod Checked
 pub mod Images
 pub mod Versions
 pub mod Again
+pub mod Promised

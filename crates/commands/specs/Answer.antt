@@ -4,9 +4,9 @@ use Rattle.field_words.specs.Questions.{IsFirst}
 use Rattle.job_format.specs.{declared.rule.Refusal.Refusal, File.IsFileOf, Model.FileModel, Reading.file_at, Text.file_text}
 use Rattle.job_check.specs.{Whole.all_questions, Whole.refusal_of, Emit.memory_of, Emit.lengths_of, Emit.all_lengths_of, Jobs.layouts_of}
 use Rattle.dumper.specs.{Text.accepted_text, Text.refused_text, Example.example_text}
-use Rattle.commands.specs.declared.command.Command.TheVariants.{Check, Replay, Runs, Drawn, Upgrade, Bound, Show, FromText, Asm, Disasm, Shader, ShaderText, Slots, Queue, Session, Untile, Tile, Level}
+use Rattle.commands.specs.declared.command.Command.TheVariants.{Check, Runs, Drawn, Upgrade, Bound, Show, FromText, Asm, Disasm, Shader, ShaderText, Slots, Queue, Session, Untile, Tile, Level}
 use Rattle.commands.specs.{declared.command.Command.Command, Pictures.IsUntileAnswer, Pictures.IsTileAnswer, Pictures.IsLevelAnswer}
-use Rattle.commands.specs.{Replay.IsReplayAnswer, Replay.IsTrialAnswer, Drawn.IsDrawnAnswer, Bound.IsBoundAnswer, Upgrade.IsUpgradeAnswer}
+use Rattle.commands.specs.{Replay.IsTrialAnswer, Drawn.IsDrawnAnswer, Bound.IsBoundAnswer, Upgrade.IsUpgradeAnswer}
 use Rattle.commands.specs.{Scripts.IsSlotsAnswer, Scripts.IsQueueAnswer, Scripts.IsSessionAnswer, Show.IsShowAnswer, Show.IsMakeAnswer}
 use Rattle.commands.specs.{Shader.IsAsmAnswer, Shader.IsDisasmAnswer, LoneShader.IsShaderAnswer, LoneShader.IsShaderTextAnswer}
 use Rattle.example_job.specs.Example.{example}
@@ -27,7 +27,6 @@ IsCheckAnswer bytes status text = IsVerdict bytes (refusal_of bytes) (file_at by
 -- what each command answers
 abbrev pub IsAnswer : Command → List ℕ → ℕ → List ℕ → Type 0
 IsAnswer Check bytes status text = IsCheckAnswer bytes status text
-IsAnswer (Replay steps seed) bytes status text = IsReplayAnswer steps seed bytes status text
 IsAnswer (Runs trial) bytes status text = IsTrialAnswer trial bytes status text
 IsAnswer Drawn bytes status text = IsDrawnAnswer bytes status text
 IsAnswer Upgrade bytes status text = IsUpgradeAnswer bytes status text

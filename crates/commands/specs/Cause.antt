@@ -11,7 +11,7 @@ use Rattle.rule_words.specs.declared.name.Family.TheVariants.{Kind as KindFamily
 use Rattle.rule_words.specs.{declared.line.Line.Line, declared.name.RuleName.RuleName, Line.line_text, Line.IsLineOf}
 use Rattle.rule_words.specs.Names.{name_text, sentence_of}
 use Rattle.commands.specs.declared.cause.Cause.TheVariants.{Rule, Kind, Mistake, Shader as ShaderCause, Long, Call, Part, Size, Level as LevelCause, Words}
-use Rattle.commands.specs.declared.command.Command.TheVariants.{Check, Replay, Runs, Drawn, Upgrade, Bound, Show, FromText, Asm, Disasm, Shader, ShaderText, Slots, Queue, Session, Untile, Tile, Level}
+use Rattle.commands.specs.declared.command.Command.TheVariants.{Check, Runs, Drawn, Upgrade, Bound, Show, FromText, Asm, Disasm, Shader, ShaderText, Slots, Queue, Session, Untile, Tile, Level}
 use Rattle.commands.specs.{declared.cause.Cause.Cause, declared.command.Command.Command, declared.surfaces.TexturePart.TexturePart}
 use Rattle.commands.specs.{Upgrade.format_rules, WordFault.word_fault_text}
 use Rattle.shader_check.specs.{declared.fault.ShaderFault.ShaderFault, Rules.shader_questions}
@@ -150,7 +150,6 @@ level_fault part bytes = first_of (level_questions (slice_index part.setup 0) (s
 -- Why each command refuses its input; None where it doesn't.
 abbrev pub IsCause : Command → List ℕ → Option Cause → Type 0
 IsCause Check bytes cause = IsRuleCause bytes (refusal_of bytes) cause
-IsCause (Replay steps seed) bytes cause = IsRuleCause bytes (refusal_of bytes) cause
 IsCause (Runs trial) bytes cause = IsRuleCause bytes (refusal_of bytes) cause
 IsCause Drawn bytes cause = IsRuleCause bytes (refusal_of bytes) cause
 IsCause Upgrade bytes cause = IsRuleCause bytes (first_of (format_rules bytes)) cause

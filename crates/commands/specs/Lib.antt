@@ -4,6 +4,7 @@ pub mod Cause
 pub mod Drawn
 pub mod Headline
 pub mod Image
+pub mod Line
 pub mod LoneShader
 pub mod Notice
 pub mod Pictures

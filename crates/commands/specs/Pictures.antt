@@ -1,7 +1,6 @@
 -- Pictures: the words that name one, and what commands on them answer.
-use Rattle.std.specs.Prelude.{◌≡◌, ◌≢◌, ◌⊎◌, ℕ, ◌≤◌, ◌*◌, ◌==◌, ◌||◌, List, [], ◌∷◌, ◌++◌, codes, length, slice_index, bytes_eq, Option, Some, None, if◌then◌else◌, decimal}
+use Rattle.std.specs.Prelude.{◌≡◌, ◌≢◌, ◌⊎◌, ℕ, ◌≤◌, ◌*◌, ◌==◌, ◌||◌, List, ◌++◌, codes, length, slice_index, bytes_eq, Option, Some, None, if◌then◌else◌, decimal}
 use Rattle.field_words.specs.Questions.{first_of}
-use Rattle.script.specs.Number.{number_within}
 use Rattle.texture_layouts.specs.{declared.surface.Tiling.Tiling, Surface.IsPixelSize, Surface.size_for, Setup.texture_of}
 use Rattle.texture_layouts.specs.declared.surface.Tiling.TheVariants.{T, Lt}
 use Rattle.tile_convert.specs.declared.level.LevelFault.TheVariants.{Texture, Face, Level}
@@ -24,45 +23,8 @@ pixel_by (Some cpp) = pixel_of cpp
 abbrev pub most_side : ℕ
 most_side = 4096
 
-abbrev pub side_of : ℕ → Option ℕ
-side_of side = if side == 0 then None else Some side
-
-abbrev pub side_by : Option ℕ → Option ℕ
-side_by None = None
-side_by (Some side) = side_of side
-
--- the picture of a tiling, a pixel's bytes and two sides
-abbrev pub picture_by : Option Tiling → Option ℕ → Option ℕ → Option ℕ → Option Picture
-picture_by None cpp width height = None
-picture_by (Some tiling) None width height = None
-picture_by (Some tiling) (Some cpp) None height = None
-picture_by (Some tiling) (Some cpp) (Some width) None = None
-picture_by (Some tiling) (Some cpp) (Some width) (Some height) = Some (record { tiling = tiling; cpp = cpp; width = width; height = height })
-
-abbrev pub picture_named : List ℕ → List ℕ → List ℕ → List ℕ → Option Picture
-picture_named tiling cpp width height = picture_by (tiling_named tiling) (pixel_by (number_within 8 cpp))
-    (side_by (number_within most_side width)) (side_by (number_within most_side height))
-
 abbrev pub IsPictureWithin : Picture → Type 0
 IsPictureWithin p = IsPixelSize p.cpp × (p.width ≤ most_side) × (p.height ≤ most_side)
-
--- the greatest of a texture's set-up words, and the greatest number of a face and of a level
-abbrev pub most_word : ℕ
-most_word = 4294967295
-
-abbrev pub level_by : Option ℕ → Option ℕ → Option ℕ → Option ℕ → Option ℕ → Option ℕ → Option TexturePart
-level_by None p1 p2 p3 face level = None
-level_by (Some p0) None p2 p3 face level = None
-level_by (Some p0) (Some p1) None p3 face level = None
-level_by (Some p0) (Some p1) (Some p2) None face level = None
-level_by (Some p0) (Some p1) (Some p2) (Some p3) None level = None
-level_by (Some p0) (Some p1) (Some p2) (Some p3) (Some face) None = None
-level_by (Some p0) (Some p1) (Some p2) (Some p3) (Some face) (Some level) =
-    Some (record { setup = p0 ∷ (p1 ∷ (p2 ∷ (p3 ∷ []))); face = face; level = level })
-
-abbrev pub level_named : List ℕ → List ℕ → List ℕ → List ℕ → List ℕ → List ℕ → Option TexturePart
-level_named p0 p1 p2 p3 face level = level_by (number_within most_word p0) (number_within most_word p1) (number_within most_word p2)
-    (number_within most_word p3) (number_within most_word face) (number_within most_word level)
 
 -- a line for a length that isn't the wanted one
 unfoldable pub length_wanted_text : ℕ → ℕ → List ℕ

@@ -1,6 +1,20 @@
--- What a command leaves behind. `IsReply status text` is the command's own relation: what it answers to its input.
-use Rattle.std.specs.{Prelude.ℕ, Prelude.List, Prelude.Option, Io.KnownBytes.Appends}
-use Rattle.job_io.specs.Traffic.{AppendsFront}
+-- What a run does. `IsReply status text` is a command's own relation: what it answers to its input.
+--
+-- A source and a sink are told by functions of their states: `left`, the bytes still to come, and `held`, the bytes taken, where they
+-- tell them; and `faults`, how often they failed.
+use Rattle.std.specs.Prelude.{◌≡◌, ◌≢◌, ◌⊎◌, ◌↔◌, ℕ, ◌≤◌, ◌<◌, length, List, Option, Some, None, IfSome}
+use Rattle.std.specs.Io.KnownBytes.{Appends, IsAtEnd}
+use Rattle.driver_law.specs.Driver.{DriversAreSafe}
+use Rattle.headline.specs.{Ends.AcceptedEnd, MayRun.AcceptedMayRun}
+use Rattle.job_bound.specs.Law.{BoundHolds, EndHolds}
+use Rattle.job_io.specs.{Faults.Rose, Faults.LastCallFailed, Traffic.AppendsFront, Traffic.count_taken}
+use Rattle.job_queue.specs.Laws.{StartsLate}
+use Rattle.job_safety.specs.Clients.{BytesApart}
+use Rattle.overflow_slots.specs.Laws.{StaysOrdered}
+use Rattle.session_law.specs.{Laws.ClientsAreApart, Laws.MemoryIsKept, Scripts.ScriptsAreOfCalls}
+use Rattle.tile_convert.specs.Picture.{UntilesWhatWasTiled, TilesWhatWasUntiled}
+use Rattle.commands.specs.{declared.command.Command.Command, declared.command.Task.Task}
+use Rattle.commands.specs.{Answer.IsAnswer, Show.MakesAgain, Upgrade.UpgradeKeepsAll, Words.limit_of}
 
 -- The answer has this status, and its text was appended to a sink.
 abbrev pub IsAnswered : (ℕ → List ℕ → Type 0) → ℕ → Option (List ℕ) → Option (List ℕ) → Type 0
@@ -9,3 +23,76 @@ IsAnswered IsReply status before now = (text : List ℕ) × IsReply status text 
 -- There is an answer, of whose text a front was appended to a sink.
 abbrev pub IsCut : (ℕ → List ℕ → Type 0) → Option (List ℕ) → Option (List ℕ) → Type 0
 IsCut IsReply before now = (status : ℕ) × (text : List ℕ) × IsReply status text × AppendsFront before now text
+
+-- A source or a sink failed at its last call where the status is this one, and else never.
+pub record FailsAt {X : Type 0} (bytes : X → Option (List ℕ)) (faults : X → ℕ) (old new : X) (failing status : ℕ) : Type 0 where
+  pub rose : status ≡ failing → Rose (faults old) (faults new)
+  pub last : status ≡ failing → LastCallFailed bytes faults old new
+  pub steady : status ≢ failing → faults new ≡ faults old
+
+-- How a run ends: with which status, and what stays as it was. 0 is done and 1 refused; 2 is that the words ask for nothing, 3 that the
+-- source failed, 4 that the sink failed, 5 want of memory, and 6 more input than the command's limit.
+pub record Ends {X Y : Type 0} (left : X → Option (List ℕ)) (source_faults : X → ℕ) (source source_now : X)
+    (held : Y → Option (List ℕ)) (sink_faults : Y → ℕ) (sink sink_now : Y) (asked : Option Task) (status : ℕ) : Type 0 where
+  pub statuses : status ≤ 6
+  pub words : (status ≡ 2) ↔ (asked ≡ None)
+  pub read : FailsAt left source_faults source source_now 3 status
+  pub write : FailsAt held sink_faults sink sink_now 4 status
+  -- Where neither failed, and the words ask for something, there is an answer but for want of memory and too long an input.
+  pub complete : (Rose (source_faults source) (source_faults source_now) → ⊥) → (Rose (sink_faults sink) (sink_faults sink_now) → ⊥)
+      → status ≢ 2 → status ≢ 5 → status ≢ 6 → status < 2
+  -- Wrong words read nothing, and only an answer writes.
+  pub untouched : status ≡ 2 → source_now ≡ source
+  pub nothing : 1 < status → status ≢ 4 → sink_now ≡ sink
+
+-- What a command does with its input, of which the source has `left` before the run and `rest` after it.
+pub record IsServed (command : Command) (left rest before now : Option (List ℕ)) (status : ℕ) : Type 0 where
+  -- an answer is one to all of the input
+  pub all : ((status < 2) ⊎ (status ≡ 4)) → IsAtEnd rest
+  -- status 6 comes with more input than the command's limit, and only then
+  pub long : IfSome left (λ _. (status ≡ 6) ↔ (limit_of command < count_taken left rest))
+  pub within : IfSome left (λ bytes. length bytes ≤ limit_of command → status ≢ 6)
+  -- the whole answer, or a front of it where the sink failed
+  pub answered : status < 2 → IfSome left (λ bytes. IsAnswered (IsAnswer command bytes) status before now)
+  pub cut : status ≡ 4 → IfSome left (λ bytes. IsCut (IsAnswer command bytes) before now)
+
+-- What is answered where nothing is read, which is never a refusal.
+pub record IsSaid {X : Type 0} (IsReply : ℕ → List ℕ → Type 0) (source source_now : X) (before now : Option (List ℕ)) (status : ℕ) : Type 0 where
+  pub statuses : (status ≡ 0) ⊎ ((status ≡ 4) ⊎ (status ≡ 5))
+  pub unread : source_now ≡ source
+  pub answered : status < 2 → IsAnswered IsReply status before now
+  pub cut : status ≡ 4 → IsCut IsReply before now
+
+-- What is promised of every job and of every call, whatever a run is given.
+pub record Promises : Type 0 where
+  -- Of all bytes of which no rule stands, every run of the machine from the memory that they are emitted as is safe, each access in what
+  -- its own job may reach, and bytes outside what jobs may reach have no effect.
+  pub law : AcceptedMayRun
+  -- What a client's jobs access, and what its memory ends as, doesn't depend on the other clients, where its own jobs take the same steps.
+  pub apart : BytesApart
+  -- Where no shader branches back, no run has more steps than the file says, and so many more for each step in which a renderer stays at
+  -- an item.
+  pub ends : AcceptedEnd
+  -- The file that `upgrade` writes is refused, or accepted and run, as the one that it read.
+  pub upgrade : UpgradeKeepsAll
+  -- What `make` answers to a text that `show` wrote is the bytes that `show` read.
+  pub makes_again : MakesAgain
+  -- What `session` answers to a script is the replies to its calls, one by one.
+  pub scripts : ScriptsAreOfCalls
+  -- A client to whom no reply was that memory is full has had exactly the replies of its own commands alone.
+  pub clients : ClientsAreApart
+  -- Each live buffer of a session lies in its pages, and all other pages are zero.
+  pub pages : MemoryIsKept
+  -- Where `bound` answers two numbers, each run of the jobs keeps to them.
+  pub bound : BoundHolds
+  -- Where it answers `ends` besides, each run that can't go on has finished, or waits for room in its tile slot.
+  pub finish : EndHolds
+  -- A driver that hands in jobs of accepted files at any time, also while others run, retires them and resets the chip, is safe for ever.
+  pub days : DriversAreSafe
+  -- Blocks that the slot allocator grants lie apart, each in a slot of its own job.
+  pub blocks : StaysOrdered
+  -- Where the queue starts a job, each earlier writer of what it reads has rendered.
+  pub late : StartsLate
+  -- `untile` gives back what was tiled, and `tile` what was untiled.
+  pub untiled : UntilesWhatWasTiled
+  pub tiled : TilesWhatWasUntiled

@@ -7,18 +7,6 @@ use Rattle.commands.specs.declared.help.Topic.TheVariants.{Program, Command, Ver
 use Rattle.commands.specs.{declared.help.Verb.Verb, declared.help.Topic.Topic}
 
 -- the command that a word names
-abbrev pub other_verb : List ℕ → Option Verb
-other_verb word =
-    if bytes_eq word (codes "queue") then Some Queue
-    else (if bytes_eq word (codes "session") then Some Session
-    else (if bytes_eq word (codes "untile") then Some Untile
-    else (if bytes_eq word (codes "tile") then Some Tile
-    else (if bytes_eq word (codes "level") then Some Level
-    else (if bytes_eq word (codes "asm") then Some Asm
-    else (if bytes_eq word (codes "disasm") then Some Disasm
-    else (if bytes_eq word (codes "shader") then Some Shader
-    else (if bytes_eq word (codes "explain") then Some Explain else None))))))))
-
 abbrev pub verb_named : List ℕ → Option Verb
 verb_named word =
     if bytes_eq word (codes "check") then Some Check
@@ -29,7 +17,16 @@ verb_named word =
     else (if bytes_eq word (codes "show") then Some Show
     else (if bytes_eq word (codes "make") then Some Make
     else (if bytes_eq word (codes "gen") then Some Gen
-    else (if bytes_eq word (codes "slots") then Some Slots else other_verb word))))))))
+    else (if bytes_eq word (codes "slots") then Some Slots
+    else (if bytes_eq word (codes "queue") then Some Queue
+    else (if bytes_eq word (codes "session") then Some Session
+    else (if bytes_eq word (codes "untile") then Some Untile
+    else (if bytes_eq word (codes "tile") then Some Tile
+    else (if bytes_eq word (codes "level") then Some Level
+    else (if bytes_eq word (codes "asm") then Some Asm
+    else (if bytes_eq word (codes "disasm") then Some Disasm
+    else (if bytes_eq word (codes "shader") then Some Shader
+    else (if bytes_eq word (codes "explain") then Some Explain else None)))))))))))))))))
 
 -- a command's line, behind the program's name
 unfoldable pub usage_of : Verb → List ℕ

@@ -1,129 +1,145 @@
--- The words after the program's name.
-use Rattle.std.specs.Prelude.{ℕ, ◌≤◌, ◌==◌, ◌-◌, ◌^◌, ◌&&◌, not, Bool, true, false, is_some, take, length, List, [], ◌∷◌, codes, map, String, string_bytes, Option, Some, None, option_map, if◌then◌else◌}
-use Rattle.std.specs.{Prelude.bytes_eq, declared.alloc.Global.Global}
+-- The words after the program's name: what they ask for, or which of them is wrong.
+use Rattle.std.specs.Prelude.{ℕ, ◌≤◌, ◌+◌, ◌-◌, ◌&&◌, not, Bool, true, false, is_ok, take, length, List, [], ◌∷◌, codes, bytes_eq, String, Option, Some, None, Result, Ok, Err, if◌then◌else◌}
+use Rattle.std.specs.Result.{result_ok}
+use Rattle.std.specs.declared.alloc.Global.{Global}
 use Rattle.field_words.specs.Sizes.{most_code, most_list}
-use Rattle.commands.specs.declared.command.Command.TheVariants.{Check, Replay, Runs, Drawn, Upgrade, Bound, Show, FromText, Asm, Disasm, Shader, ShaderText, Slots, Queue, Session, Untile, Tile, Level}
-use Rattle.commands.specs.declared.command.Task.TheVariants.{Read, Make, Tell}
-use Rattle.commands.specs.declared.help.Topic.TheVariants.{Program, Command as CommandTopic, Version, Rule}
-use Rattle.commands.specs.Trials.{most_steps, trial_named, favour_named, favoured_run, favoured_trial, drawn_run, favoured_drawn}
-use Rattle.commands.specs.{declared.command.Command.Command, declared.command.Task.Task, declared.help.Verb.Verb, Topics.verb_named}
-use Rattle.commands.specs.Pictures.{picture_named, level_named, IsPictureWithin}
-use Rattle.rule_words.specs.{declared.name.RuleName.RuleName, Names.rule_named, Names.kind_named}
-use Rattle.script.specs.Number.{number_within}
+use Rattle.replay.specs.declared.units.UnitKind.{UnitKind}
+use Rattle.seeded_runs.specs.declared.told.Look.{Look}
+use Rattle.seeded_runs.specs.declared.told.Look.TheVariants as look
 use Rattle.seeded_runs.specs.Told.{IsTrialWithin}
+use Rattle.rule_words.specs.declared.name.RuleName.{RuleName}
+use Rattle.commands.specs.declared.command.Command.TheVariants.{Check, Runs, Drawn, Upgrade, Bound, Show, FromText, Asm, Disasm, Shader, ShaderText, Slots, Queue, Session, Untile, Tile, Level}
+use Rattle.commands.specs.declared.command.Task.TheVariants.{Read, Make, Tell}
+use Rattle.commands.specs.declared.help.Topic.TheVariants.{Program, Command as CommandTopic, Version, Rule as RuleTopic}
+use Rattle.commands.specs.declared.help.Verb.TheVariants as verb
+use Rattle.commands.specs.declared.surfaces.Picture.{Picture}
+use Rattle.commands.specs.declared.word_fault.Argument.TheVariants.{Steps, Example, SlotCount, Buffers, Width, Height, P0, P1, P2, P3, Face, LevelNumber}
+use Rattle.commands.specs.declared.word_fault.WordFault.TheVariants.{Nothing, Unknown, Alone}
+use Rattle.commands.specs.{declared.command.Command.Command, declared.command.Task.Task, declared.help.Topic.Topic, declared.help.Verb.Verb, declared.word_fault.WordFault.WordFault}
+use Rattle.commands.specs.Line.{Line, texts, number, seed, unit, seeds, tiling, cpp, rule, kind, option, ended}
+use Rattle.commands.specs.{Pictures.IsPictureWithin, Topics.verb_named, WordFault.most_slots, WordFault.most_queued}
 
-abbrev pub texts : List (String Global) → List (List ℕ)
-texts words = map string_bytes words
+-- STEPS SEED: a run that is shown in this way, where a kind of unit is favoured or none
+abbrev pub run : Look → Option UnitKind → Line → Result Task WordFault
+run shown favoured = number Steps (λ steps. seed (λ seed.
+    ended (Read (Runs (record { look = shown; favoured = favoured; steps = steps; seed = seed })))))
 
-abbrev pub command_named : List ℕ → Option Command
-command_named word =
-    if bytes_eq word (codes "check") then Some Check
-    else (if bytes_eq word (codes "picture") then Some Drawn
-    else (if bytes_eq word (codes "upgrade") then Some Upgrade
-    else (if bytes_eq word (codes "bound") then Some Bound
-    else (if bytes_eq word (codes "show") then Some Show
-    else (if bytes_eq word (codes "make") then Some FromText
-    else (if bytes_eq word (codes "asm") then Some Asm
-    else (if bytes_eq word (codes "disasm") then Some Disasm
-    else (if bytes_eq word (codes "session") then Some Session
-    else (if bytes_eq word (codes "shader") then Some Shader else None)))))))))
+-- A..B STEPS: a run of each seed
+abbrev pub many_runs : Option UnitKind → Line → Result Task WordFault
+many_runs favoured = seeds (λ range. number Steps (λ steps.
+    ended (Read (Runs (record { look = look.Seeds range.count; favoured = favoured; steps = steps; seed = range.first })))))
 
--- one word: a command, or a question about the program
-abbrev pub task_alone : List ℕ → Option Task
-task_alone word =
-    if bytes_eq word (codes "--help") then Some (Tell Program)
-    else (if bytes_eq word (codes "--version") then Some (Tell Version) else option_map Read (command_named word))
+-- [--accesses | --seeds A..B] STEPS [SEED]
+abbrev pub runs : Option UnitKind → Line → Result Task WordFault
+runs favoured =
+    option (codes "--accesses") (run look.Accesses favoured) (option (codes "--seeds") (many_runs favoured) (run look.Steps favoured))
 
--- the greatest number of an example
-abbrev pub most_number : ℕ
-most_number = 4294967295
+-- replay [--favour KIND] [--accesses | --seeds A..B] STEPS [SEED]
+abbrev pub replay : Line → Result Task WordFault
+replay = option (codes "--favour") (unit (λ kind. runs (Some kind))) (runs None)
 
--- the most slots of a book of tile memory; it has one at least
-abbrev pub most_slots : ℕ
-most_slots = 32
+-- picture [--run [--favour KIND] STEPS SEED]
+abbrev pub picture : Line → Result Task WordFault
+picture = option (codes "--run") (option (codes "--favour") (unit (λ kind. run look.Picture (Some kind))) (run look.Picture None))
+    (ended (Read Drawn))
 
-abbrev pub slots_of : ℕ → Option Command
-slots_of slots = if slots == 0 then None else Some (Slots slots)
+-- TILING CPP WIDTH HEIGHT
+abbrev pub pictured : Line → Result Picture WordFault
+pictured = tiling (λ tiling. cpp (λ cpp. number Width (λ width. number Height (λ height.
+    ended (record { tiling = tiling; cpp = cpp; width = width; height = height })))))
 
-abbrev pub slots_by : Option ℕ → Option Command
-slots_by None = None
-slots_by (Some slots) = slots_of slots
+abbrev pub of_picture : (Picture → Command) → Result Picture WordFault → Result Task WordFault
+of_picture command (Ok picture) = Ok (Read (command picture))
+of_picture command (Err fault) = Err fault
 
--- the most buffers that jobs of a queue name
-abbrev pub most_queued : ℕ
-most_queued = 1024
+-- level P0 P1 P2 P3 FACE LEVEL
+abbrev pub level : Line → Result Task WordFault
+level = number P0 (λ p0. number P1 (λ p1. number P2 (λ p2. number P3 (λ p3. number Face (λ face. number LevelNumber (λ level.
+    ended (Read (Level (record { setup = p0 ∷ (p1 ∷ (p2 ∷ (p3 ∷ []))); face = face; level = level })))))))))
 
-abbrev pub task_numbered : List ℕ → List ℕ → Option Task
-task_numbered word number =
-    if bytes_eq word (codes "gen") then option_map Make (number_within most_number number)
-    else (if bytes_eq word (codes "slots") then option_map Read (slots_by (number_within most_slots number))
-    else (if bytes_eq word (codes "queue") then option_map Read (option_map Queue (number_within most_queued number)) else None))
+-- gen NUMBER, slots SLOTS and queue BUFFERS
+abbrev pub example : Line → Result Task WordFault
+example = number Example (λ number. ended (Make number))
 
-abbrev pub told_of : RuleName → Task
-told_of name = Tell (Rule name)
+abbrev pub slots : Line → Result Task WordFault
+slots = number SlotCount (λ slots. ended (Read (Slots slots)))
 
-abbrev pub help_of : Verb → Task
-help_of verb = Tell (CommandTopic verb)
+abbrev pub queue : Line → Result Task WordFault
+queue = number Buffers (λ buffers. ended (Read (Queue buffers)))
 
--- a shader as text
-abbrev pub shader_named : List ℕ → Option Command
-shader_named second = if bytes_eq second (codes "--asm") then Some ShaderText else None
+-- shader [--asm]
+abbrev pub shader : Line → Result Task WordFault
+shader = option (codes "--asm") (ended (Read ShaderText)) (ended (Read Shader))
 
--- two words: a command and its number, a shader as text, a rule to be explained, or a command of which more is to be said
-abbrev pub task_paired : List ℕ → List ℕ → Option Task
-task_paired word second =
-    if bytes_eq second (codes "--help") then option_map help_of (verb_named word)
-    else (if bytes_eq word (codes "explain") then option_map told_of (rule_named second)
-    else (if bytes_eq word (codes "shader") then option_map Read (shader_named second) else task_numbered word second))
+-- explain RULE, or kind and a number
+abbrev pub told_of : RuleName → Line → Result Task WordFault
+told_of name = ended (Tell (RuleTopic name))
 
--- a run of at most so many steps, by the script of a seed
-abbrev pub replay_by : Option ℕ → Option ℕ → Option Command
-replay_by None seed = None
-replay_by (Some steps) None = None
-replay_by (Some steps) (Some seed) = Some (Replay steps seed)
+abbrev pub explain : Line → Result Task WordFault
+explain = option (codes "kind") (kind told_of) (rule told_of)
 
-abbrev pub replay_named : List ℕ → List ℕ → List ℕ → Option Command
-replay_named word steps seed = if bytes_eq word (codes "replay") then replay_by (number_within most_steps steps) (number_within (2 ^ 64 - 1) seed) else None
+-- the arguments of each command
+abbrev pub asked : Verb → Line → Result Task WordFault
+asked verb.Check = ended (Read Check)
+asked verb.Replay = replay
+asked verb.Picture = picture
+asked verb.Upgrade = ended (Read Upgrade)
+asked verb.Bound = ended (Read Bound)
+asked verb.Show = ended (Read Show)
+asked verb.Make = ended (Read FromText)
+asked verb.Gen = example
+asked verb.Slots = slots
+asked verb.Queue = queue
+asked verb.Session = ended (Read Session)
+asked verb.Untile = λ line. of_picture Untile (pictured line)
+asked verb.Tile = λ line. of_picture Tile (pictured line)
+asked verb.Level = level
+asked verb.Asm = ended (Read Asm)
+asked verb.Disasm = ended (Read Disasm)
+asked verb.Shader = shader
+asked verb.Explain = explain
 
--- three words: a run, or a kind of the assembler's faults to be explained
-abbrev pub kind_explained : List ℕ → List ℕ → Option Task
-kind_explained second third = if bytes_eq second (codes "kind") then option_map told_of (kind_named third) else None
+-- or `--help` alone
+abbrev pub task_behind : Line → Result Task WordFault
+task_behind line = option (codes "--help") (ended (Tell (CommandTopic line.verb))) (asked line.verb) line
 
-abbrev pub task_tripled : List ℕ → List ℕ → List ℕ → Option Task
-task_tripled word second third =
-    if bytes_eq word (codes "explain") then kind_explained second third
-    else option_map Read (replay_named word second third)
+-- a question about the program, which is its only word
+abbrev pub topic_alone : Topic → List (List ℕ) → Result Task WordFault
+topic_alone topic [] = Ok (Tell topic)
+topic_alone topic (word ∷ words) = Err Alone
 
--- runs that are told in another way, or drawn
-abbrev pub runs_named : List ℕ → List ℕ → List ℕ → List ℕ → Option Command
-runs_named word look first second =
-    if bytes_eq word (codes "replay") then option_map Runs (trial_named None look first second)
-    else (if bytes_eq word (codes "picture") then option_map Runs (drawn_run look first second) else None)
+abbrev pub topic_named : List ℕ → List (List ℕ) → Result Task WordFault
+topic_named first words =
+    if bytes_eq first (codes "--help") then topic_alone Program words
+    else (if bytes_eq first (codes "--version") then topic_alone Version words else Err Unknown)
 
-abbrev pub favoured_runs : List ℕ → List ℕ → List ℕ → List ℕ → List ℕ → List ℕ → Option Command
-favoured_runs word second third fourth fifth sixth =
-    if bytes_eq word (codes "replay") then option_map Runs (favoured_trial (favour_named second third) fourth fifth sixth)
-    else (if bytes_eq word (codes "picture") then option_map Runs (favoured_drawn second (favour_named third fourth) fifth sixth) else None)
+abbrev pub task_by : List ℕ → Option Verb → List (List ℕ) → Result Task WordFault
+task_by first None words = topic_named first words
+task_by first (Some verb) words = task_behind (record { verb = verb; count = length words + 1; words = words })
 
--- a picture in a tiling, and a level of a texture
-abbrev pub pictured : List ℕ → List ℕ → List ℕ → List ℕ → List ℕ → Option Command
-pictured word tiling cpp width height =
-    if bytes_eq word (codes "untile") then option_map Untile (picture_named tiling cpp width height)
-    else (if bytes_eq word (codes "tile") then option_map Tile (picture_named tiling cpp width height) else None)
+-- What the words ask for: to read input by a command, to make an example, or to tell of a topic. Or why they ask for nothing: the first
+-- word that isn't what it may be, or that is missing, or else the last, which is one too many.
+unfoldable pub task_or_fault : List (List ℕ) → Result Task WordFault
+task_or_fault [] = Err Nothing
+task_or_fault (first ∷ words) = task_by first (verb_named first) words
 
--- five words: a run in which a kind of unit is favoured, or a picture
-abbrev pub five_named : List ℕ → List ℕ → List ℕ → List ℕ → List ℕ → Option Command
-five_named word second third fourth fifth =
-    if bytes_eq word (codes "replay") then option_map Runs (favoured_run (favour_named second third) fourth fifth)
-    else pictured word second third fourth fifth
+abbrev pub task_of : List (List ℕ) → Option Task
+task_of words = result_ok (task_or_fault words)
 
-abbrev pub textured : List ℕ → List ℕ → List ℕ → List ℕ → List ℕ → List ℕ → List ℕ → Option Command
-textured word p0 p1 p2 p3 face level = if bytes_eq word (codes "level") then option_map Level (level_named p0 p1 p2 p3 face level) else None
+abbrev pub is_read : Result Task WordFault → Bool
+is_read (Ok (Read command)) = true
+is_read (Ok (Make number)) = false
+is_read (Ok (Tell topic)) = false
+is_read (Err fault) = false
+
+-- Whether the last word is the name of a file to read in place of standard input: all words ask for nothing, and those before it for a
+-- command that reads.
+abbrev pub names_file : List (String Global) → Bool
+names_file words = not (is_ok (task_or_fault (texts words))) && is_read (task_or_fault (texts (take (length words - 1) words)))
 
 -- a command whose numbers are within these
 abbrev pub IsWithin : Command → Type 0
 IsWithin Check = Unit {0}
-IsWithin (Replay steps seed) = steps ≤ most_steps
 IsWithin (Runs trial) = IsTrialWithin trial
 IsWithin Drawn = Unit {0}
 IsWithin Upgrade = Unit {0}
@@ -146,29 +162,6 @@ ReadsWithin (Read command) = IsWithin command
 ReadsWithin (Make number) = Unit {0}
 ReadsWithin (Tell topic) = Unit {0}
 
--- what the words ask for, if they ask for something: to read input by a command, to make an example, or to tell of a topic
-unfoldable pub task_of : List (List ℕ) → Option Task
-task_of [] = None
-task_of (word ∷ []) = task_alone word
-task_of (word ∷ second ∷ []) = task_paired word second
-task_of (word ∷ second ∷ third ∷ []) = task_tripled word second third
-task_of (word ∷ look ∷ first ∷ second ∷ []) = option_map Read (runs_named word look first second)
-task_of (word ∷ tiling ∷ cpp ∷ width ∷ height ∷ []) = option_map Read (five_named word tiling cpp width height)
-task_of (word ∷ second ∷ third ∷ fourth ∷ fifth ∷ sixth ∷ []) = option_map Read (favoured_runs word second third fourth fifth sixth)
-task_of (word ∷ p0 ∷ p1 ∷ p2 ∷ p3 ∷ face ∷ level ∷ []) = option_map Read (textured word p0 p1 p2 p3 face level)
-task_of _ = None
-
-abbrev pub is_read : Option Task → Bool
-is_read None = false
-is_read (Some (Read command)) = true
-is_read (Some (Make number)) = false
-is_read (Some (Tell topic)) = false
-
--- Whether the last word is the name of a file to read in place of standard input: all words ask for nothing, and those before it for a
--- command that reads.
-abbrev pub names_file : List (String Global) → Bool
-names_file words = not (is_some (task_of (texts words))) && is_read (task_of (texts (take (length words - 1) words)))
-
 -- the most bytes of a job file: 48 MiB
 abbrev pub most_file : ℕ
 most_file = 50331648
@@ -180,7 +173,6 @@ most_picture = 25165824
 -- the most bytes of input that a command takes
 abbrev pub limit_of : Command → ℕ
 limit_of Check = most_file
-limit_of (Replay steps seed) = most_file
 limit_of (Runs trial) = most_file
 limit_of Drawn = most_file
 limit_of Upgrade = most_file

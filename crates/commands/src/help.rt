@@ -3,7 +3,7 @@ ghost use Rattle.std.specs.Prelude.{◌≡◌, ◌≢◌, ◌≤◌, ◌<◌, �
 ghost use Rattle.std.specs.List.{flat_map};
 ghost use Rattle.job_io.specs.Faults.{Rose, LastCallFailed};
 ghost use Rattle.commands.specs.Run.{IsAnswered, IsCut};
-ghost use Rattle.commands.specs.Topics.{verb_named, other_verb, usage_of, about_of, usage_line, verb_help, program_help, topic_text, IsTopicAnswer};
+ghost use Rattle.commands.specs.Topics.{verb_named, usage_of, about_of, usage_line, verb_help, program_help, topic_text, IsTopicAnswer};
 
 use super::answer::{Answer, reply};
 use field_words::NoMemory;
@@ -195,67 +195,27 @@ const VERBS: [Verb; 18] = [
 pub fn verb_named(word: &str) -> Option<Verb>
     ensures { result ≡ verb_named word.now }
 {
-    if word == "check" {
-        return Some(Verb::Check);
+    match word {
+        "check" => Some(Verb::Check),
+        "replay" => Some(Verb::Replay),
+        "picture" => Some(Verb::Picture),
+        "upgrade" => Some(Verb::Upgrade),
+        "bound" => Some(Verb::Bound),
+        "show" => Some(Verb::Show),
+        "make" => Some(Verb::Make),
+        "gen" => Some(Verb::Gen),
+        "slots" => Some(Verb::Slots),
+        "queue" => Some(Verb::Queue),
+        "session" => Some(Verb::Session),
+        "untile" => Some(Verb::Untile),
+        "tile" => Some(Verb::Tile),
+        "level" => Some(Verb::Level),
+        "asm" => Some(Verb::Asm),
+        "disasm" => Some(Verb::Disasm),
+        "shader" => Some(Verb::Shader),
+        "explain" => Some(Verb::Explain),
+        _ => None,
     }
-    if word == "replay" {
-        return Some(Verb::Replay);
-    }
-    if word == "picture" {
-        return Some(Verb::Picture);
-    }
-    if word == "upgrade" {
-        return Some(Verb::Upgrade);
-    }
-    if word == "bound" {
-        return Some(Verb::Bound);
-    }
-    if word == "show" {
-        return Some(Verb::Show);
-    }
-    if word == "make" {
-        return Some(Verb::Make);
-    }
-    if word == "gen" {
-        return Some(Verb::Gen);
-    }
-    if word == "slots" {
-        return Some(Verb::Slots);
-    }
-    other_verb(word)
-}
-
-fn other_verb(word: &str) -> Option<Verb>
-    ensures { result ≡ other_verb word.now }
-{
-    if word == "queue" {
-        return Some(Verb::Queue);
-    }
-    if word == "session" {
-        return Some(Verb::Session);
-    }
-    if word == "untile" {
-        return Some(Verb::Untile);
-    }
-    if word == "tile" {
-        return Some(Verb::Tile);
-    }
-    if word == "level" {
-        return Some(Verb::Level);
-    }
-    if word == "asm" {
-        return Some(Verb::Asm);
-    }
-    if word == "disasm" {
-        return Some(Verb::Disasm);
-    }
-    if word == "shader" {
-        return Some(Verb::Shader);
-    }
-    if word == "explain" {
-        return Some(Verb::Explain);
-    }
-    None
 }
 
 impl Verb {

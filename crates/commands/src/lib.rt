@@ -23,8 +23,9 @@ mod surfaces;
 mod trial;
 mod upgrading;
 mod word_fault;
+mod words;
 
 pub use cause::Cause;
 pub use program::Checker;
-pub use runs::{run, run_told};
+pub use runs::{run, run_with_cause};
 pub use word_fault::WordFault;

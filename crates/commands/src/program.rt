@@ -1,8 +1,8 @@
 //! The program over any source and sink, for `main`.
 use super::cause::Cause;
-use super::command::names_file;
 use super::notice::notice_of;
-use super::runs::run_told;
+use super::runs::run_with_cause;
+use super::words::names_file;
 use entry::{Ended, Program};
 use job_io::{Sink, Source};
 use std::alloc::Global;
@@ -28,7 +28,7 @@ impl Program for Checker {
         source: &mut S,
         sink: &mut K,
     ) -> Ended<Cause> {
-        run_told(alloc, words, source, sink)
+        run_with_cause(alloc, words, source, sink)
     }
 
     fn notice(&self, status: u8) -> Option<&'static str> {

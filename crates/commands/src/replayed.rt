@@ -1,48 +1,19 @@
 //! The command `replay`.
-ghost use Rattle.std.specs.Prelude.{◌≡◌, ◌≤◌, ◌<◌, IfOk};
+ghost use Rattle.std.specs.Prelude.{◌≡◌, ◌<◌, IfOk};
 ghost use Rattle.job_check.specs.Whole.{refusal_of};
 ghost use Rattle.commands.specs.Cause.{IsRuleCause};
-ghost use Rattle.commands.specs.Replay.{IsReplayVerdict, IsReplayAnswer, IsTrialAnswer};
+ghost use Rattle.commands.specs.Replay.{IsTrialVerdict, IsTrialAnswer};
 ghost use Rattle.seeded_runs.specs.Told.{IsTrialWithin};
 
 use super::answer::Answer;
 use super::cause::Cause;
-use dumper::{refusal_text, trace_text};
+use dumper::refusal_text;
 use field_words::{NoMemory, Stop};
-use job_safety::accept;
 use rule_words::line_of;
-use seeded_runs::{Trial, run_of, told_text};
+use seeded_runs::{Trial, told_text};
 use std::alloc::Global;
 
-/// What `replay` answers to these bytes: the text of a run of the job's machine, by the script of the seed; or a refusal.
-#[tactic(auto, unfolding(job_check::specs::Whole::refusal_of), using(field_words::proofs::Questions::first_is))]
-pub fn replay_answer(alloc: Global, steps: u32, seed: u64, bytes: &[u8]) -> Result<Answer, NoMemory>
-    requires { steps ≤ 1000000 }
-    ensures answers { IfOk result (λ a. IsReplayAnswer steps seed bytes.now a.status a.text.items) }
-    ensures status { IfOk result (λ a. a.status < 2) }
-    ensures cause { IfOk result (λ a. IsRuleCause bytes.now (refusal_of bytes.now) a.cause) }
-{
-    match accept(alloc, bytes) {
-        Ok(accepted) => {
-            let version = accepted.version;
-            let trace = run_of(alloc, accepted.into_machine(), None, steps, seed)?;
-            let text = trace_text(alloc, version, &trace)?;
-            Ok(Answer {
-                status: 0,
-                text,
-                cause: None,
-            })
-        }
-        Err(Stop::Fault(refusal)) => {
-            let text = refusal_text(alloc, &refusal)?;
-            let line = line_of(bytes, refusal);
-            Ok(Answer::refused(text, Some(Cause::Rule(line))))
-        }
-        Err(Stop::NoMemory) => Err(NoMemory),
-    }
-}
-
-/// What `replay` answers to these bytes where its words say how the runs are told: the text of runs of the job's machine; or a refusal.
+/// What `replay` answers to these bytes: the text of runs of the job's machine; or a refusal.
 #[tactic(auto, unfolding(job_check::specs::Whole::refusal_of), using(field_words::proofs::Questions::first_is))]
 pub fn trial_answer(alloc: Global, trial: Trial, bytes: &[u8]) -> Result<Answer, NoMemory>
     requires { IsTrialWithin trial }

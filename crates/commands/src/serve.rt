@@ -15,7 +15,7 @@ use super::check::check_answer;
 use super::command::Command;
 use super::drawn::drawn_answer;
 use super::lone_shader::{shader_answer, shader_text_answer};
-use super::replayed::{replay_answer, trial_answer};
+use super::replayed::trial_answer;
 use super::reply::{Reply, print};
 use super::scripts::{queue_answer, session_answer, slots_answer};
 use super::shader_text::{asm_answer, disasm_answer};
@@ -38,7 +38,6 @@ fn answer_to(alloc: Global, command: Command, bytes: &[u8]) -> Result<Reply<'_>,
 {
     let answer = match command {
         Command::Check => return check_answer(alloc, bytes),
-        Command::Replay { steps, seed } => replay_answer(alloc, steps, seed, bytes),
         Command::Runs(trial) => trial_answer(alloc, trial, bytes),
         Command::Drawn => drawn_answer(alloc, bytes),
         Command::Upgrade => upgrade_answer(alloc, bytes),

@@ -2,7 +2,7 @@
 ghost use Rattle.std.specs.Prelude.{◌≡◌, ◌≤◌, ◌<◌, ◌^◌, ◌*◌, length, Some, None, IfOk, IfSome};
 ghost use Rattle.script.specs.Number.{number_within};
 ghost use Rattle.texture_layouts.specs.Surface.{IsPixelSize, size_for};
-ghost use Rattle.commands.specs.Pictures.{tiling_named, pixel_by, side_by, most_side, most_word, picture_named, level_named, IsPictureWithin};
+ghost use Rattle.commands.specs.Pictures.{tiling_named, pixel_by, IsPictureWithin};
 ghost use Rattle.commands.specs.Pictures.{length_wanted_text, level_refusal, IsUntileAnswer, IsTileAnswer, IsLevelAnswer};
 ghost use Rattle.commands.specs.Cause.{size_cause, level_cause, level_fault};
 ghost use Rattle.commands.specs.declared.cause.Cause.TheVariants.{Size};
@@ -14,9 +14,6 @@ use script::read_number;
 use std::alloc::{AllocError, Global};
 use texture_layouts::Tiling;
 use tile_convert::{LevelFault, extract, tile, untile};
-
-/// The most pixels of a picture's side.
-pub const MOST_SIDE: u64 = 4096;
 
 /// A picture in a tiling: how many pixels it is wide and high, and how many bytes each has.
 #[derive(Clone, Copy, Debug, PartialEq, Eq)]
@@ -39,13 +36,11 @@ pub struct TexturePart {
 pub fn tiling_named(word: &str) -> Option<Tiling>
     ensures { result ≡ tiling_named word.now }
 {
-    if word == "t" {
-        return Some(Tiling::T);
+    match word {
+        "t" => Some(Tiling::T),
+        "lt" => Some(Tiling::Lt),
+        _ => None,
     }
-    if word == "lt" {
-        return Some(Tiling::Lt);
-    }
-    None
 }
 
 /// The bytes of a pixel that a word names.
@@ -60,63 +55,6 @@ pub fn pixel_named(word: &str) -> Option<u32>
         8 => Some(8),
         _ => None,
     }
-}
-
-fn side_named(word: &str) -> Option<u32>
-    ensures value { result ≡ side_by (number_within most_side word.now) }
-    ensures limit { IfSome result (λ side. side ≤ most_side) }
-{
-    match read_number(word.as_bytes(), MOST_SIDE)? {
-        0 => None,
-        side => Some(side as u32),
-    }
-}
-
-/// The picture that these words name: its tiling, `t` or `lt`, the bytes of a pixel, and its sides. It takes no memory.
-pub fn picture_named(tiling: &str, cpp: &str, width: &str, height: &str) -> Option<Picture>
-    ensures value { result ≡ picture_named tiling.now cpp.now width.now height.now }
-    ensures within { IfSome result IsPictureWithin }
-{
-    let tiling = tiling_named(tiling)?;
-    let cpp = pixel_named(cpp)?;
-    let width = side_named(width)?;
-    let height = side_named(height)?;
-    Some(Picture {
-        tiling,
-        cpp,
-        width,
-        height,
-    })
-}
-
-fn number_named(word: &str) -> Option<u32>
-    ensures { result ≡ number_within most_word word.now }
-{
-    Some(read_number(word.as_bytes(), u64::from(u32::MAX))? as u32)
-}
-
-/// The level that these words name: the texture's four set-up words, the face and the level. It takes no memory.
-pub fn level_named(
-    p0: &str,
-    p1: &str,
-    p2: &str,
-    p3: &str,
-    face: &str,
-    level: &str,
-) -> Option<TexturePart>
-    ensures { result ≡ level_named p0.now p1.now p2.now p3.now face.now level.now }
-{
-    let p0 = number_named(p0)?;
-    let p1 = number_named(p1)?;
-    let p2 = number_named(p2)?;
-    let p3 = number_named(p3)?;
-    let face = number_named(face)?;
-    let level = number_named(level)?;
-    Some(TexturePart {
-        setup: [p0, p1, p2, p3],
-        face,
-        level,
-    })
 }
 
 #[tactic(auto, unfolding(crate::specs::Pictures::length_wanted_text))]
