@@ -29,9 +29,9 @@ extern "C" {
 
 /* How a call ended. */
 enum {
-    VC4CHECK_ACCEPTED = 0,  /* no rule stands, and all that was asked for is written */
-    VC4CHECK_REFUSED = 1,   /* a rule stands, and it is told */
-    VC4CHECK_SHORT = 2,     /* no rule stands, and the room is too small for what was asked for */
+    VC4CHECK_ACCEPTED = 0,  /* no rule is broken, and all that was asked for is written */
+    VC4CHECK_REFUSED = 1,   /* a rule is broken, and the answer names it */
+    VC4CHECK_SHORT = 2,     /* no rule is broken, and the room is too small for what was asked for */
     VC4CHECK_NO_MEMORY = 3, /* memory ran out before the answer was known; the same call may answer later */
     VC4CHECK_TOO_LONG = 4   /* of a shader alone: more than 8,192 words (65,536 bytes); no rule was asked */
 };
@@ -39,23 +39,26 @@ enum {
 /* The most jobs of a file. */
 #define VC4CHECK_MOST_JOBS 8
 
-/* What is told of one accepted job. Places and lengths are in bytes. */
+/*
+ * The answer for one accepted job. `lists` and `slot` are addresses: of the bus after vc4check_submit and vc4check_place, in the block after
+ * vc4check_check. `bin` to `end` are offsets from `lists`: the binner begins at lists + bin, the renderer at lists + render.
+ */
 struct vc4check_job {
-    uint32_t lists;           /* the place where the job's lists begin in the memory */
-    uint32_t slot;            /* the place of the job's tile slot in it, of 524,288 bytes */
-    uint32_t bin;             /* where behind that of the lists the binner list begins, */
-    uint32_t records;         /*   the shader records, */
-    uint32_t uniforms;        /*   the uniforms, */
-    uint32_t render;          /*   the renderer list, */
-    uint32_t end;             /*   and where that list ends */
-    uint32_t bin_length;      /* how much of each was emitted */
+    uint32_t lists;           /* address where the job's lists begin */
+    uint32_t slot;            /* address of the job's tile slot, of 524,288 bytes */
+    uint32_t bin;             /* offset of the binner list, */
+    uint32_t records;         /*   of the shader records, */
+    uint32_t uniforms;        /*   of the uniforms, */
+    uint32_t render;          /*   of the renderer list, */
+    uint32_t end;             /*   and of that list's end */
+    uint32_t bin_length;      /* how many bytes of each were written */
     uint32_t records_length;
     uint32_t uniforms_length;
     uint32_t render_length;
 };
 
 /*
- * What is told of a job file of 1 to 8 jobs. After VC4CHECK_REFUSED the first three fields say why, and all others are 0; after
+ * The answer for a job file of 1 to 8 jobs. After VC4CHECK_REFUSED the first three fields say why, and all others are 0; after
  * VC4CHECK_ACCEPTED and VC4CHECK_SHORT those three are 0, and the first `jobs` of `job` are the file's jobs in order; the rest are 0.
  */
 struct vc4check_answer {
@@ -68,7 +71,7 @@ struct vc4check_answer {
 };
 
 /*
- * What is told of how long the jobs of a file may run. After VC4CHECK_REFUSED `letter`, `number` and `offset` say why, and the others are 0.
+ * How long the jobs of a file may run. After VC4CHECK_REFUSED `letter`, `number` and `offset` say why, and the others are 0.
  * After VC4CHECK_ACCEPTED `loops` is 0, a run has at most 2^64 * `steps_high` + `steps_low` steps and `stay` more for each in which a renderer
  * stays at an item; or `loops` is 1, and a shader branches back at `offset` of the file. The others are 0.
  */
@@ -83,11 +86,11 @@ struct vc4check_bound_answer {
 };
 
 /*
- * What is told of a shader. After VC4CHECK_REFUSED the first two fields say why, and the others are 0; after VC4CHECK_ACCEPTED
+ * The answer for a shader. After VC4CHECK_REFUSED the first two fields say why, and the others are 0; after VC4CHECK_ACCEPTED
  * and VC4CHECK_SHORT those two are 0.
  */
 struct vc4check_shader_answer {
-    uint32_t number;      /* of the rule S that stands, from 1 on */
+    uint32_t number;      /* of the broken rule S, from 1 on */
     uint32_t index;       /* of the instruction; the number of words for a rule on the whole shader */
     uint32_t uniforms;    /* how many words of uniforms it takes */
     uint32_t threaded;    /* 1 where it switches threads, else 0 */
@@ -105,10 +108,10 @@ struct vc4check_sample {
                               position 1 the bound), 0 where it asks a texture */
 };
 
-/* What is told of a shader's block. After VC4CHECK_REFUSED the first two fields say why, and `entries` is 0; after VC4CHECK_ACCEPTED
+/* The answer for a shader's block. After VC4CHECK_REFUSED the first two fields say why, and `entries` is 0; after VC4CHECK_ACCEPTED
  * and VC4CHECK_SHORT those two are 0. */
 struct vc4check_made {
-    uint32_t number; /* of the rule S that stands, from 1 on */
+    uint32_t number; /* of the broken rule S, from 1 on */
     uint32_t index;  /* of the instruction; the number of instructions for a rule on the whole shader */
     size_t entries;  /* how many entries the block takes: one, and one for each sample and each address of uniforms */
 };
@@ -126,7 +129,7 @@ enum {
 
 /* A buffer of a submission. */
 struct vc4check_buffer {
-    uint32_t address;       /* of its first byte on the bus; a multiple of 4,096 */
+    uint32_t address;       /* bus address of its first byte; a multiple of 4,096 */
     uint32_t size;          /* in bytes; a multiple of 4,096 */
     uint32_t client;        /* who it belongs to: a number of the driver's */
     uint32_t kind;          /* VC4CHECK_PLAIN or VC4CHECK_CODE */
@@ -164,19 +167,19 @@ struct vc4check_submission {
     size_t buffer_count;
     const uint32_t *handles; /* for each handle of the job the number of its buffer, from 0 on; one may be named twice */
     size_t handle_count;
-    const uint8_t *bin; /* the binner list; of length 0 where the job has none */
+    const uint8_t *bin; /* the binner list (docs/BINNER_LIST.md), addresses still to be filled in; of length 0 where the job has none */
     size_t bin_length;
-    const uint8_t *records; /* the shader records */
+    const uint8_t *records; /* for each shader state its handles and then its record (docs/SHADER_RECORDS.md) */
     size_t records_length;
-    const uint8_t *uniforms;
+    const uint8_t *uniforms; /* the uniforms of all shaders, state by state, in words of 4 bytes (docs/SHADER_RECORDS.md) */
     size_t uniforms_length;
     uint32_t client;     /* whose job it is */
     uint32_t flags;      /* VC4CHECK_CLEARS or 0 */
     uint32_t states;     /* how many shader states the binner list declares */
-    uint32_t end;        /* the first address behind the memory, at most 0xFF000000: nothing of the job lies past it */
-    uint32_t lists;      /* where the hardware finds the window */
+    uint32_t end;        /* first bus address behind the memory, at most 0xFF000000: nothing of the job lies past it */
+    uint32_t lists;      /* bus address at which the hardware finds the window */
     uint32_t lists_size; /* how many bytes of it the lists may take; whole pages */
-    uint32_t slot;       /* the job's tile slot of 524,288 bytes */
+    uint32_t slot;       /* bus address of the job's tile slot, of 524,288 bytes */
     struct vc4check_frame frame;
 };
 
@@ -197,7 +200,7 @@ enum {
 };
 
 /*
- * What is told of a submission. After VC4CHECK_REFUSED the first five fields say why, and the others are 0; after VC4CHECK_ACCEPTED and
+ * The answer for a submission. After VC4CHECK_REFUSED the first five fields say why, and the others are 0; after VC4CHECK_ACCEPTED and
  * VC4CHECK_SHORT those five are 0, and the others are the job's.
  */
 struct vc4check_verdict {
@@ -207,7 +210,7 @@ struct vc4check_verdict {
     uint32_t part;           /* which part of the submission it is about, */
     uint32_t index;          /*   and of which buffer, else 0 */
     uint32_t size;           /* how many bytes of the window the lists take */
-    struct vc4check_job job; /* where they lie, as addresses, and how long they are */
+    struct vc4check_job job; /* where they lie, and how long they are */
 };
 
 #if !defined(__cplusplus) && defined(__STDC_VERSION__) && __STDC_VERSION__ >= 201112L
@@ -228,12 +231,12 @@ _Static_assert(sizeof(struct vc4check_verdict) == 28 + 44, "as long as the libra
 uint32_t vc4check_version(void);
 
 /*
- * Checks the job file in `bytes`, of 1 to 8 jobs. Where no rule stands, the memory that the jobs are to run in is put into `block`, from its
+ * Checks the job file in `bytes`, of 1 to 8 jobs. Where no rule is broken, the memory that the jobs are to run in is put into `block`, from its
  * start on and with all lists relocated: places in it count from the block's start. Bytes of the block behind that memory stay. One
  * machine runs the jobs, and each may reach what its own handles, lists and slot allow.
  *
  * VC4CHECK_ACCEPTED   `answer` is filled in, and the memory is in the block.
- * VC4CHECK_REFUSED    `answer` names the first rule that stands, and where; the block is as before.
+ * VC4CHECK_REFUSED    `answer` names the first broken rule, and where; the block is as before.
  * VC4CHECK_SHORT      the jobs are accepted and `answer` is filled in, but `room` is below answer->size; the block is as before. A
  *                     room of 0 asks for the verdict and the size alone.
  * VC4CHECK_NO_MEMORY  `answer` and the block are as before.
@@ -242,12 +245,12 @@ uint32_t vc4check_check(const uint8_t *bytes, size_t length, uint8_t *block, siz
 
 /*
  * The same of a job file of 1 to 8 jobs whose places are addresses of the bus, for a driver: its memory, whose size the header gives, may
- * end anywhere up to 0xFF000000, and is neither made nor read. Where no rule stands, the lists of all jobs are put into `window`, from its
+ * end anywhere up to 0xFF000000, and is neither made nor read. Where no rule is broken, the lists of all jobs are put into `window`, from its
  * start on, which stands for the start of the lists' region; the window's other bytes stay. In `answer`, `size` is how many bytes they take,
  * at most the file's size of that region; `lists` and `slot` of each job are addresses.
  *
  * VC4CHECK_ACCEPTED   `answer` is filled in, and the lists are in the window.
- * VC4CHECK_REFUSED    `answer` names the first rule that stands, and where; the window is as before.
+ * VC4CHECK_REFUSED    `answer` names the first broken rule, and where; the window is as before.
  * VC4CHECK_SHORT      the jobs are accepted and `answer` is filled in, but `room` is below answer->size; the window is as before.
  * VC4CHECK_NO_MEMORY  `answer` and the window are as before.
  */
@@ -257,17 +260,17 @@ uint32_t vc4check_place(const uint8_t *bytes, size_t length, uint8_t *window, si
  * Checks the job file in `bytes`, and tells how many steps a run of its jobs takes at most. No memory of the jobs is made.
  *
  * VC4CHECK_ACCEPTED   `answer` has the two numbers, or the place of the first branch that leads back.
- * VC4CHECK_REFUSED    `answer` names the first rule that stands, and where.
+ * VC4CHECK_REFUSED    `answer` names the first broken rule, and where.
  * VC4CHECK_NO_MEMORY  `answer` is as before.
  */
 uint32_t vc4check_bound(const uint8_t *bytes, size_t length, struct vc4check_bound_answer *answer);
 
 /*
- * Checks a shader once, when it is made: `length` bytes. Where no rule stands, what the check found out about it is put into `block`, for
+ * Checks a shader once, when it is made: `length` bytes. Where no rule is broken, what the check found out about it is put into `block`, for
  * vc4check_submit to read in place of checking the shader again. Keep the block, and the shader itself, where no client can change them.
  *
  * VC4CHECK_ACCEPTED   the first answer->entries entries of the block are written.
- * VC4CHECK_REFUSED    `answer` names the first rule S that stands, and where; the block is as before.
+ * VC4CHECK_REFUSED    `answer` names the first broken rule S, and where; the block is as before.
  * VC4CHECK_SHORT      the shader is accepted, but `room` entries are fewer than answer->entries; the block is as before. A room of 0 asks
  *                     how many a block takes.
  * VC4CHECK_NO_MEMORY, VC4CHECK_TOO_LONG  `answer` and the block are as before.
@@ -275,16 +278,17 @@ uint32_t vc4check_bound(const uint8_t *bytes, size_t length, struct vc4check_bou
 uint32_t vc4check_make_shader(const uint8_t *code, size_t length, struct vc4check_known *block, size_t room, struct vc4check_made *answer);
 
 /*
- * Checks one job of a driver. No memory of the job is made, and nothing of the submission is written. Where no rule stands, its lists,
+ * Checks one job of a driver. No memory of the job is made, and nothing of the submission is written. Where no rule is broken, its lists,
  * relocated, are put into `window`, from its start on, which is what the hardware finds at `lists`; the window's other bytes stay.
  *
  * VC4CHECK_ACCEPTED   `answer` is filled in, and the lists are in the window.
- * VC4CHECK_REFUSED    `answer` names the first rule that stands, and where; the window is as before.
+ * VC4CHECK_REFUSED    `answer` names the first broken rule, and where; the window is as before.
  * VC4CHECK_SHORT      the job is accepted and `answer` is filled in, but `room` is below answer->size; the window is as before. A room of
  *                     `lists_size` is always enough.
  * VC4CHECK_NO_MEMORY  `answer` and the window are as before.
  *
- * Beside what all calls are owed: a `known` of any entries is what vc4check_make_shader made of the buffer's content.
+ * Beside what all calls are owed: a `known` of any entries is what vc4check_make_shader made of the buffer's content. An accepted job may run
+ * beside others, and in places of finished ones, where the driver keeps five duties (docs/LIBRARY.md, and driver.c).
  */
 uint32_t vc4check_submit(const struct vc4check_submission *submission, uint8_t *window, size_t room, struct vc4check_verdict *answer);
 
@@ -298,11 +302,11 @@ size_t vc4check_sentence(uint32_t letter, uint32_t number, char *text, size_t ro
 #define VC4CHECK_SENTENCE_ROOM 256
 
 /*
- * Checks a shader by itself: `words` instructions of 64 bits. Where no rule stands, its samples are put into `samples` and the
+ * Checks a shader by itself: `words` instructions of 64 bits. Where no rule is broken, its samples are put into `samples` and the
  * numbers of the uniforms that are addresses of uniforms into `address_words`, each from its start on.
  *
  * VC4CHECK_ACCEPTED   `answer` is filled in, and both lists are written.
- * VC4CHECK_REFUSED    `answer` names the first rule S that stands, and where; the lists are as before.
+ * VC4CHECK_REFUSED    `answer` names the first broken rule S, and where; the lists are as before.
  * VC4CHECK_SHORT      the shader is accepted and `answer` is filled in, but a list has too little room; both are as before.
  * VC4CHECK_NO_MEMORY, VC4CHECK_TOO_LONG  `answer` and the lists are as before.
  */
