@@ -1,0 +1,2 @@
+/* The kernel has its own. */
+#include <uapi/drm/vc4_drm.h>
