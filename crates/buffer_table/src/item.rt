@@ -142,7 +142,8 @@ fn item_fault(
     None
 }
 
-/// The first of M2 to M5, item by item.
+/// The first of M2 to M5, item by item. The numbers in order take 2 KB of stack, which are given back before the jobs are checked.
+#[inline(never)]
 fn items_fault(mem_size: u32, regions: &Regions, buffers: &[Buffer]) -> Option<TableFault>
     requires few { length buffers.now ≤ 1024 }
     ensures { result ≡ first_of (items_questions mem_size (items_of regions.now buffers.now)) }

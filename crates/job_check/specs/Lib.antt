@@ -3,7 +3,6 @@ pub mod Emit
 pub mod Faults
 pub mod Jobs
 pub mod Offsets
-pub mod Places
 pub mod Region
 pub mod Shaders
 pub mod Told

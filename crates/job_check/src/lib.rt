@@ -9,7 +9,6 @@ mod context;
 mod emit;
 mod layout;
 mod lists;
-mod places;
 mod refusals;
 mod region;
 mod shaders;
@@ -19,7 +18,6 @@ mod whole;
 
 pub use check::{Checked, check_job};
 pub use context::job_at;
-pub use places::{Part, Place, place_in};
 pub use refusals::content_offset;
 pub use region::{Region, check_parts};
 pub use shaders::{content_at, shader_in, words_of};

@@ -1,5 +1,5 @@
 //! The rules of a file, and the lists of its jobs. No memory of the jobs is made.
-ghost use Rattle.std.specs.Prelude.{◌≡◌, ◌<◌, ◌≤◌, ◌+◌, ◌++◌, ◌-◌, length, IfOk, IfSome, IsOk, drop};
+ghost use Rattle.std.specs.Prelude.{◌≡◌, ◌<◌, ◌≤◌, ◌+◌, ◌++◌, ◌-◌, length, IfOk, IfSome, IsOk, drop, []};
 ghost use Rattle.buffer_table.specs.Table.{most_place};
 ghost use Rattle.field_words.specs.Questions.{Answers, NamesFirst, NeverHidesFault};
 ghost use Rattle.field_words.specs.Writes.{placed, zeros};
@@ -135,34 +135,55 @@ fn check_one(
     place_lists(alloc, &job, region)
 }
 
+impl Region {
+    /// No lists yet.
+    fn empty(alloc: Global) -> Region
+        ensures bytes { result.bytes.items ≡ [] }
+        ensures layouts { result.layouts.items ≡ [] }
+        ensures lengths { result.lengths.items ≡ [] }
+    {
+        Region {
+            bytes: Vec::new(alloc),
+            layouts: ArrayVec::new(),
+            lengths: ArrayVec::new(),
+        }
+    }
+}
+
 /// The rules of the jobs, and the region of their lists, those of each job behind those of the job before it.
+#[inline(never)]
 fn check_jobs(
     alloc: Global,
     file: &FileParts,
     table: &Table,
     shaders: &Vec<Option<ShaderInfo>>,
-) -> Result<Region, Stop<Refusal>>
+    region: &mut Region,
+) -> Result<(), Stop<Refusal>>
     requires well_formed { IsWellFormed (parts_view file.now) }
     requires table_is { table.now ≡ table_of (parts_view file.now) }
     requires shaders_are { AreShadersIn (parts_view file.now) (shaders_view shaders.now.items) }
     requires sound { IsSound file.now.mem_size file.now.regions file.now.buffers.items }
-    ensures { Answers (jobs_stages (parts_view file.now)) (IsRegion (parts_view file.now)) result }
+    requires no_bytes { region.old.bytes.items ≡ [] }
+    requires no_layouts { region.old.layouts.items ≡ [] }
+    requires no_lengths { region.old.lengths.items ≡ [] }
+    ensures { Answers (jobs_stages (parts_view file.now)) (λ _. IsRegion (parts_view file.now) region.new) result }
 {
-    let mut bytes = Vec::new(alloc);
-    let mut layouts = ArrayVec::new();
-    let mut lengths = ArrayVec::new();
     let mut place = file.regions.lists_place;
     for number in 0..file.jobs.len() {
-        let lists = check_one(alloc, file, number, place, table, shaders, &mut bytes)?;
+        let lists = check_one(
+            alloc,
+            file,
+            number,
+            place,
+            table,
+            shaders,
+            &mut region.bytes,
+        )?;
         place = next_place(&lists.layout);
-        layouts.push(lists.layout);
-        lengths.push(lists.lengths);
+        region.layouts.push(lists.layout);
+        region.lengths.push(lists.lengths);
     }
-    Ok(Region {
-        bytes,
-        layouts,
-        lengths,
-    })
+    Ok(())
 }
 
 /// What is told of the shaders: what was told before, or what S finds where nothing was.
@@ -188,15 +209,20 @@ fn check_told(
     file: &FileParts,
     table: &Table,
     told: Option<Vec<Option<ShaderInfo>>>,
-) -> Result<Region, Stop<Refusal>>
+    region: &mut Region,
+) -> Result<(), Stop<Refusal>>
     requires well_formed { IsWellFormed (parts_view file.now) }
     requires table_is { table.now ≡ table_of (parts_view file.now) }
     requires checked { IfSome told (λ shaders. AreChecked (parts_view file.now) (shaders_view shaders.items)) }
     requires sound { IsSound file.now.mem_size file.now.regions file.now.buffers.items }
-    ensures { Answers (shaders_stage (parts_view file.now) ++ jobs_stages (parts_view file.now)) (IsRegion (parts_view file.now)) result }
+    requires no_bytes { region.old.bytes.items ≡ [] }
+    requires no_layouts { region.old.layouts.items ≡ [] }
+    requires no_lengths { region.old.lengths.items ≡ [] }
+    ensures { Answers (shaders_stage (parts_view file.now) ++ jobs_stages (parts_view file.now))
+        (λ _. IsRegion (parts_view file.now) region.new) result }
 {
     let shaders = told_shaders(alloc, file, told)?;
-    check_jobs(alloc, file, table, &shaders)
+    check_jobs(alloc, file, table, &shaders, region)
 }
 
 /// Checks the parts of a file whose memory has at most `limit` bytes, and makes no memory of its jobs; contents and lists are read where
@@ -223,5 +249,7 @@ pub fn check_parts(
     ensures small { IsOk result → parts.now.mem_size ≤ limit }
 {
     let table = table_stage(limit, parts.mem_size, parts.regions, &parts.buffers)?;
-    check_told(alloc, parts, &table, told)
+    let mut region = Region::empty(alloc);
+    check_told(alloc, parts, &table, told, &mut region)?;
+    Ok(region)
 }

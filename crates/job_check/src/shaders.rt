@@ -105,6 +105,7 @@ fn shader_at(alloc: Global, file: &FileParts, b: usize) -> Result<Option<ShaderI
 /// S: the shaders in all Code buffers, whether or not a job names them. There is one entry for each buffer. Want of memory hides no
 /// fault of an earlier shader, nor that a shader's own bytes aren't whole words.
 #[tactic(auto, unfolding(crate::specs::Faults::shaders_stage), using(field_words::proofs::Questions::each_on, field_words::proofs::Questions::each_stop, field_words::proofs::Questions::each_end, crate::proofs::Codes::shaders_none, crate::proofs::Codes::shaders_more))]
+#[inline(never)]
 pub fn shaders_stage(
     alloc: Global,
     file: &FileParts,

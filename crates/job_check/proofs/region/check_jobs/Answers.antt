@@ -1,12 +1,12 @@
 use Rattle.std.proofs.{Common.◌≡◌, Common.◌<◌, Common.length, Common.ap, Common.arith, lemmas.List.length-map, lemmas.List.FromFn.length-map-range_with_len}
 use Rattle.job_format.specs.Parts.{parts_view, job_parts_view}
 use Rattle.field_words.specs.Questions.{each}
-use Rattle.job_check.specs.{Faults.job_stages, Jobs.layout_of, Emit.lengths_of, Region.IsRegion}
+use Rattle.job_check.specs.{Faults.job_stages, Jobs.layout_of, Emit.lengths_of}
 use Rattle.job_check.proofs.{Layouts.lists_inside, Order.exits, Progress.none, Progress.next, Progress.refused, Progress.all}
 use Rattle.job_check.proofs.region.check_jobs.Goals as goal
 
 pub loop-number-init : goal.loop-number-init
-loop-number-init c = rw c.new-bytes.ensures.items (rw c.new-layouts.ensures (rw c.new-lengths.ensures (none (parts_view c.args.file.now))))
+loop-number-init c = rw c.requires.no_bytes (rw c.requires.no_layouts (rw c.requires.no_lengths (none (parts_view c.args.file.now))))
 
 pub check_one-requires-clause-size : goal.check_one-requires-clause-size
 check_one-requires-clause-size c = c.loop-number.invariant.size
@@ -16,9 +16,9 @@ returns-in_err-lists c =
     let f = parts_view c.args.file.now in
     let l = c.loop-number in
     let below : l.number < length f.jobs = omega (arith, c.loop-number-test.true, c.len-number-end.ensures, length-map c.args.file.now.jobs.items job_parts_view) in
-    exits (each (job_stages f) 0 (length f.jobs)) (IsRegion f)
+    exits (each (job_stages f) 0 (length f.jobs)) _
     c.from_residual.result c.in_err-lists.field-0.0 c.from_residual.ensures.1
-    (refused f l.number l.bytes.items l.layouts.items l.lengths.items l.place c.in_err-lists.field-0.0 l.invariant below c.in_err-lists.ensures.answers)
+    (refused f l.number l.region.bytes.items l.region.layouts.items l.region.lengths.items l.place c.in_err-lists.field-0.0 l.invariant below c.in_err-lists.ensures.answers)
 
 pub next_place-place-requires : goal.next_place-place-requires
 next_place-place-requires c = omega (arith, c.in_ok-lists.ensures.fits, lists_inside (parts_view c.args.file.now) c.requires.sound, c.requires.sound.limit)
@@ -43,7 +43,7 @@ loop-number-preserved c =
     let lists = c.in_ok-lists.lists in
     let below : l.number < length f.jobs = omega (arith, c.loop-number-test.true, c.len-number-end.ensures, length-map c.args.file.now.jobs.items job_parts_view) in
     rw c.push.ensures.items (rw c.push-in-loop-number.ensures.items
-    (next f l.number l.bytes.items c.check_one.new.region.items l.layouts.items l.lengths.items l.place c.next_place-place.result lists.layout lists.lengths
+    (next f l.number l.region.bytes.items c.check_one.new.region.items l.region.layouts.items l.region.lengths.items l.place c.next_place-place.result lists.layout lists.lengths
     l.invariant c.requires.sound below c.in_ok-lists.ensures.answers.0 c.in_ok-lists.ensures.answers.1 c.in_ok-lists.ensures.written c.in_ok-lists.ensures.fit c.in_ok-lists.ensures.fits c.next_place-place.ensures))
 
 pub returns : goal.returns
@@ -51,4 +51,4 @@ returns c =
     let f = parts_view c.args.file.now in
     let l = c.loop-number in
     let end : l.number ≡ length f.jobs = omega (arith, c.loop-number-test.false, l.auto.number-end, c.len-number-end.ensures, length-map c.args.file.now.jobs.items job_parts_view) in
-    all f l.number l.place (record { bytes = l.bytes; layouts = l.layouts; lengths = l.lengths }) l.invariant end
+    all f l.number l.place l.region l.invariant end

@@ -4,4 +4,4 @@ use Rattle.job_check.proofs.Progress.{SoFar}
 use Rattle.job_check.proofs.region.check_jobs.Given as goal
 
 abbrev pub invariant-loop-number : goal.invariant-loop-number
-invariant-loop-number l = SoFar (parts_view l.file) l.number l.bytes.items l.layouts.items l.lengths.items l.place
+invariant-loop-number l = SoFar (parts_view l.file) l.number l.region.bytes.items l.region.layouts.items l.region.lengths.items l.place

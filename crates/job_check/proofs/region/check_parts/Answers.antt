@@ -1,9 +1,9 @@
-use Rattle.std.proofs.Common.{◌++◌, length}
+use Rattle.std.proofs.Common.{◌++◌, length, Ok, Err}
 use Rattle.field_words.specs.Questions.{each}
 use Rattle.field_words.proofs.Questions.{answers_later, refuses_front, names_first}
 use Rattle.job_format.specs.Parts.{parts_view}
 use Rattle.job_check.specs.{Faults.table_stage_within, Faults.shaders_stage, Faults.job_stages, Faults.stages_within, Region.IsRegion}
-use Rattle.job_check.proofs.{Wants.never_hidden, Order.exits}
+use Rattle.job_check.proofs.Order.{exits}
 use Rattle.job_check.proofs.region.check_parts.Goals as goal
 
 pub returns-clause-answers : goal.returns-clause-answers
@@ -11,7 +11,7 @@ unfolding stages_within table_stage_within
 returns-clause-answers c =
     let f = parts_view c.args.parts.now in
     answers_later (table_stage_within c.args.limit f) (shaders_stage f ++ each (job_stages f) 0 (length f.jobs)) (IsRegion f)
-    c.check_told.result c.in_ok-table.ensures.answers.0 c.check_told.ensures
+    (Ok c.check_told.new.region) c.in_ok-table.ensures.answers.0 c.in_ok-check_told.ensures
 
 pub returns-in_err-table-clause-answers : goal.returns-in_err-table-clause-answers
 unfolding stages_within table_stage_within
@@ -20,16 +20,21 @@ returns-in_err-table-clause-answers c =
     exits (stages_within c.args.limit f) (IsRegion f) c.from_residual.result c.in_err-table.field-0.0 c.from_residual.ensures.1
     (refuses_front (table_stage_within c.args.limit f) (shaders_stage f ++ each (job_stages f) 0 (length f.jobs)) c.in_err-table.field-0.0 c.in_err-table.ensures.answers)
 
-pub returns-clause-first : goal.returns-clause-first
-returns-clause-first c =
-    let f = parts_view c.args.parts.now in
-    names_first (stages_within c.args.limit f) (IsRegion f) c.check_told.result (returns-clause-answers c)
-
 pub returns-in_err-table-clause-first : goal.returns-in_err-table-clause-first
 returns-in_err-table-clause-first c =
     let f = parts_view c.args.parts.now in
     names_first (stages_within c.args.limit f) (IsRegion f) c.from_residual.result (returns-in_err-table-clause-answers c)
 
-pub returns-clause-memory : goal.returns-clause-memory
-unfolding table_stage_within
-returns-clause-memory c = never_hidden (table_stage_within c.args.limit (parts_view c.args.parts.now)) c.check_told.result c.in_ok-table.ensures.answers.0
+pub returns-in_err-check_told-clause-answers : goal.returns-in_err-check_told-clause-answers
+unfolding stages_within table_stage_within
+returns-in_err-check_told-clause-answers c =
+    let f = parts_view c.args.parts.now in
+    let stop = c.in_err-check_told.field-0.0 in
+    exits (stages_within c.args.limit f) (IsRegion f) c.from_residual-in_err-check_told.result stop c.from_residual-in_err-check_told.ensures.1
+    (answers_later (table_stage_within c.args.limit f) (shaders_stage f ++ each (job_stages f) 0 (length f.jobs)) (IsRegion f) (Err stop)
+    c.in_ok-table.ensures.answers.0 c.in_err-check_told.ensures)
+
+pub returns-in_err-check_told-clause-first : goal.returns-in_err-check_told-clause-first
+returns-in_err-check_told-clause-first c =
+    let f = parts_view c.args.parts.now in
+    names_first (stages_within c.args.limit f) (IsRegion f) c.from_residual-in_err-check_told.result (returns-in_err-check_told-clause-answers c)

@@ -2,17 +2,17 @@ use Rattle.std.proofs.Common.{◌++◌, length}
 use Rattle.field_words.specs.Questions.{each}
 use Rattle.field_words.proofs.Questions.{answers_later, refuses_front}
 use Rattle.job_format.specs.Parts.{parts_view}
-use Rattle.job_check.specs.{Faults.shaders_stage, Faults.job_stages, Region.IsRegion}
+use Rattle.job_check.specs.{Faults.shaders_stage, Faults.job_stages}
 use Rattle.job_check.proofs.Order.{exits}
 use Rattle.job_check.proofs.region.check_told.Goals as goal
 
 pub returns : goal.returns
 returns c =
     let f = parts_view c.args.file.now in
-    answers_later (shaders_stage f) (each (job_stages f) 0 (length f.jobs)) (IsRegion f) c.check_jobs.result c.in_ok-shaders.ensures.0 c.check_jobs.ensures
+    answers_later (shaders_stage f) (each (job_stages f) 0 (length f.jobs)) _ c.check_jobs.result c.in_ok-shaders.ensures.0 c.check_jobs.ensures
 
 pub returns-in_err-shaders : goal.returns-in_err-shaders
 returns-in_err-shaders c =
     let f = parts_view c.args.file.now in
-    exits (shaders_stage f ++ each (job_stages f) 0 (length f.jobs)) (IsRegion f) c.from_residual.result c.in_err-shaders.field-0.0 c.from_residual.ensures.1
+    exits (shaders_stage f ++ each (job_stages f) 0 (length f.jobs)) _ c.from_residual.result c.in_err-shaders.field-0.0 c.from_residual.ensures.1
     (refuses_front (shaders_stage f) (each (job_stages f) 0 (length f.jobs)) c.in_err-shaders.field-0.0 c.in_err-shaders.ensures)
