@@ -1,11 +1,11 @@
 pub mod Blocks
 mod Fronts
 pub mod MayRun
+pub mod Own
 pub mod Telling
 pub mod Places
 pub mod Safe
 mod Sizes
-pub mod Spots
 pub mod Submissions
 pub mod Takes
 pub mod Texts

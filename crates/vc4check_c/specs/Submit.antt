@@ -44,14 +44,14 @@ pub record IsTaken (s : Submission) (verdict : Verdict) : Type 0 where
 -- What the check of a submission answers: its lists, or the first rule that stands and the place of its offset.
 abbrev pub Tells : Submission → Result Region (Stop Told) → Type 0
 Tells s (Ok region) = (first_of (submission_questions s) ≡ None) × IsRegion (file_of s) region
-Tells s (Err (Fault told)) = (first_of (submission_questions s) ≡ Some told.refusal) × IsAt (file_of s) told.spot told.refusal.offset
+Tells s (Err (Fault told)) = (first_of (submission_questions s) ≡ Some told.refusal) × IsAt (file_of s) told.refusal told.spot
 Tells s (Err NoMemory) = Unit {0}
 
 -- A rule stands, none before it in the order of refusal does, and it is told, with the place of its offset.
 pub record IsRefusedAt (s : Submission) (refusal : Refusal) (verdict : Verdict) : Type 0 where
   pub first : IsFirst (submission_questions s) refusal
   pub spot : Spot
-  pub at : IsAt (file_of s) spot refusal.offset
+  pub at : IsAt (file_of s) refusal spot
   pub told : verdict ≡ refused_verdict refusal spot
 
 abbrev pub IsNotTaken : Submission → Option Refusal → Verdict → Type 0
