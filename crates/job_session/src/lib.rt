@@ -14,18 +14,14 @@ mod replies;
 mod rules;
 mod session;
 
-ghost use Rattle.job_session.specs.Laws.{RepliesAreOwn, OthersAreUnseen};
+ghost use Rattle.job_session.specs.Laws.{RepliesAreOwn};
 
 pub use denied::Denied;
 pub use replies::script;
 pub use session::{MOST_BUFFERS, MOST_PAGES, MOST_READ, Session};
 
-/// A law: a client to whom no reply was that memory is full has had exactly the replies of its own commands alone.
+/// A law: the replies to a client, but for those that memory is full, are those of its own commands alone, but for the commands that were
+/// answered so.
 pub fn replies_are_own()
     ensures { RepliesAreOwn }
-{}
-
-/// A law: so its replies are equal in two lists of calls that have its commands alike, whatever the others do.
-pub fn others_are_unseen()
-    ensures { OthersAreUnseen }
 {}

@@ -1,19 +1,18 @@
 -- Calls answer and leave what the calls before them say, from a new session on.
 use Rattle.job_session.proofs.{Held.held_none, Apart.replies_are_own}
 use Rattle.session_law.proofs.Bytes.{is_within, within_none, zero_at}
-use Rattle.std.proofs.Common.{ne_eqb, ◌≡◌, ℕ, ◌+◌, ◌<◌, ◌==◌, not, nat_lt, Bool, true, false, if◌then◌else◌, List, [], ◌∷◌, ◌++◌, length, get_or, slice_index, replicate, None, arith, refl, sym, ◌∙◌, ap, subst}
+use Rattle.std.proofs.Common.{ne_eqb, ◌≡◌, ℕ, ◌+◌, ◌<◌, ◌==◌, not, nat_lt, Bool, true, false, if◌then◌else◌, List, [], ◌∷◌, ◌++◌, length, get_or, slice_index, replicate, None, arith, refl, sym, ◌∙◌, ap}
 use Rattle.std.proofs.{lemmas.Bool.Decides.nat_tests, lemmas.List.get_or-replicate, lemmas.List.length-replicate}
-use Rattle.job_session.specs.Own.{Command, Create, Make, Write, Read, Free, Submit, Reply, own_replies, outcome, most_buffers}
+use Rattle.job_session.specs.Own.{Command, Create, Make, Write, Read, Free, Submit, outcome, most_buffers}
 use Rattle.job_session.specs.Desk.{Desk, SlotsFit, slot_count, slot_of, empty, first_page, page_total, held_in}
-use Rattle.job_session.specs.{Places.covers, Places.is_used, Checked.session_rules, Laws.NoneIsFull}
+use Rattle.job_session.specs.{Places.covers, Places.is_used, Checked.session_rules}
 use Rattle.job_session.specs.Session.{Call, Past, none_yet, reply_to, after, replies_to}
 use Rattle.job_session.specs.Replies.{desk_reply, desk_after, command_reply, command_after}
 use Rattle.buffer_table.specs.declared.buffer.Kind.TheVariants.{Plain}
 use Rattle.field_words.specs.Writes.{zeros}
 use Rattle.field_words.proofs.Writes.{length_zeros}
-use Rattle.job_format.specs.declared.rule.Refusal.{Refusal}
 use Rattle.session_pages.specs.{Runs.page_count, Map.memory_size, Map.place_of}
-use Rattle.session_law.specs.Laws.{NewSessionsAgree, CallsAreAnswered, HistoriesAgree, SessionsGoOn, RepliesAreOfHistories, ClientsAreApart, OthersChangeNothing}
+use Rattle.session_law.specs.Laws.{NewSessionsAgree, CallsAreAnswered, HistoriesAgree, SessionsGoOn, RepliesAreOfHistories, ClientsAreApart}
 use Rattle.session_law.specs.Agree.{IsKey, client_count, place_in, owner_at, Agrees}
 use Rattle.session_law.specs.History.{AreKnown, desk_left, past_left, desk_replies_to}
 use Rattle.session_law.proofs.{Changing.held_past, Changing.slot_below, Creating.create_meets, Coding.code_meets}
@@ -141,11 +140,5 @@ pub replies_are_of_histories : RepliesAreOfHistories
 replies_are_of_histories client calls known = replies_from client calls none_yet empty known new_sessions_agree
 
 pub clients_are_apart : ClientsAreApart
-clients_are_apart client calls known room =
-    let same = replies_are_of_histories client calls known in
-    same ∙ replies_are_own session_rules client calls (subst (λ (replies : List (Reply Refusal)). NoneIsFull Refusal replies) same room)
-
-pub others_change_nothing : OthersChangeNothing
-others_change_nothing client calls others known other_known room other_room same =
-    clients_are_apart client calls known room
-    ∙ (ap (own_replies session_rules client (λ id. None)) same ∙ sym (clients_are_apart client others other_known other_room))
+clients_are_apart client calls known =
+    rw (replies_are_of_histories client calls known) (replies_are_own session_rules client calls)

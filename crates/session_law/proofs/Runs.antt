@@ -1,5 +1,5 @@
 -- A run of pages that was found: each of its pages is free.
-use Rattle.std.proofs.Common.{◌≡◌, ◌<◌, ◌≤◌, ◌==◌, ◌&&◌, ◌+◌, nat_le, ℕ, zero, suc, Bool, true, false, List, slice_index, Some, refl, arith}
+use Rattle.std.proofs.Common.{◌≡◌, ◌<◌, ◌≤◌, ◌&&◌, ◌+◌, nat_le, ℕ, zero, suc, Bool, true, false, slice_index, Some, refl, arith}
 use Rattle.std.proofs.lemmas.Bool.Decides.{nat_tests}
 use Rattle.overflow_slots.proofs.Searches.{equal, first_found}
 use Rattle.session_pages.specs.{Runs.page_count, Runs.all_where, Runs.is_run, Runs.first_run, Map.PageMap, Map.free_run, Map.is_free}

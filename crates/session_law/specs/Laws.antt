@@ -1,8 +1,7 @@
 -- The calls of a session answer and leave what the calls before them, of all clients, say.
 use Rattle.std.specs.Prelude.{◌≡◌, ◌≤◌, ◌<◌, ◌↔◌, ℕ, List, [], ◌∷◌, ◌++◌, Some, None}
-use Rattle.job_format.specs.declared.rule.Refusal.{Refusal}
 use Rattle.job_session.specs.Session.{Call, Past, none_yet, reply_to, after, replies_to, commands_of}
-use Rattle.job_session.specs.{Own.Refused, Own.own_replies, Places.Place, Places.least_place, Checked.session_rules, Laws.NoneIsFull}
+use Rattle.job_session.specs.{Own.Refused, Own.own_replies, Places.Place, Places.least_place, Checked.session_rules, Laws.other_replies, Laws.other_commands}
 use Rattle.job_session.specs.{Desk.Desk, Desk.empty, Replies.desk_reply, Replies.desk_after}
 use Rattle.session_law.specs.{Agree.client_count, Agree.Agrees, Kept.IsKept, Full.IsFullFor, Full.IsLowestRoom}
 use Rattle.session_law.specs.History.{AreKnown, desk_left, past_left, desk_replies_to}
@@ -36,16 +35,12 @@ SessionsGoOn =
 abbrev pub RepliesAreOfHistories : Type 0
 RepliesAreOfHistories = (client : ℕ) (calls : List Call) → AreKnown calls → desk_replies_to client empty calls ≡ replies_to client session_rules none_yet calls
 
--- a client to whom no reply was that memory is full has had exactly the replies of its own commands alone
+-- The replies to a client, but for those that memory is full, are exactly those of its own commands alone, but for the commands that were
+-- answered so. Whether memory is full depends on all clients; nothing else that a client is told does.
 abbrev pub ClientsAreApart : Type 0
-ClientsAreApart = (client : ℕ) (calls : List Call) → AreKnown calls → NoneIsFull Refusal (desk_replies_to client empty calls)
-    → desk_replies_to client empty calls ≡ own_replies session_rules client (λ id. None) (commands_of client calls)
-
--- so its replies are equal in two lists of calls that have its commands alike, whatever the others do and wherever its buffers lie
-abbrev pub OthersChangeNothing : Type 0
-OthersChangeNothing = (client : ℕ) (calls others : List Call) → AreKnown calls → AreKnown others
-    → NoneIsFull Refusal (desk_replies_to client empty calls) → NoneIsFull Refusal (desk_replies_to client empty others)
-    → commands_of client calls ≡ commands_of client others → desk_replies_to client empty calls ≡ desk_replies_to client empty others
+ClientsAreApart = (client : ℕ) (calls : List Call) → AreKnown calls
+    → other_replies (desk_replies_to client empty calls)
+    ≡ own_replies session_rules client (λ id. None) (other_commands (commands_of client calls) (desk_replies_to client empty calls))
 
 abbrev pub MemoryIsKept : Type 0
 MemoryIsKept = (calls : List Call) → AreKnown calls → IsKept (past_left none_yet calls) (desk_left empty calls)

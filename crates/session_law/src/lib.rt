@@ -2,9 +2,9 @@
 //!
 //! `job_session` says twice what its calls do: by the page map and the slots that it keeps (`Desk`), and by the history of all
 //! clients' calls (`Session`, with each client's own buffers in `Own` and where all of them lie in `Places`). Here the two are one:
-//! from a new session on, each call answers what the history says, and leaves what agrees with it. So a client to whom no reply was
-//! that memory is full has had exactly the replies of its own commands alone; each live buffer's bytes lie in its pages, and all
-//! other pages are zero.
+//! from a new session on, each call answers what the history says, and leaves what agrees with it. So the replies to a
+//! client, but for those that memory is full, are those of its own commands alone, but for the commands that were answered so; each live
+//! buffer's bytes lie in its pages, and all other pages are zero.
 //!
 //! In `specs/`, `Agree` says when what a session keeps agrees with the calls before, `History` what lists of calls leave, `Kept` what
 //! the memory holds then, `Full` when it is full, `Scripts` what a script is answered, `Lying` the file of a submit with the client's
@@ -12,7 +12,7 @@
 #![tactic(auto)]
 
 ghost use Rattle.session_law.specs.Laws.{NewSessionsAgree, CallsAreAnswered, HistoriesAgree, SessionsGoOn, RepliesAreOfHistories};
-ghost use Rattle.session_law.specs.Laws.{ClientsAreApart, OthersChangeNothing, MemoryIsKept, FullIsExact, PlacesAreLowest};
+ghost use Rattle.session_law.specs.Laws.{ClientsAreApart, MemoryIsKept, FullIsExact, PlacesAreLowest};
 ghost use Rattle.session_law.specs.Lying.{SubmitsAreOfPlaces};
 ghost use Rattle.session_law.specs.Scripts.{ScriptsAreOfHistories, ScriptsAreOfCalls};
 
@@ -46,16 +46,11 @@ pub fn replies_are_of_histories()
     ensures { RepliesAreOfHistories }
 {}
 
-/// A client to whom no reply was that memory is full has had exactly the replies of its own commands alone.
+/// The replies to a client, but for those that memory is full, are those of its own commands alone, but for the commands that were answered
+/// so.
 #[tactic(auto, using(crate::proofs::Answering::clients_are_apart))]
 pub fn clients_are_apart()
     ensures { ClientsAreApart }
-{}
-
-/// So its replies are equal in two lists of calls that have its commands alike, whatever the others do and wherever its buffers lie.
-#[tactic(auto, using(crate::proofs::Answering::others_change_nothing))]
-pub fn others_change_nothing()
-    ensures { OthersChangeNothing }
 {}
 
 /// After any calls each live buffer's bytes lie in its pages, each place is a live buffer's, no page is in two of them, and all bytes

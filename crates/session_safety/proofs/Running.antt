@@ -33,13 +33,13 @@ unfolding refusal_of
 none_stands past desk client parts accepted =
     none_by (refusal_of (lying_file desk client parts)) (sym (submits_are_of_places past desk client parts accepted.known accepted.agrees) ∙ accepted.accepted)
 
-is_faultless : (past : Past) (desk : Desk) (client : ℕ) (parts : List ℕ) → IsAccepted past desk client parts → IsFaultless (file_in desk client parts)
+pub is_faultless : (past : Past) (desk : Desk) (client : ℕ) (parts : List ℕ) → IsAccepted past desk client parts → IsFaultless (file_in desk client parts)
 is_faultless past desk client parts accepted =
     let bytes = lying_file desk client parts in
     let none = none_stands past desk client parts accepted in
     faultless bytes (bytes_spell bytes (file_bytes desk client parts accepted.bytes accepted.parts_bytes) none) none
 
-entry_whole : (past : Past) (desk : Desk) (client : ℕ) (parts : List ℕ) → IsAccepted past desk client parts → 124 ≤ length (with_client client parts)
+pub entry_whole : (past : Past) (desk : Desk) (client : ℕ) (parts : List ℕ) → IsAccepted past desk client parts → 124 ≤ length (with_client client parts)
 unfolding questions_within
 entry_whole past desk client parts accepted =
     let bytes = lying_file desk client parts in
@@ -52,12 +52,12 @@ size_is : (desk : Desk) (client : ℕ) (parts : List ℕ) → (file_in desk clie
 unfolding file_at lying_file
 size_is desk client parts = size_back (length (lying desk client 0 most_buffers)) _
 
-regions_are : (desk : Desk) (client : ℕ) (parts : List ℕ) → (file_in desk client parts).regions ≡ regions
+pub regions_are : (desk : Desk) (client : ℕ) (parts : List ℕ) → (file_in desk client parts).regions ≡ regions
 unfolding file_at lying_file
 regions_are desk client parts = regions_back (length (lying desk client 0 most_buffers)) _
 
 -- a buffer's pages in the session's memory
-slot_long : (past : Past) (desk : Desk) (client id : ℕ) → Agrees past desk → IsKey client id → length (bytes_of desk client id) ≡ page_size * page_total desk client id
+pub slot_long : (past : Past) (desk : Desk) (client id : ℕ) → Agrees past desk → IsKey client id → length (bytes_of desk client id) ≡ page_size * page_total desk client id
 slot_long past desk client id agrees key =
     window_length desk.map.memory (place_of (first_page desk client id)) (page_size * page_total desk client id) (room_in past desk client id agrees key)
 

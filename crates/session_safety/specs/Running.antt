@@ -1,10 +1,12 @@
 -- The memory in which the job of an accepted submit may run.
-use Rattle.std.specs.Prelude.{◌≡◌, ◌<◌, ℕ, ◌*◌, List, length, Ok}
+use Rattle.std.specs.Prelude.{◌≡◌, ◌≢◌, ◌<◌, ◌≤◌, ℕ, ◌+◌, ◌*◌, List, length, Ok}
 use Rattle.field_words.specs.{Sizes.page_size, Words.IsBytes, Writes.with_bytes}
 use Rattle.phys_mem.specs.Window.{window_of}
 use Rattle.buffer_table.specs.declared.buffer.Kind.TheVariants.{Code}
 use Rattle.job_format.specs.{Model.FileModel, Reading.file_at}
 use Rattle.job_check.specs.Region.{region_of}
+use Rattle.machine_plan.specs.Regions.{Inside}
+use Rattle.accepted_law.specs.Holdings.{rights_at}
 use Rattle.job_safety.specs.Prepared.{MayRunOver}
 use Rattle.session_pages.specs.Map.{place_of, memory_size}
 use Rattle.job_session.specs.{Own.most_buffers, Session.Past}
@@ -47,3 +49,11 @@ abbrev pub SubmitsMayRun : Type 0
 SubmitsMayRun =
     (past : Past) (desk : Desk) (client : ℕ) (parts : List ℕ) → IsAccepted past desk client parts
     → MayRunOver (file_in desk client parts) (with_lists desk client parts)
+
+-- No byte of another client's live buffer lies in what the job may reach: it lies in the pages that the buffer has.
+abbrev pub SubmitsReachOwn : Type 0
+SubmitsReachOwn =
+    (past : Past) (desk : Desk) (client : ℕ) (parts : List ℕ) → IsAccepted past desk client parts
+    → (other id p : ℕ) → other < client_count → other ≢ client → id < most_buffers
+    → place_of (first_page desk other id) ≤ p → p < place_of (first_page desk other id) + page_size * page_total desk other id
+    → Inside (rights_at (file_in desk client parts) 0).region p 1 → ⊥

@@ -7,7 +7,7 @@
 //! In `specs/`, `Running` names the file, the memory and the laws.
 #![tactic(auto)]
 
-ghost use Rattle.session_safety.specs.Running.{SubmitsMayRun, ReadyMemoriesMayRun};
+ghost use Rattle.session_safety.specs.Running.{SubmitsMayRun, ReadyMemoriesMayRun, SubmitsReachOwn};
 
 /// The job of an accepted submit may run over the session's memory with its relocated lists: in every run each access lies in the client's
 /// buffers that its handles name, its lists or the tile slot, and each write in a Plain buffer of the client's or the slot, whatever others
@@ -19,4 +19,9 @@ pub fn submits_may_run()
 /// So it may over every memory that has these lists, and in which the client's Code buffers are as they were when it was accepted.
 pub fn ready_memories_may_run()
     ensures { ReadyMemoriesMayRun }
+{}
+
+/// And it reaches no byte of another client's live buffer.
+pub fn submits_reach_own()
+    ensures { SubmitsReachOwn }
 {}
