@@ -20,7 +20,7 @@ use Rattle.accepted_ends.proofs.{Cut.packets_walk, Shaders.draws_short}
 pub packets_are : (f : FileModel) (j : ℕ) (m : List ℕ) → (bin : BinWalks f j m) → packets (bin_list_of f j) ≡ bin.packets
 packets_are f j m bin = ap packets bin.text ∙ packets_walk (config_for f j) (DrawShaders f j m) nothing_kept bin.packets bin.walks
 
-job_short : (f : FileModel) (j : ℕ) → file_loops f ≡ false → j < length f.jobs → Grounds f j (memory_of f) → JobShort (file_rights f) (plain_of f) (memory_of f) (longest_of f) j (job_bound f j) (start_of f j)
+pub job_short : (f : FileModel) (j : ℕ) → file_loops f ≡ false → j < length f.jobs → Grounds f j (memory_of f) → JobShort (file_rights f) (plain_of f) (memory_of f) (longest_of f) j (job_bound f j) (start_of f j)
 unfolding job_begins job_bound
 job_short f j none inside grounds =
     let m : List ℕ = memory_of f in

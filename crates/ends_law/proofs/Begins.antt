@@ -84,7 +84,7 @@ unfolding most_visits
 often_most place slots = most_by place (all_entered slots) (times place (all_entered slots)) refl
 
 -- All that is left of a job.
-job_ends : (rights : List Rights) (plains : ℕ → List Interval) (first : List ℕ) (w j n : ℕ) (start : Start) → JobShort rights plains first w j n start → JobEnds rights (HasReadOnly rights first) w j n (job_start start)
+pub job_ends : (rights : List Rights) (plains : ℕ → List Interval) (first : List ℕ) (w j n : ℕ) (start : Start) → JobShort rights plains first w j n start → JobEnds rights (HasReadOnly rights first) w j n (job_start start)
 unfolding job_steps
 job_ends rights plains first w j n start short =
     let begins = short.begins in

@@ -29,11 +29,11 @@ use Rattle.ends_law.proofs.Shares.{more_within, Hole, hole_at, PickedHole, picke
 use Rattle.ends_law.proofs.Threads.{ThreadGoes, thread_goes}
 
 -- What a step of a list unit of job j came to: less is left of the job, and the program that it starts is short.
-record JobTurned (rights : List Rights) (K : List ℕ → Type 0) (w j n stay : ℕ) (turned : Turned) : Type 0 where
-  rest : ℕ
-  left : JobEnds rights K w j rest turned.lists
-  launch : IfSome turned.launch (LaunchShort rights K w j)
-  less : rest + launch_steps w turned.launch + 1 ≤ n + (1 + w) * stay
+pub record JobTurned (rights : List Rights) (K : List ℕ → Type 0) (w j n stay : ℕ) (turned : Turned) : Type 0 where
+  pub rest : ℕ
+  pub left : JobEnds rights K w j rest turned.lists
+  pub launch : IfSome turned.launch (LaunchShort rights K w j)
+  pub less : rest + launch_steps w turned.launch + 1 ≤ n + (1 + w) * stay
 
 job_turned : (rights : List Rights) (K : List ℕ → Type 0) (w j n stay : ℕ) (s : Lists) (turned : Turned) → (ends : JobEnds rights K w j n s)
     → TurnedFine (rights_of rights j) K (LaunchShort rights K w j) ends.config ends.frame turned → ListsLess K ends.config w ends.most n stay turned → JobTurned rights K w j n stay turned
@@ -51,26 +51,26 @@ comes_by who L r P Q S joins plan m keeps comes =
     keeps_weaker who L AnyLook (IsSafeIn r) AnyAccess (λ k one. P one × Q one) (λ k one. S one) (λ p n lies. tt) (λ a safe. tt) (λ k one both. joins one both.0 both.1) plan m
     (keeps_both who L (IsSafeIn r) P Q plan m keeps comes)
 
-binner_turned : (rights : List Rights) (K : List ℕ → Type 0) (w j n : ℕ) (s : Lists) (free : Free) (words m : List ℕ) → K m → JobEnds rights K w j n s → glanced (binner_ready s free) m ≡ true
-    → Comes (binner_of j) (JobTurned rights K w j n 0) (binner_plan s free words) m
-binner_turned rights K w j n s free words m here ends on =
+pub binner_turned : (who : Who) (rights : List Rights) (K : List ℕ → Type 0) (w j n : ℕ) (s : Lists) (free : Free) (words m : List ℕ) → K m → JobEnds rights K w j n s → glanced (binner_ready s free) m ≡ true
+    → Comes who (JobTurned rights K w j n 0) (binner_plan s free words) m
+binner_turned who rights K w j n s free words m here ends on =
     let r : Rights = rights_of rights j in
     let O = LaunchShort rights K w j in
-    comes_by (binner_of j) (Inside r.region) r (λ turned. TurnedFine r K O ends.config ends.frame turned) (ListsLess K ends.config w ends.most n 0) (JobTurned rights K w j n 0)
+    comes_by who (Inside r.region) r (λ turned. TurnedFine r K O ends.config ends.frame turned) (ListsLess K ends.config w ends.most n 0) (JobTurned rights K w j n 0)
     (λ turned fine less. job_turned rights K w j n 0 s turned ends fine less) (binner_plan s free words) m
-    (binner_keeps (binner_of j) r K O ends.config ends.frame s free words m ends.allocates here ends.lists on)
-    (binner_goes (binner_of j) K ends.config w ends.most n s free words m here ends.lists.configs ends.left on)
+    (binner_keeps who r K O ends.config ends.frame s free words m ends.allocates here ends.lists on)
+    (binner_goes who K ends.config w ends.most n s free words m here ends.lists.configs ends.left on)
 
-renderer_turned : (rights : List Rights) (K : List ℕ → Type 0) (w j n : ℕ) (s : Lists) (free : Free) (words m : List ℕ) → K m → JobEnds rights K w j n s → glanced (renderer_ready s) m ≡ true
-    → Comes (renderer_of j) (JobTurned rights K w j n (one_if (stays s words))) (renderer_plan s free words) m
-renderer_turned rights K w j n s free words m here ends on =
+pub renderer_turned : (who : Who) (rights : List Rights) (K : List ℕ → Type 0) (w j n : ℕ) (s : Lists) (free : Free) (words m : List ℕ) → K m → JobEnds rights K w j n s → glanced (renderer_ready s) m ≡ true
+    → Comes who (JobTurned rights K w j n (one_if (stays s words))) (renderer_plan s free words) m
+renderer_turned who rights K w j n s free words m here ends on =
     let r : Rights = rights_of rights j in
     let O = LaunchShort rights K w j in
     let stay : ℕ = one_if (stays s words) in
-    comes_by (renderer_of j) (Inside r.region) r (λ turned. TurnedFine r K O ends.config ends.frame turned) (ListsLess K ends.config w ends.most n stay) (JobTurned rights K w j n stay)
+    comes_by who (Inside r.region) r (λ turned. TurnedFine r K O ends.config ends.frame turned) (ListsLess K ends.config w ends.most n stay) (JobTurned rights K w j n stay)
     (λ turned fine less. job_turned rights K w j n stay s turned ends fine less) (renderer_plan s free words) m
-    (renderer_keeps (renderer_of j) r K O ends.config ends.frame s free words m here ends.lists on)
-    (renderer_goes (renderer_of j) K ends.config w ends.most n s free words m here ends.left ends.lists.closed on)
+    (renderer_keeps who r K O ends.config ends.frame s free words m here ends.lists on)
+    (renderer_goes who K ends.config w ends.most n s free words m here ends.left ends.lists.closed on)
 
 -- among all units
 launch_left : (rights : List Rights) (K : List ℕ → Type 0) (w j n : ℕ) (launch : Option Launch) (qpus : List Qpu) → IfSome launch (LaunchShort rights K w j) → EachWithin (QpuLeft rights K) 0 n qpus
@@ -128,7 +128,7 @@ binner_less rights K w n u (Some b) words m here left picked may =
     let free : Free = free_in u.qpus in
     let share : ℕ = picked.hole.share in
     comes_mapped (binner_of b.number) (with_lists u b.number) (JobTurned rights K w b.number share 0) (StepLess rights K w n 0) (λ turned less. lists_turned rights K w n 0 u b turned left picked less) (binner_plan b.item free words) m
-    (binner_turned rights K w b.number share b.item free words m here picked.hole.known (not_held (is_ahead b.number (renderer_job u)) (binner_ready b.item free) m may))
+    (binner_turned (binner_of b.number) rights K w b.number share b.item free words m here picked.hole.known (not_held (is_ahead b.number (renderer_job u)) (binner_ready b.item free) m may))
 
 renderer_less : (rights : List Rights) (K : List ℕ → Type 0) (w n : ℕ) (u : Units) (found : Option (Picked Lists)) (words m : List ℕ) → K m → (left : UnitsLeft rights K w n u) → IfSome found (PickedHole (JobEnds rights K w) 0 left.of_jobs u.jobs)
     → IsTrue (glanced (renderer_may found) m) → Comes (renderer_turn u found words).who (StepLess rights K w n (one_if (renderer_stays found words))) (renderer_turn u found words).plan m
@@ -138,7 +138,7 @@ renderer_less rights K w n u (Some r) words m here left picked may =
     let share : ℕ = picked.hole.share in
     let stay : ℕ = one_if (stays r.item words) in
     comes_mapped (renderer_of r.number) (with_lists u r.number) (JobTurned rights K w r.number share stay) (StepLess rights K w n stay) (λ turned less. lists_turned rights K w n stay u r turned left picked less) (renderer_plan r.item free words) m
-    (renderer_turned rights K w r.number share r.item free words m here picked.hole.known may)
+    (renderer_turned (renderer_of r.number) rights K w r.number share r.item free words m here picked.hole.known may)
 
 slot_less : (rights : List Rights) (K : List ℕ → Type 0) (w n k : ℕ) (u : Units) (q : Qpu) (slot : Option Thread) (words m : List ℕ) → K m → (left : UnitsLeft rights K w n u) → (hole : Hole (QpuLeft rights K) 0 left.of_qpus k k u.qpus q)
     → SlotLeft rights K (if q.second then hole.known.others else hole.known.firsts) slot → IsTrue (glanced (ready_by slot q) m)

@@ -15,7 +15,7 @@ abbrev pub SlotLeft : List Rights → (List ℕ → Type 0) → ℕ → Option T
 SlotLeft rights K n slot = IfSome slot (ThreadLeft rights K n)
 
 -- A thread that is woken, or gets a result, is where it was.
-refreshed_left : (rights : List Rights) (K : List ℕ → Type 0) (n : ℕ) (t : Thread) → ThreadLeft rights K n t → ThreadLeft rights K n (refreshed t)
+pub refreshed_left : (rights : List Rights) (K : List ℕ → Type 0) (n : ℕ) (t : Thread) → ThreadLeft rights K n t → ThreadLeft rights K n (refreshed t)
 refreshed_left rights K n t left =
     let at = left.at in
     record {
@@ -53,7 +53,7 @@ one_by true false requests others request other = let long = length-append reque
 one_by false true requests others request other = let long = length-append others (request ∷ []) in omega (arith, long)
 one_by false false requests others request other = omega arith
 
-one_queue : (tmu : ℕ) → (tmu == 0) ≡ true → (tmu == 1) ≡ false
+pub one_queue : (tmu : ℕ) → (tmu == 0) ≡ true → (tmu == 1) ≡ false
 one_queue tmu first = grind (arith, common_steps, nat_tests, first)
 
 queues_with : (second : Bool) (job : ℕ) (asked : Option Asked) (requests others : List Request)

@@ -81,5 +81,6 @@ day_happens = record {
   finds = refl;
   moves = refl;
   ends = refl;
+  steps = refl;
   serves = refl;
 }

@@ -5,6 +5,7 @@ use Rattle.field_words.specs.declared.access.Actor.TheVariants.{Binner as TheBin
 use Rattle.machine_plan.specs.{declared.launch.Launch.Launch, Regions.Interval}
 use Rattle.qpu_machine.specs.{declared.state.Qpu.Qpu, declared.state.Thread.Thread, Qpu.idle_qpu, Qpu.slot_of, Start.thread_of}
 use Rattle.machine.specs.State.{item_at}
+use Rattle.day_ends.specs.Ends.{own_steps}
 use Rattle.day_law.specs.Day.{Day, Job, Files, Happening, Steps, Changes, Finds, Admits, Retires, AllMayHappen, after, dawn, no_rights, rights_in, with_files}
 
 -- The binner list, from place 0 on: a configuration of one tile, whose states stand at 144 and whose tile lists have 256 bytes from 192 on;
@@ -113,4 +114,5 @@ pub record ADayHappens : Type 0 where
   pub finds : thread_after to_find ≡ Some (with_files left (thread_of 0 program))
   pub moves : slice_index_or (file_in (thread_after to_move)) 1 [] ≡ replicate 16 7
   pub ends : (after (dawn memory) to_end).state.units.qpus ≡ replicate 12 idle_qpu
+  pub steps : own_steps 0 (dawn memory) whole_day ≡ 11
   pub serves : rights_in (after (dawn memory) whole_day).jobs ≡ no_rights ∷ job.rights ∷ []

@@ -15,6 +15,8 @@ use Rattle.accepted_law.specs.{Held.AreFixed, Neighbours.IsFaultless}
 use Rattle.accepted_law.proofs.{Fixed.fixed_byte, Neighbours.accepted_apart_law, Joining.files_sound_law, Joining.lists_and_code_fixed_law}
 use Rattle.accepted_ends.specs.Law.{FileEnds}
 use Rattle.accepted_ends.proofs.Files.{files_end_by_law}
+use Rattle.driver_law.specs.Driver.{FileMayJoin}
+use Rattle.driver_law.proofs.Driver.{may_be_admitted_law}
 use Rattle.job_safety.specs.{Clients.IsApart, Clients.BytesApart, Safe.AreSafe, Safe.AreSame}
 use Rattle.job_safety.specs.Files.{IsSafeFile, BytesSafe, PlacedJobsAreSafe}
 use Rattle.job_safety.specs.Follows.{HasListsAndCode, IsSafeAlone, SafeFilesFollow}
@@ -98,6 +100,11 @@ accepted_is_apart bytes is none c others are_bytes accepted near =
 -- Its jobs end, where no shader has a loop.
 pub file_ends : (bytes : List ℕ) → IsFileOf bytes (file_at bytes) → first_of (all_questions bytes) ≡ None → FileEnds (file_at bytes)
 file_ends bytes is none = files_end_by_law (file_at bytes) is.well_formed is.fits (faultless bytes is none).none
+
+-- And each of its jobs may join live ones.
+pub accepted_may_join : (bytes : List ℕ) → IsFileOf bytes (file_at bytes) → first_of (all_questions bytes) ≡ None → FileMayJoin (file_at bytes)
+accepted_may_join bytes is none d j inside prepared apart =
+    may_be_admitted_law d (file_at bytes) j (record { accepted = faultless bytes is none; inside = inside; prepared = prepared; apart = apart })
 
 pub bytes_apart_law : BytesApart
 unfolding refusal_of

@@ -9,6 +9,7 @@ ghost use Rattle.job_check.specs.Emit.{memory_of, IsInside, IsPlaced};
 ghost use Rattle.job_check.specs.Whole.{all_questions};
 ghost use Rattle.accepted_ends.specs.Law.{FileEnds};
 ghost use Rattle.accepted_law.specs.Holdings.{start_by, file_rights, file_starts};
+ghost use Rattle.driver_law.specs.Driver.{FileMayJoin};
 ghost use Rattle.job_safety.specs.Accepted.{starts_by, IsSetUp, IsAccepted};
 ghost use Rattle.job_safety.specs.Clients.{IsApart};
 ghost use Rattle.job_safety.specs.Safe.{AreSafe, AreSame};
@@ -97,7 +98,9 @@ fn set_up(alloc: Global, version: u32, checked: Checked) -> Result<Accepted, NoM
 /// they are to run in. From there every run of that machine is safe, each access in what the job may reach for which it is done, and
 /// bytes outside what jobs may reach have no effect. To each client the file is the same as every other that is accepted and has the same
 /// jobs of that client in the same places: they access the same, and leave the same, in runs in which they take the same steps. Where no
-/// shader branches back, a run has at most as many steps as the file says, but for those in which a renderer stays at an item.
+/// shader branches back, a run has at most as many steps as the file says, but for those in which a renderer stays at an item. And each of
+/// its jobs may also join jobs that are live, wherever the memory is prepared for the file and it and they leave each other's lists and code
+/// alone.
 ///
 /// # Errors
 /// The first rule that stands for the bytes, by its letter, its number and its place in them; or want of memory.
@@ -110,6 +113,7 @@ pub fn accept(alloc: Global, bytes: &[u8]) -> Result<Accepted, Stop<Refusal>>
         → AreSame (file_rights (file_at bytes.now)) (memory_of (file_at bytes.now)) (file_starts (file_at bytes.now)) }
     ensures apart { IsOk result → IsApart (file_at bytes.now) }
     ensures ends { IsOk result → FileEnds (file_at bytes.now) }
+    ensures joins { IsOk result → FileMayJoin (file_at bytes.now) }
 {
     match check_bytes(alloc, bytes) {
         Ok(checked) => match set_up(alloc, version_of(bytes), checked) {

@@ -1,7 +1,7 @@
 -- What was checked is the file's, and so is its machine.
 use Rattle.std.proofs.Common.{refl}
 use Rattle.job_format.specs.Reading.{file_at}
-use Rattle.job_safety.proofs.Safety.{header_there, accepted_is_safe, accepted_is_same, accepted_is_apart, file_ends}
+use Rattle.job_safety.proofs.Safety.{header_there, accepted_is_safe, accepted_is_same, accepted_is_apart, accepted_may_join, file_ends}
 use Rattle.job_safety.proofs.{Starts.AreOfJobs, Starts.are_of_jobs, Starts.is_accepted, accepting.accept.Goals.In-Ok}
 use Rattle.job_safety.proofs.accepting.accept.Goals as goal
 
@@ -39,3 +39,6 @@ returns-in-Ok-set_up-clause-apart c ok = accepted_is_apart c.args.bytes.now (c.i
 
 pub returns-in-Ok-set_up-clause-ends : goal.returns-in-Ok-set_up-clause-ends
 returns-in-Ok-set_up-clause-ends c ok = file_ends c.args.bytes.now (c.in-Ok.ensures.spelled refl) c.in-Ok.ensures.answers.0
+
+pub returns-in-Ok-set_up-clause-joins : goal.returns-in-Ok-set_up-clause-joins
+returns-in-Ok-set_up-clause-joins c ok = accepted_may_join c.args.bytes.now (c.in-Ok.ensures.spelled refl) c.in-Ok.ensures.answers.0

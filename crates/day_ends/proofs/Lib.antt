@@ -1,0 +1,4 @@
+pub mod Alone
+pub mod Processors
+pub mod Units
+pub mod Days
