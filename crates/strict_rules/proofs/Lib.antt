@@ -1,0 +1,4 @@
+pub mod Leasts
+pub mod Lists
+pub mod Requests
+pub mod Rooms
