@@ -1,6 +1,6 @@
 -- What a line says of its bytes.
 use Rattle.std.specs.Prelude.{ℕ, ◌++◌, List, [], codes, decimal, Option, Some, None}
-use Rattle.job_text.specs.declared.note.Field.TheVariants.{Magic, Version, MemorySize, ListsPlace, ListsSize, TilePlace, TileSlots, Buffers, Jobs, Place, Size, Client, Kind, Content, Flags, Handles, BinSize, RecordsSize, States, UniformsSize, Width, Height, MinX, MinY, MaxX, MaxY, HandleIndex, Offset, FrameBits, GeneralBits, SampleBits, SurfaceFlags, FirstColor, SecondColor, ClearZ, ClearStencil, Zeros, PrimitiveMode, IndexMode, Length, FirstIndex, MaxIndex, ListFormat, StateWord, ConfigurationBits, FlatFlags, PointWidth, Boundary, DepthFactor, DepthUnits, ClipLeft, ClipBottom, CenterX, CenterY, ScaleX, ScaleY, ScaleZ, OffsetZ, ListsAddress, ListsBytes, StatesAddress, TilesAcross, TilesDown, BinnerFlags, IndexHandle, FurtherHandle, NamedHandle, RecordFlags, FurtherBytes, CodeAddress, UniformsAddress, FurtherWord, Address, DataSize, Stride, VertexOffset, CoordinateOffset, HighStride}
+use Rattle.job_text.specs.declared.note.Field.TheVariants.{Plain, Kind, Flags, Width, Height, HandleIndex, FrameBits, GeneralBits, SurfaceFlags, PrimitiveMode, IndexMode, Length, FirstIndex, MaxIndex, ListFormat, StateWord, ConfigurationBits, FlatFlags, PointWidth, Boundary, DepthFactor, DepthUnits, ClipLeft, ClipBottom, CenterX, CenterY, ScaleX, ScaleY, ScaleZ, OffsetZ, ListsAddress, ListsBytes, StatesAddress, TilesAcross, TilesDown, BinnerFlags, IndexHandle, FurtherHandle, RecordFlags, Address}
 use Rattle.job_text.specs.declared.note.Role.TheVariants.{ColorRead, ColorWrite, ZsRead, ZsWrite, SampleColorWrite, SampleZsWrite}
 use Rattle.job_text.specs.declared.note.Part.TheVariants.{Header, Buffer, Job, Surface, Record, Shader, Attribute}
 use Rattle.job_text.specs.declared.note.Stage.TheVariants.{Fragment, Vertex, Coordinate}
@@ -16,43 +16,15 @@ role_name SampleZsWrite = codes "multisample ZS write"
 
 -- the name of a field, and how many bytes it has
 abbrev pub field_row : Field → List ℕ × ℕ
-field_row Magic = (codes "letters", 4)
-field_row Version = (codes "version", 4)
-field_row MemorySize = (codes "memory size", 4)
-field_row ListsPlace = (codes "lists' place", 4)
-field_row ListsSize = (codes "lists' size", 4)
-field_row TilePlace = (codes "tile region's place", 4)
-field_row TileSlots = (codes "tile slots", 4)
-field_row Buffers = (codes "buffers", 4)
-field_row Jobs = (codes "jobs", 4)
-field_row Place = (codes "place", 4)
-field_row Size = (codes "size", 4)
-field_row Client = (codes "client", 4)
+field_row (Plain name size) = (name.now, size)
 field_row Kind = (codes "kind", 4)
-field_row Content = (codes "bytes of content", 4)
 field_row Flags = (codes "flags", 4)
-field_row Handles = (codes "handles", 4)
-field_row BinSize = (codes "bytes of the binner list", 4)
-field_row RecordsSize = (codes "bytes of the records", 4)
-field_row States = (codes "declared shader states", 4)
-field_row UniformsSize = (codes "bytes of the uniforms", 4)
 field_row Width = (codes "width", 2)
 field_row Height = (codes "height", 2)
-field_row MinX = (codes "smallest tile x", 1)
-field_row MinY = (codes "smallest tile y", 1)
-field_row MaxX = (codes "largest tile x", 1)
-field_row MaxY = (codes "largest tile y", 1)
 field_row HandleIndex = (codes "handle's index", 4)
-field_row Offset = (codes "offset", 4)
 field_row FrameBits = (codes "bits", 2)
 field_row GeneralBits = (codes "bits", 2)
-field_row SampleBits = (codes "bits", 2)
 field_row SurfaceFlags = (codes "flags", 2)
-field_row FirstColor = (codes "clear colour 0", 4)
-field_row SecondColor = (codes "clear colour 1", 4)
-field_row ClearZ = (codes "clear Z", 4)
-field_row ClearStencil = (codes "clear stencil", 1)
-field_row Zeros = (codes "zeros", 3)
 field_row PrimitiveMode = (codes "mode", 1)
 field_row IndexMode = (codes "mode and index type", 1)
 field_row Length = (codes "length", 4)
@@ -82,18 +54,8 @@ field_row TilesDown = (codes "tiles down", 1)
 field_row BinnerFlags = (codes "flags", 1)
 field_row IndexHandle = (codes "handle of the index buffer", 4)
 field_row FurtherHandle = (codes "further handle", 4)
-field_row NamedHandle = (codes "handle", 4)
 field_row RecordFlags = (codes "flags", 2)
-field_row FurtherBytes = (codes "further bytes", 2)
-field_row CodeAddress = (codes "code address", 4)
-field_row UniformsAddress = (codes "uniforms' address", 4)
-field_row FurtherWord = (codes "further word", 4)
 field_row Address = (codes "address", 4)
-field_row DataSize = (codes "size less one", 1)
-field_row Stride = (codes "stride", 1)
-field_row VertexOffset = (codes "vertex shader's offset", 1)
-field_row CoordinateOffset = (codes "coordinate shader's offset", 1)
-field_row HighStride = (codes "high bits of the stride", 4)
 
 abbrev pub field_name : Field → List ℕ
 field_name field = (field_row field).0

@@ -33,11 +33,7 @@ impl Mistake {
                 "a number is decimal, or 0x and hexadecimal digits, and fits in its bytes",
             Mistake::NoEnd => "no line behind asm says end",
             Mistake::LongBlock => "assembler text has fewer than 4294967295 bytes",
-            Mistake::Assembler(kind) => RuleName {
-                family: Family::Kind,
-                number: kind,
-            }
-            .sentence(),
+            Mistake::Assembler(kind) => RuleName::new(Family::Kind, kind).sentence(),
         }
     }
 }

@@ -6,9 +6,9 @@
 #![tactic(auto)]
 
 mod blocks;
-mod chunks;
 mod code;
 mod cuts;
+mod cutting;
 mod fault;
 mod instructions;
 mod list;

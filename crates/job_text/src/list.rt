@@ -1,197 +1,135 @@
 //! A binner list and the records of its states as pieces.
 
-use crate::chunks::{push_chunks, push_limited};
-use crate::names::field_size;
-use crate::note::{Cut, Field, Note, Part, STAGES, Stage};
+use crate::cutting::{Job, Pieces};
+use crate::note::{Field, Note, Part, STAGES, Stage};
 use field_words::get_u32;
 use packets::opcode::{BUFFER_HANDLES, GL_SHADER_STATE, HALT, INDEXED_PRIMITIVE_LIST};
 use packets::{attribute_count, bin_taken, is_extended};
 use std::alloc::AllocError;
 
-/// The buffer that a handle names, by the handles of its job.
-pub(crate) fn buffer_of(handles: &[u8], index: u32) -> Option<usize> {
-    Some(get_u32(handles, 4 * index as usize)? as usize)
-}
+/// The words of a record for one shader.
+const CODE: [Field; 2] = [
+    Field::Plain("code address", 4),
+    Field::Plain("uniforms' address", 4),
+];
 
-/// The buffer of the handle whose index stands at a place.
-pub(crate) fn buffer_at(handles: &[u8], bytes: &[u8], at: usize) -> Option<usize> {
-    buffer_of(handles, get_u32(bytes, at)?)
-}
+/// What stands between two shaders.
+const FURTHER: [Field; 1] = [Field::Plain("further word", 4)];
 
-/// Appends the pieces of a binner list: its packets, and what stands behind a halt.
-pub(crate) fn push_list(
-    out: &mut Vec<Cut>,
-    job: u32,
-    list: &[u8],
-    handles: &[u8],
-) -> Result<(), AllocError> {
-    let mut rest = list;
-    let mut buffer = buffer_of(handles, 0);
-    while let Some((opcode, behind)) = rest.split_first() {
-        let opcode = *opcode;
-        let size = (bin_taken(opcode) as usize).min(rest.len());
-        if opcode == BUFFER_HANDLES {
-            buffer = buffer_at(handles, behind, 0);
-        }
-        let is_named = opcode == BUFFER_HANDLES || opcode == INDEXED_PRIMITIVE_LIST;
-        let named = if is_named { buffer } else { None };
-        out.push(Cut::line(size, Note::Packet(job, named)))?;
-        rest = &rest[size..];
-        if opcode == HALT {
-            break;
-        }
-    }
-    push_chunks(out, 16, rest.len(), Note::BehindHalt(job))
-}
+/// The fields of an attribute, and the field of an extended record for one.
+const ATTRIBUTE: [Field; 5] = [
+    Field::Address,
+    Field::Plain("size less one", 1),
+    Field::Plain("stride", 1),
+    Field::Plain("vertex shader's offset", 1),
+    Field::Plain("coordinate shader's offset", 1),
+];
 
-// A record of a job's by its number, all the records, and the handles of the job.
+const HIGH_STRIDE: [Field; 1] = [Field::Plain("high bits of the stride", 4)];
+
+// A record of a job by its number.
 #[derive(Clone, Copy)]
 struct Record<'a> {
-    job: u32,
+    job: Job<'a>,
     number: usize,
-    records: &'a [u8],
-    handles: &'a [u8],
 }
 
-// Appends a handle of a record of which so many bytes are left, and says how many are left behind it, as those below do.
-fn push_handle(
-    out: &mut Vec<Cut>,
-    left: usize,
-    record: Record<'_>,
-    part: Part,
-) -> Result<usize, AllocError> {
-    let at = record.records.len().saturating_sub(left);
-    let buffer = buffer_at(record.handles, record.records, at);
-    push_limited(out, left, 4, Note::Named(part, Field::NamedHandle, buffer))
-}
-
-fn push_fields(
-    out: &mut Vec<Cut>,
-    left: usize,
-    part: Part,
-    fields: &[Field],
-) -> Result<usize, AllocError> {
-    let mut left = left;
-    for field in fields {
-        left = push_limited(out, left, field_size(*field), Note::Number(part, *field))?;
+impl<'a> Record<'a> {
+    fn shader(&self, stage: Stage) -> Part {
+        Part::Shader(self.job.number, self.number, stage)
     }
-    Ok(left)
-}
 
-// Appends the words of a record for one shader.
-fn push_stage(
-    out: &mut Vec<Cut>,
-    left: usize,
-    record: Record<'_>,
-    stage: Stage,
-) -> Result<usize, AllocError> {
-    let part = Part::Shader(record.job, record.number, stage);
-    push_fields(
-        out,
-        left,
-        part,
-        &[Field::CodeAddress, Field::UniformsAddress],
-    )
-}
-
-fn push_fixed(out: &mut Vec<Cut>, left: usize, record: Record<'_>) -> Result<usize, AllocError> {
-    let part = Part::Record(record.job, record.number);
-    let left = push_fields(out, left, part, &[Field::RecordFlags, Field::FurtherBytes])?;
-    let left = push_stage(out, left, record, Stage::Fragment)?;
-    let left = push_fields(out, left, part, &[Field::FurtherWord])?;
-    let left = push_stage(out, left, record, Stage::Vertex)?;
-    let left = push_fields(out, left, part, &[Field::FurtherWord])?;
-    push_stage(out, left, record, Stage::Coordinate)
-}
-
-// Appends these fields of each of so many attributes of a record.
-fn push_attributes(
-    out: &mut Vec<Cut>,
-    left: usize,
-    record: Record<'_>,
-    attributes: usize,
-    fields: &[Field],
-) -> Result<usize, AllocError> {
-    let mut left = left;
-    for attribute in 0..attributes {
-        let part = Part::Attribute(record.job, record.number, attribute);
-        left = push_fields(out, left, part, fields)?;
+    fn attribute(&self, attribute: usize) -> Part {
+        Part::Attribute(self.job.number, self.number, attribute)
     }
-    Ok(left)
 }
 
-fn push_handles(
-    out: &mut Vec<Cut>,
-    left: usize,
-    record: Record<'_>,
-    attributes: usize,
-) -> Result<usize, AllocError> {
-    let mut left = left;
-    for stage in STAGES {
-        let part = Part::Shader(record.job, record.number, stage);
-        left = push_handle(out, left, record, part)?;
-    }
-    for attribute in 0..attributes {
-        let part = Part::Attribute(record.job, record.number, attribute);
-        left = push_handle(out, left, record, part)?;
-    }
-    Ok(left)
-}
-
-// Appends the pieces of a record by its state's word. An extended one has behind its attributes the room of those up to eight, and the
-// strides' words.
-fn push_record(
-    out: &mut Vec<Cut>,
-    left: usize,
-    record: Record<'_>,
-    state: u32,
-) -> Result<usize, AllocError> {
-    let attributes = attribute_count(state) as usize;
-    let fields = [
-        Field::Address,
-        Field::DataSize,
-        Field::Stride,
-        Field::VertexOffset,
-        Field::CoordinateOffset,
-    ];
-    let left = push_handles(out, left, record, attributes)?;
-    let left = push_fixed(out, left, record)?;
-    let left = push_attributes(out, left, record, attributes, &fields)?;
-    if !is_extended(state) {
-        return Ok(left);
-    }
-    let unused = 8usize.saturating_sub(attributes);
-    let left = push_limited(out, left, 8 * unused, Note::Records(record.job))?;
-    push_attributes(out, left, record, attributes, &[Field::HighStride])
-}
-
-/// Appends the pieces of a job's shader records, which are those of its list's states, and to `starts` where each begins.
-pub(crate) fn push_records(
-    out: &mut Vec<Cut>,
-    starts: &mut Vec<usize>,
-    job: u32,
-    list: &[u8],
-    handles: &[u8],
-    records: &[u8],
-) -> Result<(), AllocError> {
-    let mut rest = list;
-    let mut left = records.len();
-    while let Some((opcode, behind)) = rest.split_first() {
-        let size = (bin_taken(*opcode) as usize).min(rest.len());
-        if *opcode == HALT || left == 0 {
-            break;
+impl Pieces {
+    /// Appends a job's binner list: its packets, and what stands behind a halt.
+    pub fn push_list(&mut self, job: Job) -> Result<(), AllocError> {
+        let mut rest = job.list;
+        let mut buffer = job.buffer(0);
+        self.left = rest.len();
+        while let Some((opcode, behind)) = rest.split_first() {
+            let opcode = *opcode;
+            let size = (bin_taken(opcode) as usize).min(rest.len());
+            if opcode == BUFFER_HANDLES {
+                buffer = job.buffer_at(behind, 0);
+            }
+            let is_named = opcode == BUFFER_HANDLES || opcode == INDEXED_PRIMITIVE_LIST;
+            let named = if is_named { buffer } else { None };
+            self.push(size, Note::Packet(job.number, named))?;
+            rest = &rest[size..];
+            if opcode == HALT {
+                break;
+            }
         }
-        if *opcode == GL_SHADER_STATE {
-            let record = Record {
-                job,
-                number: starts.len(),
-                records,
-                handles,
-            };
-            starts.push(records.len().saturating_sub(left))?;
-            left = push_record(out, left, record, get_u32(behind, 0).unwrap_or(0))?;
-        }
-        rest = &rest[size..];
+        self.push_all(16, Note::BehindHalt(job.number))
     }
-    push_chunks(out, 16, left, Note::Records(job))
+
+    // Appends the handle of a part of a record.
+    fn push_handle(&mut self, record: Record, part: Part) -> Result<(), AllocError> {
+        let at = record.job.records.len().saturating_sub(self.left);
+        let buffer = record.job.buffer_at(record.job.records, at);
+        self.push(4, Note::Named(part, Field::Plain("handle", 4), buffer))
+    }
+
+    fn push_handles(&mut self, record: Record, attributes: usize) -> Result<(), AllocError> {
+        for stage in STAGES {
+            self.push_handle(record, record.shader(stage))?;
+        }
+        for attribute in 0..attributes {
+            self.push_handle(record, record.attribute(attribute))?;
+        }
+        Ok(())
+    }
+
+    fn push_fixed(&mut self, record: Record) -> Result<(), AllocError> {
+        let part = Part::Record(record.job.number, record.number);
+        let head = [Field::RecordFlags, Field::Plain("further bytes", 2)];
+        self.push_fields(part, &head)?;
+        self.push_fields(record.shader(Stage::Fragment), &CODE)?;
+        self.push_fields(part, &FURTHER)?;
+        self.push_fields(record.shader(Stage::Vertex), &CODE)?;
+        self.push_fields(part, &FURTHER)?;
+        self.push_fields(record.shader(Stage::Coordinate), &CODE)
+    }
+
+    // Appends a record by its state's word. An extended one has behind its attributes the room of those up to eight, and the strides'
+    // words.
+    fn push_record(&mut self, record: Record, state: u32) -> Result<(), AllocError> {
+        let attributes = attribute_count(state) as usize;
+        self.push_handles(record, attributes)?;
+        self.push_fixed(record)?;
+        for attribute in 0..attributes {
+            self.push_fields(record.attribute(attribute), &ATTRIBUTE)?;
+        }
+        if is_extended(state) {
+            let unused = 8usize.saturating_sub(attributes);
+            self.push(8 * unused, Note::Records(record.job.number))?;
+            for attribute in 0..attributes {
+                self.push_fields(record.attribute(attribute), &HIGH_STRIDE)?;
+            }
+        }
+        Ok(())
+    }
+
+    /// Appends a job's shader records, which are those of its list's states, and to `starts` where each begins.
+    pub fn push_records(&mut self, job: Job, starts: &mut Vec<usize>) -> Result<(), AllocError> {
+        let mut rest = job.list;
+        self.left = job.records.len();
+        while let Some((opcode, behind)) = rest.split_first() {
+            let size = (bin_taken(*opcode) as usize).min(rest.len());
+            if *opcode == HALT || self.left == 0 {
+                break;
+            }
+            if *opcode == GL_SHADER_STATE {
+                let number = starts.len();
+                starts.push(job.records.len().saturating_sub(self.left))?;
+                self.push_record(Record { job, number }, get_u32(behind, 0).unwrap_or(0))?;
+            }
+            rest = &rest[size..];
+        }
+        self.push_all(16, Note::Records(job.number))
+    }
 }

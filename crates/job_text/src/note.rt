@@ -3,43 +3,16 @@
 /// A field of the header, of an entry, of a packet or of a shader record.
 #[derive(Clone, Copy, Debug, PartialEq, Eq)]
 pub enum Field {
-    Magic,
-    Version,
-    MemorySize,
-    ListsPlace,
-    ListsSize,
-    TilePlace,
-    TileSlots,
-    Buffers,
-    Jobs,
-    Place,
-    Size,
-    Client,
+    /// One of this name and so many bytes, whose number means itself.
+    Plain(&'static str, usize),
     Kind,
-    Content,
     Flags,
-    Handles,
-    BinSize,
-    RecordsSize,
-    States,
-    UniformsSize,
     Width,
     Height,
-    MinX,
-    MinY,
-    MaxX,
-    MaxY,
     HandleIndex,
-    Offset,
     FrameBits,
     GeneralBits,
-    SampleBits,
     SurfaceFlags,
-    FirstColor,
-    SecondColor,
-    ClearZ,
-    ClearStencil,
-    Zeros,
     PrimitiveMode,
     IndexMode,
     Length,
@@ -69,18 +42,8 @@ pub enum Field {
     BinnerFlags,
     IndexHandle,
     FurtherHandle,
-    NamedHandle,
     RecordFlags,
-    FurtherBytes,
-    CodeAddress,
-    UniformsAddress,
-    FurtherWord,
     Address,
-    DataSize,
-    Stride,
-    VertexOffset,
-    CoordinateOffset,
-    HighStride,
 }
 
 /// What a frame does with a surface.
@@ -170,11 +133,6 @@ pub enum Cut {
 }
 
 impl Cut {
-    /// A line of so many bytes.
-    pub fn line(size: usize, note: Note) -> Cut {
-        Cut::Line(Piece { size, note })
-    }
-
     /// How many bytes it is.
     pub fn size(&self) -> usize {
         match self {

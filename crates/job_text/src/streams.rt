@@ -1,9 +1,7 @@
 //! A job's uniforms as pieces, by what its shaders make of them.
 
-use crate::chunks::push_chunks;
-use crate::cuts::{part_at, word};
-use crate::list::{buffer_at, buffer_of};
-use crate::note::{Cut, Meaning, Note, STAGES, Stage};
+use crate::cutting::{Job, Pieces, part_at, word};
+use crate::note::{Meaning, Note, STAGES, Stage};
 use field_words::{MOST_CODE, NoMemory, Stop};
 use job_check::shader_in;
 use job_format::{ENTRY_SIZE, HEADER_SIZE};
@@ -69,14 +67,8 @@ fn meaning_of(sample: &Sample, number: u32, index: u8, words: [u32; 4]) -> Meani
     }
 }
 
-// Says of the words of a sample what they are.
-fn set_sample(
-    meanings: &mut [Meaning],
-    stream: &[u8],
-    before: usize,
-    sample: &Sample,
-    number: u32,
-) {
+// Says of the words of a sample, in front of whose stream's uniforms stand so many handles, what they are.
+fn set_sample(out: &mut [Meaning], stream: &[u8], before: usize, sample: &Sample, number: u32) {
     let words = [
         setup_word(stream, before, sample.p[0]),
         setup_word(stream, before, sample.p[1]),
@@ -86,138 +78,117 @@ fn set_sample(
     for index in 0..4u8 {
         if let Some(at) = sample.p[index as usize] {
             let meaning = meaning_of(sample, number, index, words);
-            set(meanings, before.saturating_add(at as usize), meaning);
+            set(out, before.saturating_add(at as usize), meaning);
         }
+    }
+}
+
+// Says of the words that samples and addresses take what they are.
+fn set_words(out: &mut [Meaning], info: &ShaderInfo, stream: &[u8]) {
+    let before = info.samples.len();
+    let mut number = 0u32;
+    for sample in &info.samples {
+        set_sample(out, stream, before, sample, number);
+        number = number.saturating_add(1);
+    }
+    for at in &info.address_words {
+        set(out, before.saturating_add(*at as usize), Meaning::Stream);
     }
 }
 
 // What the words of a shader's stream are: a handle for each sample, and the uniforms that its instructions take.
 fn meanings_of(
     alloc: Global,
+    job: Job,
     info: &ShaderInfo,
     stream: &[u8],
-    handles: &[u8],
 ) -> Result<Vec<Meaning>, AllocError> {
     let mut out = Vec::new(alloc);
     let mut number = 0u32;
     for _ in &info.samples {
-        let buffer = buffer_of(handles, word_at(stream, out.len()));
+        let buffer = job.buffer(word_at(stream, out.len()));
         out.push(Meaning::Source(number, buffer))?;
         number = number.saturating_add(1);
     }
     for _ in 0..info.uniforms {
         out.push(Meaning::Plain)?;
     }
+    set_words(&mut out, info, stream);
     Ok(out)
 }
 
-// Says of the words that samples and addresses take what they are.
-fn set_words(meanings: &mut [Meaning], info: &ShaderInfo, stream: &[u8]) {
-    let before = info.samples.len();
-    let mut number = 0u32;
-    for sample in &info.samples {
-        set_sample(meanings, stream, before, sample, number);
-        number = number.saturating_add(1);
-    }
-    for at in &info.address_words {
-        set(
-            meanings,
-            before.saturating_add(*at as usize),
-            Meaning::Stream,
-        );
-    }
-}
-
-// The uniforms of a job, and by what they are known.
-#[derive(Clone, Copy)]
-struct Uniforms<'a> {
-    job: u32,
-    handles: &'a [u8],
-    records: &'a [u8],
-    uniforms: &'a [u8],
+// What is known of the shader that the handle at an offset of a job's records starts.
+fn used_shader<'a>(
+    job: Job,
     shaders: &'a [Option<ShaderInfo>],
-}
-
-// The shader that the handle at an offset of the records starts.
-fn used_shader<'a>(of: Uniforms<'a>, at: usize) -> Option<&'a ShaderInfo> {
-    let buffer = buffer_at(of.handles, of.records, at)?;
-    match of.shaders.get(buffer) {
+    at: usize,
+) -> Option<&'a ShaderInfo> {
+    match shaders.get(job.buffer_at(job.records, at)?) {
         Some(Some(info)) => Some(info),
         _ => None,
     }
 }
 
-// Appends the words of a shader's stream, which begins behind so many words, and counts them. It says whether all of them are there.
-fn push_stream(
-    alloc: Global,
-    out: &mut Vec<Cut>,
-    of: Uniforms<'_>,
-    shader: (usize, Stage, &ShaderInfo),
-    words: &mut usize,
-) -> Result<bool, AllocError> {
-    let (record, stage, info) = shader;
-    let stream = part_at(of.uniforms, words.saturating_mul(4), of.uniforms.len());
-    let total = info.samples.len().saturating_add(info.uniforms as usize);
-    if stream.len() / 4 < total {
-        return Ok(false);
-    }
-    let mut meanings = meanings_of(alloc, info, stream, of.handles)?;
-    set_words(&mut meanings, info, stream);
-    for meaning in &meanings {
-        let note = Note::Taken(of.job, *words, record, stage, *meaning);
-        out.push(Cut::line(4, note))?;
-        *words = words.saturating_add(1);
-    }
-    Ok(true)
-}
-
-// Appends the words that the shaders of a record take, which begins at an offset of the records, in the same way.
-fn push_streams(
-    alloc: Global,
-    out: &mut Vec<Cut>,
-    of: Uniforms<'_>,
-    record: usize,
-    start: usize,
-    words: &mut usize,
-) -> Result<bool, AllocError> {
-    let mut at = start;
-    for stage in STAGES {
-        let Some(info) = used_shader(of, at) else {
-            return Ok(false);
-        };
-        if !push_stream(alloc, out, of, (record, stage, info), words)? {
+impl Pieces {
+    // Appends the words that a shader of a record takes, and says whether all of them are there.
+    fn push_stream(
+        &mut self,
+        alloc: Global,
+        job: Job,
+        user: (usize, Stage),
+        info: &ShaderInfo,
+    ) -> Result<bool, AllocError> {
+        let at = job.uniforms.len().saturating_sub(self.left);
+        let stream = part_at(job.uniforms, at, self.left);
+        let total = info.samples.len().saturating_add(info.uniforms as usize);
+        if stream.len() / 4 < total {
             return Ok(false);
         }
-        at = at.saturating_add(4);
-    }
-    Ok(true)
-}
-
-/// Appends the pieces of a job's uniforms, by the shaders of the records that begin at these offsets. Behind a shader that isn't known they
-/// are numbers alone.
-pub(crate) fn push_uniforms(
-    alloc: Global,
-    out: &mut Vec<Cut>,
-    job: u32,
-    starts: &[usize],
-    handles: &[u8],
-    records: &[u8],
-    uniforms: &[u8],
-    shaders: &[Option<ShaderInfo>],
-) -> Result<(), AllocError> {
-    let of = Uniforms {
-        job,
-        handles,
-        records,
-        uniforms,
-        shaders,
-    };
-    let mut words = 0;
-    for record in 0..starts.len() {
-        if !push_streams(alloc, out, of, record, starts[record], &mut words)? {
-            break;
+        let mut number = at / 4;
+        for meaning in &meanings_of(alloc, job, info, stream)? {
+            self.push(4, Note::Taken(job.number, number, user.0, user.1, *meaning))?;
+            number = number.saturating_add(1);
         }
+        Ok(true)
     }
-    let left = uniforms.len().saturating_sub(words.saturating_mul(4));
-    push_chunks(out, 4, left, Note::Uniform(job, words))
+
+    // Appends the words that the shaders of a record take, which begins at an offset of the records, in the same way.
+    fn push_streams(
+        &mut self,
+        alloc: Global,
+        job: Job,
+        shaders: &[Option<ShaderInfo>],
+        record: (usize, usize),
+    ) -> Result<bool, AllocError> {
+        let (record, mut at) = record;
+        for stage in STAGES {
+            let Some(info) = used_shader(job, shaders, at) else {
+                return Ok(false);
+            };
+            if !self.push_stream(alloc, job, (record, stage), info)? {
+                return Ok(false);
+            }
+            at = at.saturating_add(4);
+        }
+        Ok(true)
+    }
+
+    /// Appends a job's uniforms, by the shaders of the records that begin at these offsets. Behind a shader that isn't known they are
+    /// numbers alone.
+    pub fn push_uniforms(
+        &mut self,
+        alloc: Global,
+        job: Job,
+        shaders: &[Option<ShaderInfo>],
+        starts: &[usize],
+    ) -> Result<(), AllocError> {
+        self.left = job.uniforms.len();
+        for record in 0..starts.len() {
+            if !self.push_streams(alloc, job, shaders, (record, starts[record]))? {
+                break;
+            }
+        }
+        let taken = job.uniforms.len().saturating_sub(self.left) / 4;
+        self.push_all(4, Note::Uniform(job.number, taken))
+    }
 }

@@ -9,7 +9,7 @@ use Rattle.field_words.specs.{declared.access.Access.Access, declared.access.Act
 use Rattle.relocation.specs.declared.layout.Layout.{Layout}
 use Rattle.replay.specs.declared.logged.Logged.{Logged}
 use Rattle.pictures.specs.Grid.{overlaps}
-use Rattle.run_text.specs.declared.spot.Spot.TheVariants.{Slot, BinList, Records, Uniforms, RenderList, Spare, InBuffer, Nowhere}
+use Rattle.run_text.specs.declared.spot.Spot.TheVariants.{Slot, InBuffer, Nowhere}
 use Rattle.run_text.specs.{declared.spot.Spot.Spot as TheSpot, Spot.spot_of}
 
 abbrev pub is_way : Way → Way → Bool
@@ -40,13 +40,9 @@ kind_column Code = 3
 
 abbrev pub column_of : List Buffer → TheSpot → ℕ
 column_of buffers (Slot slot offset) = 0
-column_of buffers (BinList job offset) = 1
-column_of buffers (Records job offset) = 1
-column_of buffers (Uniforms job offset) = 1
-column_of buffers (RenderList job offset) = 1
-column_of buffers Spare = 1
 column_of buffers (InBuffer number offset) = kind_column (buffer_at buffers number).kind
 column_of buffers Nowhere = 4
+column_of buffers spot = 1
 
 -- the number of an access's cell: five columns a row, of which the last is of places in no region
 unfoldable pub cell_of : Regions → List Buffer → List Layout → Access → ℕ

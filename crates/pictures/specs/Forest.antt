@@ -13,11 +13,6 @@ pub data Forest : Type 0 where
   Element : List ℕ → List Attribute → Forest → Forest
   Beside : Forest → Forest → Forest
 
--- these, one after the other
-abbrev pub all_of : List Forest → Forest
-all_of [] = Nothing
-all_of (forest ∷ forests) = Beside forest (all_of forests)
-
 -- the four bytes that have a meaning in a text's elements and attributes have names there
 abbrev pub escape : ℕ → List ℕ
 escape byte =

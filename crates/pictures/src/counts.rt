@@ -128,13 +128,9 @@ fn column_of(buffers: &[Buffer], spot: Spot) -> u64
 {
     match spot {
         Spot::Slot(_, _) => 0,
-        Spot::BinList(_, _)
-        | Spot::Records(_, _)
-        | Spot::Uniforms(_, _)
-        | Spot::RenderList(_, _)
-        | Spot::Spare => 1,
         Spot::InBuffer(number, _) => buffer_column(buffers, number),
         Spot::Nowhere => 4,
+        _ => 1,
     }
 }
 

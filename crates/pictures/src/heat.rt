@@ -1,13 +1,12 @@
 //! The heat of a run.
-ghost use Rattle.std.specs.Prelude.{◌≡◌, ◌≤◌, ◌<◌, ◌^◌, ◌++◌, length, OnOk, IfOk};
-ghost use Rattle.std.specs.Fmt.{decimal};
+ghost use Rattle.std.specs.Prelude.{◌≡◌, ◌≤◌, ◌<◌, ◌^◌, ◌++◌, length, OnOk};
 ghost use Rattle.pictures.specs.Forest.{forest_text};
 ghost use Rattle.pictures.specs.Parts.{each};
 ghost use Rattle.pictures.specs.Heat.{heat_part, heat_at, ground, heat_strip, tone_part, tone_parts, heat_legend, heat};
 
-use crate::parts::{push_label, push_rect};
-use crate::svg::{begin, end_leaf, numbered, worded};
-use std::alloc::{AllocError, Global};
+use crate::parts::{decimal, push_label, push_rect};
+use crate::svg::{Drawn, begin, end_leaf, numbered, worded};
+use std::alloc::Global;
 
 /// The row of the drawing at which the two strips begin.
 pub(crate) const TOP: u64 = 712;
@@ -15,22 +14,8 @@ pub(crate) const TOP: u64 = 712;
 /// How many tones there are.
 const TONES: u64 = 7;
 
-/// A number as words.
-pub(crate) fn decimal(alloc: Global, number: u64) -> Result<Vec<u8>, AllocError>
-    ensures { IfOk result (λ words. words.items ≡ decimal number) }
-{
-    Ok(format!(in alloc; "{number}")?.into_bytes())
-}
-
 #[tactic(auto, unfolding(crate::specs::Heat::heat_part))]
-fn push_heat(
-    alloc: Global,
-    out: &mut Vec<u8>,
-    class: &str,
-    x: u64,
-    n: u64,
-    count: u64,
-) -> Result<(), AllocError>
+fn push_heat(alloc: Global, out: &mut Vec<u8>, class: &str, x: u64, n: u64, count: u64) -> Drawn
     requires left { x < 2 ^ 32 }
     requires few { n < 2 ^ 32 }
     ensures { OnOk result (out.new.items ≡ out.old.items ++ forest_text (heat_part class.now x n count)) }
@@ -51,13 +36,7 @@ fn push_heat(
 }
 
 #[tactic(auto, using(crate::proofs::Each::each_more))]
-fn push_heats(
-    alloc: Global,
-    out: &mut Vec<u8>,
-    class: &str,
-    x: u64,
-    counts: &[u64],
-) -> Result<(), AllocError>
+fn push_heats(alloc: Global, out: &mut Vec<u8>, class: &str, x: u64, counts: &[u64]) -> Drawn
     requires left { x < 2 ^ 32 }
     requires few { length counts.now < 2 ^ 32 }
     ensures { OnOk result (out.new.items ≡ out.old.items ++ forest_text (each (heat_at class.now x counts.now) (length counts.now))) }
@@ -69,7 +48,7 @@ fn push_heats(
 }
 
 #[tactic(auto, unfolding(crate::specs::Heat::ground))]
-fn push_ground(out: &mut Vec<u8>, x: u64) -> Result<(), AllocError>
+fn push_ground(out: &mut Vec<u8>, x: u64) -> Drawn
     requires { 96 ≤ x }
     ensures { OnOk result (out.new.items ≡ out.old.items ++ forest_text (ground x)) }
 {
@@ -89,7 +68,7 @@ fn push_strip(
     title: &str,
     x: u64,
     counts: &[u64],
-) -> Result<(), AllocError>
+) -> Drawn
     requires right { 96 ≤ x }
     requires left { x < 2 ^ 32 }
     requires few { length counts.now < 2 ^ 32 }
@@ -101,7 +80,7 @@ fn push_strip(
 }
 
 #[tactic(auto, unfolding(crate::specs::Heat::tone_part))]
-fn push_tone(alloc: Global, out: &mut Vec<u8>, n: u64) -> Result<(), AllocError>
+fn push_tone(alloc: Global, out: &mut Vec<u8>, n: u64) -> Drawn
     requires { n < 7 }
     ensures { OnOk result (out.new.items ≡ out.old.items ++ forest_text (tone_part n)) }
 {
@@ -115,7 +94,7 @@ fn push_tone(alloc: Global, out: &mut Vec<u8>, n: u64) -> Result<(), AllocError>
 }
 
 #[tactic(auto, unfolding(crate::specs::Heat::tone_parts), using(crate::proofs::Each::each_more))]
-fn push_tones(alloc: Global, out: &mut Vec<u8>) -> Result<(), AllocError>
+fn push_tones(alloc: Global, out: &mut Vec<u8>) -> Drawn
     ensures { OnOk result (out.new.items ≡ out.old.items ++ forest_text tone_parts) }
 {
     for n in 0..TONES {
@@ -125,7 +104,7 @@ fn push_tones(alloc: Global, out: &mut Vec<u8>) -> Result<(), AllocError>
 }
 
 #[tactic(auto, unfolding(crate::specs::Heat::heat_legend))]
-fn push_legend(alloc: Global, out: &mut Vec<u8>) -> Result<(), AllocError>
+fn push_legend(alloc: Global, out: &mut Vec<u8>) -> Drawn
     ensures { OnOk result (out.new.items ≡ out.old.items ++ forest_text heat_legend) }
 {
     push_label(out, 724, TOP - 12, "note", b"accesses of a box, from")?;
@@ -139,7 +118,7 @@ pub(crate) fn push_heat_strips(
     out: &mut Vec<u8>,
     reads: &[u64],
     writes: &[u64],
-) -> Result<(), AllocError>
+) -> Drawn
     requires reads { length reads.now < 2 ^ 32 }
     requires writes { length writes.now < 2 ^ 32 }
     ensures { OnOk result (out.new.items ≡ out.old.items ++ forest_text (heat reads.now writes.now)) }

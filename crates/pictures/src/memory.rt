@@ -2,15 +2,14 @@
 ghost use Rattle.std.specs.Prelude.{◌≡◌, ◌≤◌, ◌<◌, ◌^◌, ◌+◌, ◌++◌, length, codes, OnOk, IfOk};
 ghost use Rattle.pictures.specs.Forest.{forest_text};
 ghost use Rattle.pictures.specs.Parts.{each};
-ghost use Rattle.std.specs.Fmt.{decimal};
 ghost use Rattle.pictures.specs.Memory.{box_part, strip, place_part, places, head, entry, tones, legend_regions, legend_data, legend_code, legend_rest, legend, kind_words, buffer_line, row_part, table_head, rest, table, memory_parts, memory_picture};
 
 use crate::grid::{box_count, box_size, shade_in, shade_of};
-use crate::parts::{begin_drawing, end_drawing, hex, push_class, push_label, push_rect};
-use crate::svg::{begin, close, end_tag, worded};
+use crate::parts::{begin_drawing, decimal, end_drawing, hex, push_class, push_label, push_rect};
+use crate::svg::{Drawn, begin, close, end_tag, worded};
 use buffer_table::{Buffer, Kind, Regions};
 use field_words::NoMemory;
-use std::alloc::{AllocError, Global};
+use std::alloc::Global;
 
 /// The most buffers that are listed.
 const MOST_ROWS: usize = 12;
@@ -19,13 +18,7 @@ const MOST_ROWS: usize = 12;
 const PICTURE: usize = 65_536;
 
 #[tactic(auto, unfolding(crate::specs::Memory::box_part))]
-fn push_box(
-    out: &mut Vec<u8>,
-    memory: u32,
-    regions: &Regions,
-    buffers: &[Buffer],
-    n: u64,
-) -> Result<(), AllocError>
+fn push_box(out: &mut Vec<u8>, memory: u32, regions: &Regions, buffers: &[Buffer], n: u64) -> Drawn
     requires { n < 2 ^ 32 }
     ensures { OnOk result (out.new.items ≡ out.old.items ++ forest_text (box_part memory regions.now buffers.now n)) }
 {
@@ -41,7 +34,7 @@ fn push_boxes(
     regions: &Regions,
     buffers: &[Buffer],
     count: u64,
-) -> Result<(), AllocError>
+) -> Drawn
     requires { count < 2 ^ 32 }
     ensures { OnOk result (out.new.items ≡ out.old.items ++ forest_text (each (box_part memory regions.now buffers.now) count)) }
 {
@@ -53,12 +46,7 @@ fn push_boxes(
 
 /// Appends the strip of boxes.
 #[tactic(auto, unfolding(crate::specs::Memory::strip))]
-fn push_strip(
-    out: &mut Vec<u8>,
-    memory: u32,
-    regions: &Regions,
-    buffers: &[Buffer],
-) -> Result<(), AllocError>
+fn push_strip(out: &mut Vec<u8>, memory: u32, regions: &Regions, buffers: &[Buffer]) -> Drawn
     ensures { OnOk result (out.new.items ≡ out.old.items ++ forest_text (strip memory regions.now buffers.now)) }
 {
     begin(out, "g")?;
@@ -69,13 +57,7 @@ fn push_strip(
 }
 
 #[tactic(auto, unfolding(crate::specs::Memory::place_part))]
-fn push_place(
-    alloc: Global,
-    out: &mut Vec<u8>,
-    y: u64,
-    memory: u32,
-    n: u64,
-) -> Result<(), AllocError>
+fn push_place(alloc: Global, out: &mut Vec<u8>, y: u64, memory: u32, n: u64) -> Drawn
     requires above { y < 2 ^ 32 }
     requires few { n < 67108864 }
     ensures { OnOk result (out.new.items ≡ out.old.items ++ forest_text (place_part y memory n)) }
@@ -86,7 +68,7 @@ fn push_place(
 
 /// Appends the places of the first bytes of every fourth row, for a strip that begins at this row of the drawing.
 #[tactic(auto, using(crate::proofs::Each::each_more))]
-pub fn push_places(alloc: Global, out: &mut Vec<u8>, y: u64, memory: u32) -> Result<(), AllocError>
+pub fn push_places(alloc: Global, out: &mut Vec<u8>, y: u64, memory: u32) -> Drawn
     requires { y < 2 ^ 32 }
     ensures { OnOk result (out.new.items ≡ out.old.items ++ forest_text (places y memory)) }
 {
@@ -98,7 +80,7 @@ pub fn push_places(alloc: Global, out: &mut Vec<u8>, y: u64, memory: u32) -> Res
 }
 
 #[tactic(auto, unfolding(crate::specs::Memory::head))]
-fn push_head(alloc: Global, out: &mut Vec<u8>, memory: u64, size: u64) -> Result<(), AllocError>
+fn push_head(alloc: Global, out: &mut Vec<u8>, memory: u64, size: u64) -> Drawn
     ensures { OnOk result (out.new.items ≡ out.old.items ++ forest_text (head memory size)) }
 {
     push_label(out, 96, 32, "head", b"Memory of the jobs")?;
@@ -109,7 +91,7 @@ fn push_head(alloc: Global, out: &mut Vec<u8>, memory: u64, size: u64) -> Result
 }
 
 #[tactic(auto, unfolding(crate::specs::Memory::entry))]
-fn push_entry(out: &mut Vec<u8>, y: u64, class: &str, words: &str) -> Result<(), AllocError>
+fn push_entry(out: &mut Vec<u8>, y: u64, class: &str, words: &str) -> Drawn
     requires { y < 2 ^ 32 }
     ensures { OnOk result (out.new.items ≡ out.old.items ++ forest_text (entry y class.now words.now)) }
 {
@@ -118,13 +100,7 @@ fn push_entry(out: &mut Vec<u8>, y: u64, class: &str, words: &str) -> Result<(),
 }
 
 #[tactic(auto, unfolding(crate::specs::Memory::tones))]
-fn push_tones(
-    out: &mut Vec<u8>,
-    y: u64,
-    first: &str,
-    second: &str,
-    third: &str,
-) -> Result<(), AllocError>
+fn push_tones(out: &mut Vec<u8>, y: u64, first: &str, second: &str, third: &str) -> Drawn
     ensures { OnOk result (out.new.items ≡ out.old.items ++ forest_text (tones y first.now second.now third.now)) }
 {
     push_rect(out, 442, y, 18, 12, first)?;
@@ -133,7 +109,7 @@ fn push_tones(
 }
 
 #[tactic(auto, unfolding(crate::specs::Memory::legend_regions))]
-fn push_legend_regions(out: &mut Vec<u8>) -> Result<(), AllocError>
+fn push_legend_regions(out: &mut Vec<u8>) -> Drawn
     ensures { OnOk result (out.new.items ≡ out.old.items ++ forest_text legend_regions) }
 {
     push_entry(out, 72, "slots", "tile slots")?;
@@ -141,7 +117,7 @@ fn push_legend_regions(out: &mut Vec<u8>) -> Result<(), AllocError>
 }
 
 #[tactic(auto, unfolding(crate::specs::Memory::legend_rest))]
-fn push_legend_rest(out: &mut Vec<u8>) -> Result<(), AllocError>
+fn push_legend_rest(out: &mut Vec<u8>) -> Drawn
     ensures { OnOk result (out.new.items ≡ out.old.items ++ forest_text legend_rest) }
 {
     push_entry(out, 152, "several", "more than one of these")?;
@@ -149,7 +125,7 @@ fn push_legend_rest(out: &mut Vec<u8>) -> Result<(), AllocError>
 }
 
 #[tactic(auto, unfolding(crate::specs::Memory::legend_data))]
-fn push_legend_data(out: &mut Vec<u8>) -> Result<(), AllocError>
+fn push_legend_data(out: &mut Vec<u8>) -> Drawn
     ensures { OnOk result (out.new.items ≡ out.old.items ++ forest_text legend_data) }
 {
     push_entry(
@@ -162,7 +138,7 @@ fn push_legend_data(out: &mut Vec<u8>) -> Result<(), AllocError>
 }
 
 #[tactic(auto, unfolding(crate::specs::Memory::legend_code))]
-fn push_legend_code(out: &mut Vec<u8>) -> Result<(), AllocError>
+fn push_legend_code(out: &mut Vec<u8>) -> Drawn
     ensures { OnOk result (out.new.items ≡ out.old.items ++ forest_text legend_code) }
 {
     push_entry(out, 132, "code0", "buffer of code, in the same way")?;
@@ -170,7 +146,7 @@ fn push_legend_code(out: &mut Vec<u8>) -> Result<(), AllocError>
 }
 
 #[tactic(auto, unfolding(crate::specs::Memory::legend))]
-fn push_legend(out: &mut Vec<u8>) -> Result<(), AllocError>
+fn push_legend(out: &mut Vec<u8>) -> Drawn
     ensures { OnOk result (out.new.items ≡ out.old.items ++ forest_text legend) }
 {
     push_legend_regions(out)?;
@@ -188,21 +164,8 @@ fn kind_words(kind: Kind) -> &'static [u8]
     }
 }
 
-// A number as words.
-fn decimal(alloc: Global, number: u64) -> Result<Vec<u8>, AllocError>
-    ensures { IfOk result (λ words. words.items ≡ decimal number) }
-{
-    Ok(format!(in alloc; "{number}")?.into_bytes())
-}
-
 #[tactic(auto, unfolding(crate::specs::Memory::buffer_line))]
-fn push_buffer(
-    alloc: Global,
-    out: &mut Vec<u8>,
-    number: u64,
-    y: u64,
-    buffer: &Buffer,
-) -> Result<(), AllocError>
+fn push_buffer(alloc: Global, out: &mut Vec<u8>, number: u64, y: u64, buffer: &Buffer) -> Drawn
     requires { 11 ≤ y }
     ensures { OnOk result (out.new.items ≡ out.old.items ++ forest_text (buffer_line number y buffer.now)) }
 {
@@ -222,12 +185,7 @@ fn push_buffer(
 
 // The line of the buffer of this number.
 #[tactic(auto, unfolding(crate::specs::Memory::row_part, buffer_table::specs::Table::buffer_at))]
-fn push_row(
-    alloc: Global,
-    out: &mut Vec<u8>,
-    buffers: &[Buffer],
-    n: usize,
-) -> Result<(), AllocError>
+fn push_row(alloc: Global, out: &mut Vec<u8>, buffers: &[Buffer], n: usize) -> Drawn
     requires there { n < length buffers.now }
     requires few { n < 12 }
     ensures { OnOk result (out.new.items ≡ out.old.items ++ forest_text (row_part buffers.now n)) }
@@ -236,12 +194,7 @@ fn push_row(
 }
 
 #[tactic(auto, using(crate::proofs::Each::each_more))]
-fn push_rows(
-    alloc: Global,
-    out: &mut Vec<u8>,
-    buffers: &[Buffer],
-    count: usize,
-) -> Result<(), AllocError>
+fn push_rows(alloc: Global, out: &mut Vec<u8>, buffers: &[Buffer], count: usize) -> Drawn
     requires some { count ≤ length buffers.now }
     requires few { count ≤ 12 }
     ensures { OnOk result (out.new.items ≡ out.old.items ++ forest_text (each (row_part buffers.now) count)) }
@@ -253,7 +206,7 @@ fn push_rows(
 }
 
 #[tactic(auto, unfolding(crate::specs::Memory::table_head))]
-fn push_table_head(out: &mut Vec<u8>) -> Result<(), AllocError>
+fn push_table_head(out: &mut Vec<u8>) -> Drawn
     ensures { OnOk result (out.new.items ≡ out.old.items ++ forest_text table_head) }
 {
     push_label(out, 490, 230, "end", b"buffer")?;
@@ -263,7 +216,7 @@ fn push_table_head(out: &mut Vec<u8>) -> Result<(), AllocError>
     push_label(out, 870, 230, "end", b"bytes")
 }
 
-fn push_rest(alloc: Global, out: &mut Vec<u8>, count: usize) -> Result<(), AllocError>
+fn push_rest(alloc: Global, out: &mut Vec<u8>, count: usize) -> Drawn
     ensures { OnOk result (out.new.items ≡ out.old.items ++ forest_text (rest count)) }
 {
     if count <= MOST_ROWS {
@@ -275,7 +228,7 @@ fn push_rest(alloc: Global, out: &mut Vec<u8>, count: usize) -> Result<(), Alloc
 }
 
 #[tactic(auto, unfolding(crate::specs::Memory::table))]
-fn push_table(alloc: Global, out: &mut Vec<u8>, buffers: &[Buffer]) -> Result<(), AllocError>
+fn push_table(alloc: Global, out: &mut Vec<u8>, buffers: &[Buffer]) -> Drawn
     ensures { OnOk result (out.new.items ≡ out.old.items ++ forest_text (table buffers.now)) }
 {
     push_table_head(out)?;
@@ -291,7 +244,7 @@ pub fn push_memory(
     memory: u32,
     regions: &Regions,
     buffers: &[Buffer],
-) -> Result<(), AllocError>
+) -> Drawn
     ensures { OnOk result (out.new.items ≡ out.old.items ++ forest_text (memory_parts memory regions.now buffers.now)) }
 {
     push_head(alloc, out, u64::from(memory), box_size(memory))?;

@@ -1,11 +1,14 @@
 //! Parts of a drawing.
 ghost use Rattle.std.specs.Prelude.{◌≡◌, ◌++◌, [], codes, OnOk, IfOk};
+ghost use Rattle.std.specs.Fmt.{decimal};
 ghost use Rattle.pictures.specs.Forest.{forest_text, attributes_text};
 ghost use Rattle.pictures.specs.Parts.{rect, label, hex, told, root_attributes, opening};
 ghost use Rattle.pictures.specs.Grid.{class_of};
 
 use crate::grid::Shade;
-use crate::svg::{begin, close, end_leaf, end_tag, numbered, push_number, push_words, worded};
+use crate::svg::{
+    Drawn, begin, close, end_leaf, end_tag, numbered, push_number, push_words, worded,
+};
 use std::alloc::{AllocError, Global};
 
 /// What the elements' classes look like. The heat's seven tones are for reads and for writes.
@@ -50,14 +53,7 @@ text{fill:#222}
 const NAMESPACE: &str = "http://www.w3.org/2000/svg";
 
 /// Appends a box of this class.
-pub fn push_rect(
-    out: &mut Vec<u8>,
-    x: u64,
-    y: u64,
-    width: u64,
-    height: u64,
-    class: &str,
-) -> Result<(), AllocError>
+pub fn push_rect(out: &mut Vec<u8>, x: u64, y: u64, width: u64, height: u64, class: &str) -> Drawn
     ensures { OnOk result (out.new.items ≡ out.old.items ++ forest_text (rect x y width height class.now)) }
 {
     begin(out, "rect")?;
@@ -70,27 +66,14 @@ pub fn push_rect(
 }
 
 /// Appends a box of this shade.
-pub fn push_class(
-    out: &mut Vec<u8>,
-    x: u64,
-    y: u64,
-    width: u64,
-    height: u64,
-    shade: Shade,
-) -> Result<(), AllocError>
+pub fn push_class(out: &mut Vec<u8>, x: u64, y: u64, width: u64, height: u64, shade: Shade) -> Drawn
     ensures { OnOk result (out.new.items ≡ out.old.items ++ forest_text (rect x y width height (class_of shade))) }
 {
     push_rect(out, x, y, width, height, shade.class())
 }
 
 /// Appends words at a place, in this class.
-pub fn push_label(
-    out: &mut Vec<u8>,
-    x: u64,
-    y: u64,
-    class: &str,
-    words: &[u8],
-) -> Result<(), AllocError>
+pub fn push_label(out: &mut Vec<u8>, x: u64, y: u64, class: &str, words: &[u8]) -> Drawn
     ensures { OnOk result (out.new.items ≡ out.old.items ++ forest_text (label x y class.now words.now)) }
 {
     begin(out, "text")?;
@@ -102,6 +85,13 @@ pub fn push_label(
     close(out, "text")
 }
 
+/// A number as words.
+pub(crate) fn decimal(alloc: Global, number: u64) -> Result<Vec<u8>, AllocError>
+    ensures { IfOk result (λ words. words.items ≡ decimal number) }
+{
+    Ok(format!(in alloc; "{number}")?.into_bytes())
+}
+
 /// A number in hexadecimal: `0x1a0`.
 #[tactic(auto, unfolding(crate::specs::Parts::hex))]
 pub(crate) fn hex(alloc: Global, number: u64) -> Result<Vec<u8>, AllocError>
@@ -111,7 +101,7 @@ pub(crate) fn hex(alloc: Global, number: u64) -> Result<Vec<u8>, AllocError>
 }
 
 // An element without attributes that has words in it.
-fn push_told(out: &mut Vec<u8>, name: &str, words: &str) -> Result<(), AllocError>
+fn push_told(out: &mut Vec<u8>, name: &str, words: &str) -> Drawn
     ensures { OnOk result (out.new.items ≡ out.old.items ++ forest_text (told name.now words.now)) }
 {
     begin(out, name)?;
@@ -121,7 +111,7 @@ fn push_told(out: &mut Vec<u8>, name: &str, words: &str) -> Result<(), AllocErro
 }
 
 // The root's attributes.
-fn push_root(alloc: Global, out: &mut Vec<u8>, height: u64) -> Result<(), AllocError>
+fn push_root(alloc: Global, out: &mut Vec<u8>, height: u64) -> Drawn
     ensures { OnOk result (out.new.items ≡ out.old.items ++ attributes_text (root_attributes height)) }
 {
     let view = format!(in alloc; "0 0 960 {height}")?;
@@ -132,12 +122,7 @@ fn push_root(alloc: Global, out: &mut Vec<u8>, height: u64) -> Result<(), AllocE
 }
 
 /// Begins a drawing of 960 columns and so many rows.
-pub fn begin_drawing(
-    alloc: Global,
-    out: &mut Vec<u8>,
-    height: u64,
-    title: &str,
-) -> Result<(), AllocError>
+pub fn begin_drawing(alloc: Global, out: &mut Vec<u8>, height: u64, title: &str) -> Drawn
     ensures { OnOk result (out.new.items ≡ out.old.items ++ opening height title.now) }
 {
     begin(out, "svg")?;
@@ -149,7 +134,7 @@ pub fn begin_drawing(
 }
 
 /// Ends a drawing.
-pub fn end_drawing(out: &mut Vec<u8>) -> Result<(), AllocError>
+pub fn end_drawing(out: &mut Vec<u8>) -> Drawn
     ensures { OnOk result (out.new.items ≡ out.old.items ++ (codes "</" ++ (codes "svg" ++ codes ">\n"))) }
 {
     close(out, "svg")

@@ -6,15 +6,16 @@ ghost use Rattle.pictures.specs.Run.{run_numbers, run_head, run_table, run_heat,
 
 use crate::counts::{box_counts, cell_counts};
 use crate::grid::{box_count, box_size};
-use crate::heat::{TOP, decimal, push_heat_strips};
+use crate::heat::{TOP, push_heat_strips};
 use crate::memory::{push_memory, push_places};
-use crate::parts::{begin_drawing, end_drawing, push_label};
+use crate::parts::{begin_drawing, decimal, end_drawing, push_label};
+use crate::svg::Drawn;
 use crate::table::push_table;
 use buffer_table::{Buffer, Regions};
 use field_words::{NoMemory, Way};
 use relocation::Layout;
 use replay::{Ending, Log};
-use std::alloc::{AllocError, Global};
+use std::alloc::Global;
 
 /// Room for most pictures.
 const PICTURE: usize = 131_072;
@@ -30,7 +31,7 @@ fn ending_name(ending: Ending) -> &'static [u8]
 }
 
 #[tactic(auto, unfolding(crate::specs::Run::run_numbers))]
-fn push_numbers(alloc: Global, out: &mut Vec<u8>, log: &Log) -> Result<(), AllocError>
+fn push_numbers(alloc: Global, out: &mut Vec<u8>, log: &Log) -> Drawn
     ensures { OnOk result (out.new.items ≡ out.old.items ++ forest_text (run_numbers log.now)) }
 {
     push_label(out, 96, 538, "note", b"steps:")?;
@@ -46,7 +47,7 @@ fn push_numbers(alloc: Global, out: &mut Vec<u8>, log: &Log) -> Result<(), Alloc
 }
 
 #[tactic(auto, unfolding(crate::specs::Run::run_head))]
-fn push_head(alloc: Global, out: &mut Vec<u8>, log: &Log) -> Result<(), AllocError>
+fn push_head(alloc: Global, out: &mut Vec<u8>, log: &Log) -> Drawn
     ensures { OnOk result (out.new.items ≡ out.old.items ++ forest_text (run_head log.now)) }
 {
     push_label(out, 96, 514, "head", b"Accesses of a run")?;
@@ -63,7 +64,7 @@ fn push_run_table(
     buffers: &[Buffer],
     layouts: &[Layout],
     log: &Log,
-) -> Result<(), AllocError>
+) -> Drawn
     ensures { OnOk result (out.new.items ≡ out.old.items ++ forest_text (run_table regions.now buffers.now layouts.now log.now)) }
 {
     let accesses = &log.accesses;
@@ -74,7 +75,7 @@ fn push_run_table(
 
 // The heat over the whole run.
 #[tactic(auto, unfolding(crate::specs::Run::run_heat))]
-fn push_run_heat(alloc: Global, out: &mut Vec<u8>, memory: u32, log: &Log) -> Result<(), AllocError>
+fn push_run_heat(alloc: Global, out: &mut Vec<u8>, memory: u32, log: &Log) -> Drawn
     ensures { OnOk result (out.new.items ≡ out.old.items ++ forest_text (run_heat memory log.now)) }
 {
     let size = box_size(memory);
@@ -101,7 +102,7 @@ fn push_parts(
     buffers: &[Buffer],
     layouts: &[Layout],
     log: &Log,
-) -> Result<(), AllocError>
+) -> Drawn
     ensures { OnOk result (out.new.items ≡ out.old.items ++ forest_text (run_parts memory regions.now buffers.now layouts.now log.now)) }
 {
     push_memory(alloc, out, memory, regions, buffers)?;

@@ -8,8 +8,11 @@ ghost use Rattle.pictures.specs.Forest.{escape, escaped, worded, numbered, attri
 use itoa::Buffer;
 use std::alloc::AllocError;
 
+/// What came of drawing: nothing but want of memory is in its way.
+pub(crate) type Drawn = Result<(), AllocError>;
+
 // A byte, or its name where it has a meaning.
-fn push_escape(out: &mut Vec<u8>, byte: u8) -> Result<(), AllocError>
+fn push_escape(out: &mut Vec<u8>, byte: u8) -> Drawn
     ensures { OnOk result (out.new.items ≡ out.old.items ++ escape byte) }
 {
     match byte {
@@ -23,7 +26,7 @@ fn push_escape(out: &mut Vec<u8>, byte: u8) -> Result<(), AllocError>
 
 /// Appends words, with escapes.
 #[tactic(auto, unfolding(crate::specs::Forest::escaped))]
-pub fn push_words(out: &mut Vec<u8>, words: &[u8]) -> Result<(), AllocError>
+pub fn push_words(out: &mut Vec<u8>, words: &[u8]) -> Drawn
     ensures { OnOk result (out.new.items ≡ out.old.items ++ escaped words.now) }
 {
     for byte in words {
@@ -33,7 +36,7 @@ pub fn push_words(out: &mut Vec<u8>, words: &[u8]) -> Result<(), AllocError>
 }
 
 /// Appends a number as words.
-pub fn push_number(out: &mut Vec<u8>, number: u64) -> Result<(), AllocError>
+pub fn push_number(out: &mut Vec<u8>, number: u64) -> Drawn
     ensures { OnOk result (out.new.items ≡ out.old.items ++ escaped (decimal number)) }
 {
     let mut buffer = Buffer::new();
@@ -41,7 +44,7 @@ pub fn push_number(out: &mut Vec<u8>, number: u64) -> Result<(), AllocError>
 }
 
 /// Begins an element.
-pub fn begin(out: &mut Vec<u8>, name: &str) -> Result<(), AllocError>
+pub fn begin(out: &mut Vec<u8>, name: &str) -> Drawn
     ensures { OnOk result (out.new.items ≡ out.old.items ++ (codes "<" ++ name.now)) }
 {
     out.extend_from_slice(b"<")?;
@@ -50,7 +53,7 @@ pub fn begin(out: &mut Vec<u8>, name: &str) -> Result<(), AllocError>
 
 /// An attribute of the element that was begun, whose value is words.
 #[tactic(auto, unfolding(crate::specs::Forest::attribute_text))]
-pub fn worded(out: &mut Vec<u8>, name: &str, value: &str) -> Result<(), AllocError>
+pub fn worded(out: &mut Vec<u8>, name: &str, value: &str) -> Drawn
     ensures { OnOk result (out.new.items ≡ out.old.items ++ attribute_text (worded name.now value.now)) }
 {
     out.extend_from_slice(b" ")?;
@@ -62,7 +65,7 @@ pub fn worded(out: &mut Vec<u8>, name: &str, value: &str) -> Result<(), AllocErr
 
 /// An attribute of the element that was begun, whose value is a number.
 #[tactic(auto, unfolding(crate::specs::Forest::attribute_text))]
-pub fn numbered(out: &mut Vec<u8>, name: &str, number: u64) -> Result<(), AllocError>
+pub fn numbered(out: &mut Vec<u8>, name: &str, number: u64) -> Drawn
     ensures { OnOk result (out.new.items ≡ out.old.items ++ attribute_text (numbered name.now number)) }
 {
     out.extend_from_slice(b" ")?;
@@ -73,21 +76,21 @@ pub fn numbered(out: &mut Vec<u8>, name: &str, number: u64) -> Result<(), AllocE
 }
 
 /// Ends an element that has nothing in it.
-pub fn end_leaf(out: &mut Vec<u8>) -> Result<(), AllocError>
+pub fn end_leaf(out: &mut Vec<u8>) -> Drawn
     ensures { OnOk result (out.new.items ≡ out.old.items ++ codes "/>\n") }
 {
     out.extend_from_slice(b"/>\n")
 }
 
 /// Ends the attributes of an element that has things in it.
-pub fn end_tag(out: &mut Vec<u8>) -> Result<(), AllocError>
+pub fn end_tag(out: &mut Vec<u8>) -> Drawn
     ensures { OnOk result (out.new.items ≡ out.old.items ++ codes ">") }
 {
     out.extend_from_slice(b">")
 }
 
 /// Closes an element that has things in it.
-pub fn close(out: &mut Vec<u8>, name: &str) -> Result<(), AllocError>
+pub fn close(out: &mut Vec<u8>, name: &str) -> Drawn
     ensures { OnOk result (out.new.items ≡ out.old.items ++ (codes "</" ++ (name.now ++ codes ">\n"))) }
 {
     out.extend_from_slice(b"</")?;

@@ -4,12 +4,12 @@ ghost use Rattle.pictures.specs.Forest.{forest_text};
 ghost use Rattle.pictures.specs.Parts.{each};
 ghost use Rattle.pictures.specs.Table.{column_head, column_heads, row_name, cell_part, unit_part, unit_table};
 
-use crate::heat::decimal;
-use crate::parts::{push_label, push_rect};
-use std::alloc::{AllocError, Global};
+use crate::parts::{decimal, push_label, push_rect};
+use crate::svg::Drawn;
+use std::alloc::Global;
 
 #[tactic(auto, unfolding(crate::specs::Table::column_head))]
-fn push_column(out: &mut Vec<u8>, column: u64, class: &str, name: &str) -> Result<(), AllocError>
+fn push_column(out: &mut Vec<u8>, column: u64, class: &str, name: &str) -> Drawn
     requires { column < 4 }
     ensures { OnOk result (out.new.items ≡ out.old.items ++ forest_text (column_head column class.now name.now)) }
 {
@@ -20,7 +20,7 @@ fn push_column(out: &mut Vec<u8>, column: u64, class: &str, name: &str) -> Resul
 }
 
 #[tactic(auto, unfolding(crate::specs::Table::column_heads))]
-fn push_columns(out: &mut Vec<u8>) -> Result<(), AllocError>
+fn push_columns(out: &mut Vec<u8>) -> Drawn
     ensures { OnOk result (out.new.items ≡ out.old.items ++ forest_text column_heads) }
 {
     push_column(out, 0, "slots", "tile slots")?;
@@ -49,7 +49,7 @@ fn push_cell(
     writes: &[u64],
     row: u64,
     column: u64,
-) -> Result<(), AllocError>
+) -> Drawn
     requires reads { length reads.now ≡ 20 }
     requires writes { length writes.now ≡ 20 }
     requires row { row < 4 }
@@ -75,13 +75,7 @@ fn push_cell(
 }
 
 #[tactic(auto, using(crate::proofs::Each::each_more))]
-fn push_cells(
-    alloc: Global,
-    out: &mut Vec<u8>,
-    reads: &[u64],
-    writes: &[u64],
-    row: u64,
-) -> Result<(), AllocError>
+fn push_cells(alloc: Global, out: &mut Vec<u8>, reads: &[u64], writes: &[u64], row: u64) -> Drawn
     requires reads { length reads.now ≡ 20 }
     requires writes { length writes.now ≡ 20 }
     requires row { row < 4 }
@@ -94,13 +88,7 @@ fn push_cells(
 }
 
 #[tactic(auto, unfolding(crate::specs::Table::unit_part))]
-fn push_unit(
-    alloc: Global,
-    out: &mut Vec<u8>,
-    reads: &[u64],
-    writes: &[u64],
-    row: u64,
-) -> Result<(), AllocError>
+fn push_unit(alloc: Global, out: &mut Vec<u8>, reads: &[u64], writes: &[u64], row: u64) -> Drawn
     requires reads { length reads.now ≡ 20 }
     requires writes { length writes.now ≡ 20 }
     requires row { row < 4 }
@@ -111,12 +99,7 @@ fn push_unit(
 }
 
 #[tactic(auto, using(crate::proofs::Each::each_more))]
-fn push_units(
-    alloc: Global,
-    out: &mut Vec<u8>,
-    reads: &[u64],
-    writes: &[u64],
-) -> Result<(), AllocError>
+fn push_units(alloc: Global, out: &mut Vec<u8>, reads: &[u64], writes: &[u64]) -> Drawn
     requires reads { length reads.now ≡ 20 }
     requires writes { length writes.now ≡ 20 }
     ensures { OnOk result (out.new.items ≡ out.old.items ++ forest_text (each (unit_part reads.now writes.now) 4)) }
@@ -129,12 +112,7 @@ fn push_units(
 
 /// Appends the table, of so many reads and writes for each cell.
 #[tactic(auto, unfolding(crate::specs::Table::unit_table))]
-pub(crate) fn push_table(
-    alloc: Global,
-    out: &mut Vec<u8>,
-    reads: &[u64],
-    writes: &[u64],
-) -> Result<(), AllocError>
+pub(crate) fn push_table(alloc: Global, out: &mut Vec<u8>, reads: &[u64], writes: &[u64]) -> Drawn
     requires reads { length reads.now ≡ 20 }
     requires writes { length writes.now ≡ 20 }
     ensures { OnOk result (out.new.items ≡ out.old.items ++ forest_text (unit_table reads.now writes.now)) }

@@ -9,16 +9,7 @@ use Rattle.rule_words.specs.Names.{name_of, sentence_of}
 unfoldable pub is_one : Thing → Bool
 is_one File = true
 is_one Header = true
-is_one Entry = false
-is_one JobEntry = false
-is_one Surface = false
-is_one Contents = false
-is_one Shader = false
-is_one Handles = false
-is_one Handle = false
-is_one BinnerList = false
-is_one Records = false
-is_one Uniforms = false
+is_one thing = false
 
 -- the thing's name, before its number
 unfoldable pub thing_name : Thing → List ℕ
@@ -37,18 +28,10 @@ thing_name Uniforms = codes "uniforms of job"
 
 -- what is counted in it
 unfoldable pub unit_name : Thing → List ℕ
-unit_name File = codes "byte"
-unit_name Header = codes "byte"
-unit_name Entry = codes "byte"
-unit_name JobEntry = codes "byte"
 unit_name Surface = codes "surface"
-unit_name Contents = codes "byte"
 unit_name Shader = codes "instruction"
-unit_name Handles = codes "byte"
 unit_name Handle = codes "handle"
-unit_name BinnerList = codes "byte"
-unit_name Records = codes "byte"
-unit_name Uniforms = codes "byte"
+unit_name thing = codes "byte"
 
 -- A place: "shader of buffer 3, instruction 12", or "header, byte 8".
 unfoldable pub owner_text : Place → List ℕ

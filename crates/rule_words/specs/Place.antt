@@ -1,9 +1,10 @@
 -- Where the things of a job file begin and how many bytes they have; what it is for an offset to lie in one of them; and the one place that a
 -- refusal is told by.
-use Rattle.std.specs.Prelude.{ℕ, ◌≡◌, ◌+◌, ◌-◌, ◌*◌, ◌/◌, ◌%◌, ◌<◌, ◌≤◌, ◌⊎◌, ◌==◌, ◌&&◌, ◌||◌, not, Bool, false, nat_lt, nat_le, List, [], ◌∷◌, ◌++◌, codes, length, bytes_eq, Option, Some, None, Result, IfOk, IfErr, if◌then◌else◌}
+use Rattle.std.specs.Prelude.{ℕ, ◌≡◌, ◌+◌, ◌-◌, ◌*◌, ◌/◌, ◌%◌, ◌<◌, ◌≤◌, ◌⊎◌, ◌==◌, ◌&&◌, ◌||◌, not, Bool, false, nat_lt, nat_le, List, [], ◌∷◌, ◌++◌, length, Option, Some, None, Result, IfOk, IfErr, if◌then◌else◌}
 use Rattle.field_words.specs.Questions.{Question, Ask, each, first_of}
 use Rattle.job_format.specs.Offsets.{header_size, entry_size, job_size, buffer_count, job_count, job_word, content_size, entry_offset, job_offset, content_offset, handles_offset, bin_offset, records_offset, uniforms_offset}
-use Rattle.job_format.specs.{Rules.letter, declared.rule.Refusal.Refusal, declared.rule.Rule.Rule}
+use Rattle.job_format.specs.declared.rule.Stage.TheVariants.{S, H, B, A, G}
+use Rattle.job_format.specs.{declared.rule.Refusal.Refusal, declared.rule.Rule.Rule, declared.rule.Stage.Stage}
 use Rattle.rule_words.specs.declared.place.Thing.TheVariants.{File, Header, Entry, JobEntry, Surface, Contents, Shader, Handles, Handle, BinnerList, Records, Uniforms}
 use Rattle.rule_words.specs.{declared.place.Thing.Thing, declared.place.Place.Place}
 
@@ -41,18 +42,10 @@ IsBeforeEnd bytes Uniforms i offset = (i < job_count bytes) × (offset ≤ unifo
 
 -- how many bytes a person counts as one in a thing: those of an instruction, a handle, a surface, or a byte
 unfoldable pub unit_of : Thing → ℕ
-unit_of File = 1
-unit_of Header = 1
-unit_of Entry = 1
-unit_of JobEntry = 1
 unit_of Surface = 12
-unit_of Contents = 1
 unit_of Shader = 8
-unit_of Handles = 1
 unit_of Handle = 4
-unit_of BinnerList = 1
-unit_of Records = 1
-unit_of Uniforms = 1
+unit_of thing = 1
 
 -- A spot stands for an offset where the bytes from its thing's start come to it, and the thing doesn't end before. It counts bytes.
 abbrev pub IsSpot : List ℕ → ℕ → Place → Type 0
@@ -70,30 +63,19 @@ Covers bytes offset place =
 abbrev pub WalksTo : List ℕ → (offset end : ℕ) → Result Place ℕ → Type 0
 WalksTo bytes offset end walk = IfOk walk (λ place. IsSpot bytes offset place) × IfErr walk (λ left. end + left ≡ offset)
 
--- the rule is one of this letter
-abbrev pub is_lettered : Rule → List ℕ → Bool
-is_lettered rule name = bytes_eq (letter rule.stage) name
-
 -- The rules that are about the end of a part, one past its last byte: S2 and S26 of a shader, B18 and B19 of a binner list, A8 of uniforms,
 -- and the others of A of records.
-unfoldable pub may_be_end : Thing → Rule → Bool
-may_be_end File rule = false
-may_be_end Header rule = false
-may_be_end Entry rule = false
-may_be_end JobEntry rule = false
-may_be_end Surface rule = false
-may_be_end Contents rule = is_lettered rule (codes "S") && (rule.number == 2 || rule.number == 26)
-may_be_end Shader rule = false
-may_be_end Handles rule = false
-may_be_end Handle rule = false
-may_be_end BinnerList rule = is_lettered rule (codes "B") && (rule.number == 18 || rule.number == 19)
-may_be_end Records rule = is_lettered rule (codes "A") && not (rule.number == 8)
-may_be_end Uniforms rule = is_lettered rule (codes "A") && rule.number == 8
+unfoldable pub may_be_end : Thing → Stage → ℕ → Bool
+may_be_end Contents S number = number == 2 || number == 26
+may_be_end BinnerList B number = number == 18 || number == 19
+may_be_end Records A number = not (number == 8)
+may_be_end Uniforms A number = number == 8
+may_be_end thing stage number = false
 
 -- So many bytes from a part's start are in it, where it has this size. At a boundary that is the later part, but for rules that are about
 -- the end of the earlier.
 unfoldable pub is_inside : Rule → Thing → (size left : ℕ) → Bool
-is_inside rule thing size left = nat_lt left size || (left == size && may_be_end thing rule)
+is_inside rule thing size left = nat_lt left size || (left == size && may_be_end thing rule.stage rule.number)
 
 -- a part of the file, as a question: whether the refusal's offset is in it, and which place that is
 abbrev pub part_at : Refusal → Thing → (index start size : ℕ) → Question Place
@@ -138,24 +120,15 @@ spot_at bytes refusal =
     else place_or (file_place refusal.offset) (first_of (file_parts bytes refusal))))))
 
 -- counted as a person does: instructions for rules of shaders, handles for H, and surfaces for G
-unfoldable pub counted : Thing → Rule → Place → Place
-counted File rule spot = spot
-counted Header rule spot = spot
-counted Entry rule spot = spot
-counted JobEntry rule spot =
-    if is_lettered rule (codes "G") && nat_le 36 spot.at then record { thing = Surface; index = spot.index; at = (spot.at - 24) / 12 } else spot
-counted Surface rule spot = spot
-counted Contents rule spot = if is_lettered rule (codes "S") then record { thing = Shader; index = spot.index; at = spot.at / 8 } else spot
-counted Shader rule spot = spot
-counted Handles rule spot = if is_lettered rule (codes "H") then record { thing = Handle; index = spot.index; at = spot.at / 4 } else spot
-counted Handle rule spot = spot
-counted BinnerList rule spot = spot
-counted Records rule spot = spot
-counted Uniforms rule spot = spot
+unfoldable pub counted : Thing → Stage → Place → Place
+counted JobEntry G spot = if nat_le 36 spot.at then record { thing = Surface; index = spot.index; at = (spot.at - 24) / 12 } else spot
+counted Contents S spot = record { thing = Shader; index = spot.index; at = spot.at / 8 }
+counted Handles H spot = record { thing = Handle; index = spot.index; at = spot.at / 4 }
+counted thing stage spot = spot
 
 -- the place that a refusal of these bytes is told by
 unfoldable pub place_at : List ℕ → Refusal → Place
-place_at bytes refusal = counted (spot_at bytes refusal).thing refusal.rule (spot_at bytes refusal)
+place_at bytes refusal = counted (spot_at bytes refusal).thing refusal.rule.stage (spot_at bytes refusal)
 
 -- Of a walk over parts: it found the place of the first that has the offset, or none has.
 abbrev pub FindsPart : List (Question Place) → Result Place ℕ → Type 0

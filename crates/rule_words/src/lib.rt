@@ -10,9 +10,7 @@ mod place;
 mod records;
 mod shaders;
 mod surfaces;
-mod words;
 
 pub use line::{Line, line_of};
-pub use name::{Family, RuleName, explain, kind_named, rule_named};
-pub use place::{Place, Thing, place_of, spot_of};
-pub use words::Words;
+pub use name::{Family, RuleName, Words, explain, kind_named, rule_named};
+pub use place::{Place, Thing, place_of};

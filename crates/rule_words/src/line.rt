@@ -24,8 +24,7 @@ impl Thing {
         ensures { result ≡ is_one self }
     {
         match self {
-            Thing::File => true,
-            Thing::Header => true,
+            Thing::File | Thing::Header => true,
             _ => false,
         }
     }
@@ -43,8 +42,7 @@ impl Thing {
             Thing::Surface => "frame of job",
             Thing::Contents => "contents of buffer",
             Thing::Shader => "shader of buffer",
-            Thing::Handles => "handles of job",
-            Thing::Handle => "handles of job",
+            Thing::Handles | Thing::Handle => "handles of job",
             Thing::BinnerList => "binner list of job",
             Thing::Records => "shader records of job",
             Thing::Uniforms => "uniforms of job",
@@ -57,18 +55,10 @@ impl Thing {
         ensures { result.now ≡ unit_name self }
     {
         match self {
-            Thing::File => "byte",
-            Thing::Header => "byte",
-            Thing::Entry => "byte",
-            Thing::JobEntry => "byte",
             Thing::Surface => "surface",
-            Thing::Contents => "byte",
             Thing::Shader => "instruction",
-            Thing::Handles => "byte",
             Thing::Handle => "handle",
-            Thing::BinnerList => "byte",
-            Thing::Records => "byte",
-            Thing::Uniforms => "byte",
+            _ => "byte",
         }
     }
 }

@@ -1,6 +1,6 @@
 //! The names of rules, and their words.
 ghost use Rattle.std.specs.Prelude.{◌≡◌, option_map, Some, IfOk};
-ghost use Rattle.rule_words.specs.Names.{family_of, name_of, texts_in, rows_of, row_in, text_of, words_of, sentence_of, family_text, name_text, explained, family_named, known, rule_named, kind_named};
+ghost use Rattle.rule_words.specs.Names.{name_of, texts_in, rows_in, rows_of, words_in, text_of, words_of, sentence_of, family_text, name_text, explained, family_named, known, rule_named, kind_named};
 
 use crate::answers::{ASSEMBLER, LEVELS, QUEUE, SESSION, SLOTS};
 use crate::format::{FORMAT, HANDLES, LAYOUT, TABLE};
@@ -8,30 +8,29 @@ use crate::lists::LISTS;
 use crate::records::{RECORDS, TEXTURES};
 use crate::shaders::SHADERS;
 use crate::surfaces::SURFACES;
-use crate::words::{Row, Words};
 use job_format::{Rule, Stage};
 use script::read_number;
 use std::alloc::{AllocError, Global};
 use std::fmt;
 
-/// Who refuses by a rule: the stages of a check, the slot allocator (O), the queue (Q), sessions (J), `level` (V), and the
-/// assembler, whose rules are kinds of faults.
+/// Who refuses by a rule: a stage of the check, the slot allocator (O), the queue (Q), sessions (J), `level` (V), and the assembler,
+/// whose rules are kinds of faults.
 #[derive(Clone, Copy, Debug, PartialEq, Eq)]
 pub enum Family {
-    F,
-    M,
-    S,
-    H,
-    B,
-    A,
-    U,
-    G,
-    X,
+    Check(Stage),
     O,
     Q,
     J,
     V,
     Kind,
+}
+
+/// A rule in words: a sentence that says what is wrong, without a full stop, and what else there is to say of it, in one or more
+/// lines: why the rule is there, where its offset points, the usual cause and what mends it.
+#[derive(Clone, Copy, Debug, PartialEq, Eq)]
+pub struct Words {
+    pub sentence: &'static str,
+    pub explanation: &'static str,
 }
 
 /// A rule by its family and number, such as `S24`, or `kind 3` of the assembler.
@@ -42,39 +41,21 @@ pub struct RuleName {
 }
 
 impl Family {
-    /// The family of a stage.
-    #[tactic(auto, unfolding(crate::specs::Names::family_of))]
-    pub fn of_stage(stage: Stage) -> Family
-        ensures { result ≡ family_of stage }
-    {
-        match stage {
-            Stage::F => Family::F,
-            Stage::M => Family::M,
-            Stage::S => Family::S,
-            Stage::H => Family::H,
-            Stage::B => Family::B,
-            Stage::A => Family::A,
-            Stage::U => Family::U,
-            Stage::G => Family::G,
-            Stage::X => Family::X,
-        }
-    }
-
     /// The family of a letter, in either case.
     #[tactic(auto, unfolding(crate::specs::Names::family_named))]
     pub fn of_letter(letter: u8) -> Option<Family>
         ensures { result ≡ family_named letter }
     {
         Some(match letter.to_ascii_uppercase() {
-            b'F' => Family::F,
-            b'M' => Family::M,
-            b'S' => Family::S,
-            b'H' => Family::H,
-            b'B' => Family::B,
-            b'A' => Family::A,
-            b'U' => Family::U,
-            b'G' => Family::G,
-            b'X' => Family::X,
+            b'F' => Family::Check(Stage::F),
+            b'M' => Family::Check(Stage::M),
+            b'S' => Family::Check(Stage::S),
+            b'H' => Family::Check(Stage::H),
+            b'B' => Family::Check(Stage::B),
+            b'A' => Family::Check(Stage::A),
+            b'U' => Family::Check(Stage::U),
+            b'G' => Family::Check(Stage::G),
+            b'X' => Family::Check(Stage::X),
             b'O' => Family::O,
             b'Q' => Family::Q,
             b'J' => Family::J,
@@ -83,21 +64,13 @@ impl Family {
         })
     }
 
-    /// The words of its rules, by row.
+    /// The texts of its rules, by number.
     #[tactic(auto, unfolding(crate::specs::Names::rows_of))]
-    fn rules(self) -> &'static [Row]
+    fn rows(self) -> &'static [&'static str]
         ensures { texts_in result.now ≡ rows_of self }
     {
         match self {
-            Family::F => &FORMAT,
-            Family::M => &TABLE,
-            Family::S => &SHADERS,
-            Family::H => &HANDLES,
-            Family::B => &LISTS,
-            Family::A => &RECORDS,
-            Family::U => &TEXTURES,
-            Family::G => &SURFACES,
-            Family::X => &LAYOUT,
+            Family::Check(stage) => rows_in(stage),
             Family::O => &SLOTS,
             Family::Q => &QUEUE,
             Family::J => &SESSION,
@@ -107,27 +80,48 @@ impl Family {
     }
 }
 
+/// The texts of a stage's rules, by number.
+#[tactic(auto, unfolding(crate::specs::Names::rows_in))]
+fn rows_in(stage: Stage) -> &'static [&'static str]
+    ensures { texts_in result.now ≡ rows_in stage }
+{
+    match stage {
+        Stage::F => &FORMAT,
+        Stage::M => &TABLE,
+        Stage::S => &SHADERS,
+        Stage::H => &HANDLES,
+        Stage::B => &LISTS,
+        Stage::A => &RECORDS,
+        Stage::U => &TEXTURES,
+        Stage::G => &SURFACES,
+        Stage::X => &LAYOUT,
+    }
+}
+
+/// The words of a table's text: the sentence stands before its first line feed. `None` comes where it has none, so no rule has this text.
+fn words_in(text: &'static str) -> Option<Words>
+    ensures { option_map text_of result ≡ words_in text.now }
+{
+    let (sentence, explanation) = text.split_once('\n')?;
+    Some(Words {
+        sentence,
+        explanation,
+    })
+}
+
 impl RuleName {
+    /// The name of the rule of this number.
+    pub fn new(family: Family, number: u8) -> RuleName
+        ensures { result ≡ record { family = family; number = number } }
+    {
+        RuleName { family, number }
+    }
+
     /// The name of a rule of the check.
     pub fn of_rule(rule: Rule) -> RuleName
         ensures { result ≡ name_of rule }
     {
-        RuleName {
-            family: Family::of_stage(rule.stage),
-            number: rule.number,
-        }
-    }
-
-    /// The row of its family's table, from 1 on; 0 where there is none. The sixth of F is that of F7, since there is no F6.
-    #[tactic(auto, unfolding(crate::specs::Names::row_in))]
-    fn row(self) -> u8
-        ensures { result ≡ row_in self.family self.number }
-    {
-        match (self.family, self.number) {
-            (Family::F, 6) => 0,
-            (Family::F, 7) => 6,
-            (_, number) => number,
-        }
+        RuleName::new(Family::Check(rule.stage), rule.number)
     }
 
     /// What there is to say of the rule. `None` comes where there is no rule of this name. It takes no memory.
@@ -135,17 +129,8 @@ impl RuleName {
     pub fn words(self) -> Option<Words>
         ensures { option_map text_of result ≡ words_of self }
     {
-        let row = usize::from(self.row());
-        if row == 0 {
-            return None;
-        }
-        match self.family.rules().get(row - 1) {
-            Some(&(sentence, explanation)) => Some(Words {
-                sentence,
-                explanation,
-            }),
-            None => None,
-        }
+        let row = usize::from(self.number).checked_sub(1)?;
+        words_in(self.family.rows().get(row)?)
     }
 
     /// What is wrong where the rule refuses: one line, without a full stop. It is `there is no rule of this name` where there is none.
@@ -165,22 +150,14 @@ impl fmt::Display for Family {
 
     #[tactic(auto, unfolding(crate::specs::Names::family_text))]
     fn fmt<W: fmt::Write>(&self, f: &mut fmt::Formatter<W>) -> fmt::Result {
-        f.write_str(match self {
-            Family::F => "F",
-            Family::M => "M",
-            Family::S => "S",
-            Family::H => "H",
-            Family::B => "B",
-            Family::A => "A",
-            Family::U => "U",
-            Family::G => "G",
-            Family::X => "X",
-            Family::O => "O",
-            Family::Q => "Q",
-            Family::J => "J",
-            Family::V => "V",
-            Family::Kind => "kind ",
-        })
+        match self {
+            Family::Check(stage) => write!(f, "{}", stage),
+            Family::O => f.write_str("O"),
+            Family::Q => f.write_str("Q"),
+            Family::J => f.write_str("J"),
+            Family::V => f.write_str("V"),
+            Family::Kind => f.write_str("kind "),
+        }
     }
 }
 
@@ -200,13 +177,10 @@ pub fn explain(alloc: Global, name: RuleName) -> Result<Vec<u8>, AllocError>
     ensures { IfOk result (λ text. text.items ≡ explained name) }
 {
     match name.words() {
-        Some(words) => {
-            let Words {
-                sentence,
-                explanation,
-            } = words;
-            Ok(format!(in alloc; "{name}: {sentence}.\n\n{explanation}\n")?.into_bytes())
-        }
+        Some(words) => Ok(format!(in alloc;
+            "{name}: {}.\n\n{}\n",
+            words.sentence, words.explanation
+        )?.into_bytes()),
         None => Ok(Vec::new(alloc)),
     }
 }
@@ -232,7 +206,7 @@ pub fn rule_named(word: &[u8]) -> Option<RuleName>
         [letter, digits @ ..] => {
             let family = Family::of_letter(*letter)?;
             let number = read_number(digits, 255)? as u8;
-            known(RuleName { family, number })
+            known(RuleName::new(family, number))
         }
         [] => None,
     }
@@ -244,8 +218,5 @@ pub fn kind_named(digits: &[u8]) -> Option<RuleName>
     ensures { result ≡ kind_named digits.now }
 {
     let number = read_number(digits, 255)? as u8;
-    known(RuleName {
-        family: Family::Kind,
-        number,
-    })
+    known(RuleName::new(Family::Kind, number))
 }

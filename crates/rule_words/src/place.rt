@@ -1,10 +1,10 @@
 //! Where in a job file a refusal points, in terms of the file's things.
-ghost use Rattle.std.specs.Prelude.{◌≡◌, ◌+◌, ◌-◌, ◌*◌, ◌/◌, ◌%◌, ◌^◌, ◌<◌, ◌≤◌, true, false, codes, length};
+ghost use Rattle.std.specs.Prelude.{◌≡◌, ◌+◌, ◌-◌, ◌*◌, ◌/◌, ◌%◌, ◌^◌, ◌<◌, ◌≤◌, true, false, length};
 ghost use Rattle.field_words.specs.Words.{u32_at};
 ghost use Rattle.job_format.specs.Offsets.{entry_offset, job_size, buffer_count, job_count, job_offset, content_size, content_offset, handles_offset};
 ghost use Rattle.field_words.specs.Questions.{each, first_of};
 ghost use Rattle.rule_words.specs.Place.{start_of, IsBeforeEnd, IsSpot, Covers, WalksTo, FindsPart};
-ghost use Rattle.rule_words.specs.Place.{is_lettered, may_be_end, is_inside, content_parts, job_parts, file_parts, entry_at, spot_at, counted, place_at};
+ghost use Rattle.rule_words.specs.Place.{may_be_end, is_inside, content_parts, job_parts, file_parts, entry_at, spot_at, counted, place_at};
 
 use field_words::get_u32;
 use job_format::{ENTRY_SIZE, HEADER_SIZE, JOB_SIZE, Refusal, Rule, Stage};
@@ -46,6 +46,14 @@ pub struct Place {
     pub at: u64,
 }
 
+impl Place {
+    fn new(thing: Thing, index: u32, at: u64) -> Place
+        ensures { result ≡ record { thing = thing; index = index; at = at } }
+    {
+        Place { thing, index, at }
+    }
+}
+
 /// The number of four bytes at `at`.
 fn word(bytes: &[u8], at: usize) -> u32
     requires inside { at + 4 ≤ length bytes.now }
@@ -54,61 +62,16 @@ fn word(bytes: &[u8], at: usize) -> u32
     get_u32(bytes, at).unwrap_or(0)
 }
 
-fn is_shader_rule(rule: Rule) -> bool
-    ensures { result ≡ is_lettered rule (codes "S") }
-{
-    match rule.stage {
-        Stage::S => true,
-        _ => false,
-    }
-}
-
-fn is_list_rule(rule: Rule) -> bool
-    ensures { result ≡ is_lettered rule (codes "B") }
-{
-    match rule.stage {
-        Stage::B => true,
-        _ => false,
-    }
-}
-
-fn is_record_rule(rule: Rule) -> bool
-    ensures { result ≡ is_lettered rule (codes "A") }
-{
-    match rule.stage {
-        Stage::A => true,
-        _ => false,
-    }
-}
-
-fn is_handle_rule(rule: Rule) -> bool
-    ensures { result ≡ is_lettered rule (codes "H") }
-{
-    match rule.stage {
-        Stage::H => true,
-        _ => false,
-    }
-}
-
-fn is_frame_rule(rule: Rule) -> bool
-    ensures { result ≡ is_lettered rule (codes "G") }
-{
-    match rule.stage {
-        Stage::G => true,
-        _ => false,
-    }
-}
-
 /// Whether the offset of this rule may be the end of the thing, one past its last byte.
 #[tactic(auto, unfolding(crate::specs::Place::may_be_end))]
 fn may_be_end(rule: Rule, thing: Thing) -> bool
-    ensures { result ≡ may_be_end thing rule }
+    ensures { result ≡ may_be_end thing rule.stage rule.number }
 {
-    match thing {
-        Thing::Contents => is_shader_rule(rule) && (rule.number == 2 || rule.number == 26),
-        Thing::BinnerList => is_list_rule(rule) && (rule.number == 18 || rule.number == 19),
-        Thing::Records => is_record_rule(rule) && rule.number != 8,
-        Thing::Uniforms => is_record_rule(rule) && rule.number == 8,
+    match (thing, rule.stage) {
+        (Thing::Contents, Stage::S) => rule.number == 2 || rule.number == 26,
+        (Thing::BinnerList, Stage::B) => rule.number == 18 || rule.number == 19,
+        (Thing::Records, Stage::A) => rule.number != 8,
+        (Thing::Uniforms, Stage::A) => rule.number == 8,
         _ => false,
     }
 }
@@ -136,11 +99,7 @@ fn in_content(bytes: &[u8], refusal: Refusal, b: u32, from: u64) -> Result<Place
     let entry = HEADER_SIZE + ENTRY_SIZE * b as usize;
     let size = u64::from(word(bytes, entry + 16));
     if is_inside(refusal.rule, Thing::Contents, size, from) {
-        return Ok(Place {
-            thing: Thing::Contents,
-            index: b,
-            at: from,
-        });
+        return Ok(Place::new(Thing::Contents, b, from));
     }
     Err(from - size)
 }
@@ -176,47 +135,26 @@ fn in_job(bytes: &[u8], refusal: Refusal, job: u32, entry: usize, from: u64) -> 
     ensures first { FindsPart (job_parts bytes.now refusal job) result }
     ensures walk { WalksTo bytes.now (handles_offset bytes.now job + from) (handles_offset bytes.now (job + 1)) result }
 {
-    let index = job;
     let rule = refusal.rule;
     let mut left = from;
     let size = 4 * u64::from(word(bytes, entry + 8));
     if is_inside(rule, Thing::Handles, size, left) {
-        let thing = Thing::Handles;
-        return Ok(Place {
-            thing,
-            index,
-            at: left,
-        });
+        return Ok(Place::new(Thing::Handles, job, left));
     }
     left -= size;
     let size = u64::from(word(bytes, entry + 12));
     if is_inside(rule, Thing::BinnerList, size, left) {
-        let thing = Thing::BinnerList;
-        return Ok(Place {
-            thing,
-            index,
-            at: left,
-        });
+        return Ok(Place::new(Thing::BinnerList, job, left));
     }
     left -= size;
     let size = u64::from(word(bytes, entry + 16));
     if is_inside(rule, Thing::Records, size, left) {
-        let thing = Thing::Records;
-        return Ok(Place {
-            thing,
-            index,
-            at: left,
-        });
+        return Ok(Place::new(Thing::Records, job, left));
     }
     left -= size;
     let size = u64::from(word(bytes, entry + 24));
     if is_inside(rule, Thing::Uniforms, size, left) {
-        let thing = Thing::Uniforms;
-        return Ok(Place {
-            thing,
-            index,
-            at: left,
-        });
+        return Ok(Place::new(Thing::Uniforms, job, left));
     }
     Err(left - size)
 }
@@ -280,21 +218,14 @@ fn in_entries(size: u64, from: u64) -> (u32, u64)
 /// is the file. An offset between two things belongs to the second, but for the rules that are about the end of the first: S2, S26, B18,
 /// B19 and A. It takes no memory, and its time is linear in the number of entries.
 #[tactic(auto, unfolding(crate::specs::Place::start_of, crate::specs::Place::IsBeforeEnd, crate::specs::Place::unit_of, crate::specs::Place::spot_at), using(job_format::proofs::Standing::content_offset_first))]
-pub fn spot_of(bytes: &[u8], refusal: Refusal) -> Place
+fn spot_of(bytes: &[u8], refusal: Refusal) -> Place
     ensures value { result ≡ spot_at bytes.now refusal }
     ensures spot { IsSpot bytes.now refusal.offset result }
 {
     let offset = refusal.offset;
-    let file = Place {
-        thing: Thing::File,
-        index: 0,
-        at: offset,
-    };
+    let file = Place::new(Thing::File, 0, offset);
     if offset < HEADER_SIZE as u64 {
-        return Place {
-            thing: Thing::Header,
-            ..file
-        };
+        return Place::new(Thing::Header, 0, offset);
     }
     if bytes.len() < HEADER_SIZE {
         return file;
@@ -302,14 +233,12 @@ pub fn spot_of(bytes: &[u8], refusal: Refusal) -> Place
     let entries = HEADER_SIZE + ENTRY_SIZE * word(bytes, 28) as usize;
     if offset < entries as u64 {
         let (index, at) = in_entries(ENTRY_SIZE as u64, offset - HEADER_SIZE as u64);
-        let thing = Thing::Entry;
-        return Place { thing, index, at };
+        return Place::new(Thing::Entry, index, at);
     }
     let contents = entries + JOB_SIZE * word(bytes, 32) as usize;
     if offset < contents as u64 {
         let (index, at) = in_entries(JOB_SIZE as u64, offset - entries as u64);
-        let thing = Thing::JobEntry;
-        return Place { thing, index, at };
+        return Place::new(Thing::JobEntry, index, at);
     }
     if bytes.len() < contents {
         return file;
@@ -324,25 +253,15 @@ pub fn spot_of(bytes: &[u8], refusal: Refusal) -> Place
 #[tactic(auto, unfolding(crate::specs::Place::counted, crate::specs::Place::start_of, crate::specs::Place::IsBeforeEnd, crate::specs::Place::unit_of), using(crate::proofs::Spots::covers_bytes))]
 fn counted(bytes: &[u8], refusal: Refusal, spot: Place) -> Place
     requires { IsSpot bytes.now refusal.offset spot }
-    ensures value { result ≡ counted spot.thing refusal.rule spot }
+    ensures value { result ≡ counted spot.thing refusal.rule.stage spot }
     ensures covers { Covers bytes.now refusal.offset result }
 {
-    match spot.thing {
-        Thing::Contents if is_shader_rule(refusal.rule) => Place {
-            thing: Thing::Shader,
-            at: spot.at / 8,
-            ..spot
-        },
-        Thing::Handles if is_handle_rule(refusal.rule) => Place {
-            thing: Thing::Handle,
-            at: spot.at / 4,
-            ..spot
-        },
-        Thing::JobEntry if is_frame_rule(refusal.rule) && spot.at >= 36 => Place {
-            thing: Thing::Surface,
-            at: (spot.at - 24) / 12,
-            ..spot
-        },
+    match (spot.thing, refusal.rule.stage) {
+        (Thing::JobEntry, Stage::G) if spot.at >= 36 => {
+            Place::new(Thing::Surface, spot.index, (spot.at - 24) / 12)
+        }
+        (Thing::Contents, Stage::S) => Place::new(Thing::Shader, spot.index, spot.at / 8),
+        (Thing::Handles, Stage::H) => Place::new(Thing::Handle, spot.index, spot.at / 4),
         _ => spot,
     }
 }

@@ -1,30 +1,24 @@
 //! The rules of shaders, in words. The pages in docs/ have the same text: docs/check_words compares.
-use crate::words::Row;
 
 /// The rules of shaders, S1 on.
-pub(crate) const SHADERS: [Row; 27] = [
-    (
-        "there are no words, or no whole ones",
-        "Without any word the processor would run what lies after the buffer's place. `E` would
+pub(crate) const SHADERS: [&str; 27] = [
+    "there are no words, or no whole ones
+Without any word the processor would run what lies after the buffer's place. `E` would
 be nowhere. (Whether a buffer's bytes are whole words is asked by whoever makes words of them, under the same number.)
 - Usual cause: a Code buffer for which the file gives no contents.
 - Fix: give the shader's words, eight bytes each.
 
     #! no words",
-    ),
-    (
-        "the program end or its two further instructions are missing",
-        "Then the processor runs past the shader's last word, into
+    "the program end or its two further instructions are missing
+Then the processor runs past the shader's last word, into
 whatever lies behind it.
 - Fix: end the shader with `alu sig=3` and two further instructions.
 
     alu sig=3
     nop
     #! the word after the last is run too",
-    ),
-    (
-        "a forbidden signal: breakpoint (0), coverage load (7), colour load and end (9) or alpha mask load (12)",
-        "A breakpoint stops the
+    "a forbidden signal: breakpoint (0), coverage load (7), colour load and end (9) or alpha mask load (12)
+A breakpoint stops the
 processor for all. A colour load and end is a second kind of program end, which no rule here follows. The two loads are for vector graphics.
 - Fix: another signal. Signal 3 ends a shader, and 8 loads a colour.
 
@@ -33,10 +27,8 @@ processor for all. A colour load and end is a second kind of program end, which 
     alu sig=3
     nop
     nop",
-    ),
-    (
-        "a branch stands in the slots of a branch",
-        "Where two branches overlap, the slots of the second run at the first one's target, and
+    "a branch stands in the slots of a branch
+Where two branches overlap, the slots of the second run at the first one's target, and
 the checker would follow another path than the hardware.
 - Fix: put three instructions that don't branch behind each branch.
 
@@ -51,10 +43,8 @@ the checker would follow another path than the hardware.
     alu sig=3
     nop
     nop",
-    ),
-    (
-        "a branch goes by a register",
-        "Its target would be any number that the shader computed.
+    "a branch goes by a register
+Its target would be any number that the shader computed.
 - Fix: branch to a label.
 
     br reg=1 ra=3
@@ -65,10 +55,8 @@ the checker would follow another path than the hardware.
     alu sig=3
     nop
     nop",
-    ),
-    (
-        "a branch is absolute",
-        "An absolute target is a place in memory, so the shader could run any bytes as code.
+    "a branch is absolute
+An absolute target is a place in memory, so the shader could run any bytes as code.
 - Fix: leave `rel` at 1, and branch to a label.
 
     br rel=0 imm=4096
@@ -79,10 +67,8 @@ the checker would follow another path than the hardware.
     alu sig=3
     nop
     nop",
-    ),
-    (
-        "a branch's immediate is no multiple of 8",
-        "It leads into the middle of a word, and the two halves read as one instruction
+    "a branch's immediate is no multiple of 8
+It leads into the middle of a word, and the two halves read as one instruction
 that was never checked.
 - Fix: branch to a label, or give eight times a number of instructions.
 
@@ -94,10 +80,8 @@ that was never checked.
     alu sig=3
     nop
     nop",
-    ),
-    (
-        "a branch leads to no instruction from the first to the program end",
-        "It leaves the shader: the index is none from 0 to E.
+    "a branch leads to no instruction from the first to the program end
+It leaves the shader: the index is none from 0 to E.
 - Fix: a target in the shader. The immediate counts from four instructions after the branch, in bytes.
 
     br imm=8000
@@ -108,10 +92,8 @@ that was never checked.
     alu sig=3
     nop
     nop",
-    ),
-    (
-        "a branch's slots end past the program end",
-        "Then the program end stands in its slots, and where execution goes on is not what
+    "a branch's slots end past the program end
+Then the program end stands in its slots, and where execution goes on is not what
 the checker took it for.
 - Fix: put three instructions between the branch and the program end.
 
@@ -121,10 +103,8 @@ the checker took it for.
     alu sig=3
     nop
     nop",
-    ),
-    (
-        "a branch writes a register",
-        "It can store its return address in a register, and the terms above have branches name none: facts
+    "a branch writes a register
+It can store its return address in a register, and the terms above have branches name none: facts
 would survive a write.
 - Fix: leave both write addresses of a branch at 39.
 
@@ -137,10 +117,8 @@ would survive a write.
     alu sig=3
     nop
     nop",
-    ),
-    (
-        "a switch stands one or two after a switch",
-        "The second would come while the first is on its way, and which thread runs then is not
+    "a switch stands one or two after a switch
+The second would come while the first is on its way, and which thread runs then is not
 defined.
 - Fix: put two instructions between the switches.
 
@@ -152,10 +130,8 @@ defined.
     alu sig=3
     nop
     nop",
-    ),
-    (
-        "a branch stands one or two after a switch",
-        "The branch's slots would be cut in two by the other thread.
+    "a branch stands one or two after a switch
+The branch's slots would be cut in two by the other thread.
 - Fix: put two instructions between the switch and the branch.
 
     alu sig=2
@@ -168,10 +144,8 @@ defined.
     alu sig=3
     nop
     nop",
-    ),
-    (
-        "a switch stands in a branch's slots, or acts after the program end",
-        "It would act on another path, or when
+    "a switch stands in a branch's slots, or acts after the program end
+It would act on another path, or when
 the thread is gone.
 - Fix: put the switch three or more instructions before the branch, or behind its slots; and three or more before the program end.
 
@@ -184,10 +158,8 @@ the thread is gone.
     alu sig=3
     nop
     nop",
-    ),
-    (
-        "a forbidden register is written: 36, 38, 47, 50 or 51",
-        "They change how TMUs are shared, raise a host interrupt, mask
+    "a forbidden register is written: 36, 38, 47, 50 or 51
+They change how TMUs are shared, raise a host interrupt, mask
 alpha, start VPM DMA, which writes memory at any address, or release a mutex.
 - Fix: leave the write out. Address 39 writes nothing.
 
@@ -196,10 +168,8 @@ alpha, start VPM DMA, which writes memory at any address, or release a mutex.
     alu sig=3
     nop
     nop",
-    ),
-    (
-        "40, the uniforms' address, is written on the B side",
-        "It moves the uniforms' place by the processor's own element number,
+    "40, the uniforms' address, is written on the B side
+It moves the uniforms' place by the processor's own element number,
 which no checker knows.
 - Fix: write 40 by the add unit without `ws`.
 
@@ -208,10 +178,8 @@ which no checker knows.
     alu sig=3
     nop
     nop",
-    ),
-    (
-        "an address write (of 40) is not exact",
-        "An exact one is an `add`, by the add unit, always and not packed, under a signal
+    "an address write (of 40) is not exact
+An exact one is an `add`, by the add unit, always and not packed, under a signal
 that changes nothing, of a register that holds the immediate 4 * (Count + 1) and of a uniform. That uniform is the one that the
 checker fills with the stream's own place, so the sum is the place of the word after it. Any other sum would let the shader take
 uniforms, and with them texture bases, from memory of its own choice.
@@ -223,10 +191,8 @@ uniforms, and with them texture bases, from memory of its own choice.
     alu sig=3
     nop
     nop",
-    ),
-    (
-        "an address write stands in a branch's slots",
-        "Whether the write comes before or after the jump would depend on the branch, and with
+    "an address write stands in a branch's slots
+Whether the write comes before or after the jump would depend on the branch, and with
 it from where the uniforms come at the target.
 - Fix: put the address write before the branch, or behind its slots.
 
@@ -240,10 +206,8 @@ it from where the uniforms come at the target.
     alu sig=3
     nop
     nop",
-    ),
-    (
-        "a uniform is taken one or two after an address write",
-        "The hardware has already fetched from the old place, or has not: which
+    "a uniform is taken one or two after an address write
+The hardware has already fetched from the old place, or has not: which
 word comes is not defined.
 - Fix: put two instructions that take no uniform behind the address write.
 
@@ -255,10 +219,8 @@ word comes is not defined.
     alu sig=3
     nop
     nop",
-    ),
-    (
-        "a uniform is taken where the position is not known",
-        "A loop could take one uniform more each time round and run past
+    "a uniform is taken where the position is not known
+A loop could take one uniform more each time round and run past
 the stream's end, and each emitted word would be used as another than the one that was checked. An address write itself takes its
 uniform before it sets a new position.
 - Fix: take the uniform before the target, and keep it in a register; or write the uniforms' address behind the target first.
@@ -273,10 +235,8 @@ uniform before it sets a new position.
     alu sig=3
     nop
     nop",
-    ),
-    (
-        "both units write a TMU",
-        "They would share one uniform, and the checker counts one setup word.
+    "both units write a TMU
+They would share one uniform, and the checker counts one setup word.
 - Fix: write one TMU in an instruction.
 
     alu ca=1 cm=1 wa=57 wm=58
@@ -284,10 +244,8 @@ uniform before it sets a new position.
     alu sig=3
     nop
     nop",
-    ),
-    (
-        "a TMU write is done under a condition",
-        "Under a condition it depends on each pixel whether the TMU has the word, and a
+    "a TMU write is done under a condition
+Under a condition it depends on each pixel whether the TMU has the word, and a
 request's setup would be of another kind than the one shown.
 - Fix: condition 1, always.
 
@@ -296,10 +254,8 @@ request's setup would be of another kind than the one shown.
     alu sig=3
     nop
     nop",
-    ),
-    (
-        "a TMU write finds four set-up words pending",
-        "A request has at most four setup words; the hardware's behaviour with more
+    "a TMU write finds four set-up words pending
+A request has at most four setup words; the hardware's behaviour with more
 is not defined.
 - Fix: write S (56 or 60), which sends the request, as the fourth at the latest.
 
@@ -312,10 +268,8 @@ is not defined.
     alu sig=3
     nop
     nop",
-    ),
-    (
-        "a setup write stands in an instruction that reads a uniform",
-        "Both would get the same word, so a texture's base, which the
+    "a setup write stands in an instruction that reads a uniform
+Both would get the same word, so a texture's base, which the
 checker relocates, would reach a register.
 - Fix: read the uniform in an instruction of its own.
 
@@ -324,10 +278,8 @@ checker relocates, would reach a register.
     alu sig=3
     nop
     nop",
-    ),
-    (
-        "a direct write (a read at a computed address) is not clamped",
-        "A clamped one is an `add`, by the add unit and not packed,
+    "a direct write (a read at a computed address) is not clamped
+A clamped one is an `add`, by the add unit and not packed,
 of a register that is clamped by one uniform and of another uniform. The first of these uniforms is a bound and the second a
 buffer's place, so the address lies in that buffer. Any other address would read any memory of the machine: other clients'
 buffers, or the kernel's.
@@ -347,10 +299,8 @@ A `min` whose register may be negative does not clamp: as an address a negative 
     alu sig=3
     nop
     nop",
-    ),
-    (
-        "a setup word is pending at a target",
-        "By one path the TMU would have it, by another not, so a later request would mix the
+    "a setup word is pending at a target
+By one path the TMU would have it, by another not, so a later request would mix the
 setup words of two textures.
 - Fix: send the request before the branch, or begin it behind the target.
 
@@ -365,10 +315,8 @@ setup words of two textures.
     alu sig=3
     nop
     nop",
-    ),
-    (
-        "a shader that switches threads uses a file register from 16 to 31",
-        "Each of two threads has half of each file; registers 16
+    "a shader that switches threads uses a file register from 16 to 31
+Each of two threads has half of each file; registers 16
 to 31 are the other thread's, and hold another shader's, perhaps another client's, values and clamped addresses.
 - Fix: use registers 0 to 15 of each file, or leave the thread switches out.
 
@@ -379,10 +327,8 @@ to 31 are the other thread's, and hold another shader's, perhaps another client'
     nop
     nop
     #! at the end, since it is a rule on the whole",
-    ),
-    (
-        "a load immediate has another mode than 0, 1 and 3",
-        "The hardware defines no other.
+    "a load immediate has another mode than 0, 1 and 3
+The hardware defines no other.
 - Fix: mode 0, 1 or 3.
 
     li mode=2 ca=1 wa=32
@@ -390,5 +336,4 @@ to 31 are the other thread's, and hold another shader's, perhaps another client'
     alu sig=3
     nop
     nop",
-    ),
 ];

@@ -67,10 +67,8 @@ abbrev pub most_seeds : ℕ
 most_seeds = 1000
 
 abbrev pub IsLookWithin : Look → ℕ → Type 0
-IsLookWithin Steps seed = Unit {0}
-IsLookWithin Accesses seed = Unit {0}
-IsLookWithin Picture seed = Unit {0}
 IsLookWithin (Seeds count) seed = (1 ≤ count) × (count ≤ most_seeds) × (seed + count < 2 ^ 64)
+IsLookWithin look seed = Unit {0}
 
 -- at most a million steps, and so many seeds that there are
 abbrev pub IsTrialWithin : Trial → Type 0

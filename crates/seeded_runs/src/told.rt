@@ -49,16 +49,14 @@ fn step_text(
     alloc: Global,
     version: u32,
     machine: Machine,
-    favoured: Option<UnitKind>,
-    steps: u32,
-    seed: u64,
+    trial: Trial,
 ) -> Result<Vec<u8>, NoMemory>
-    requires few { steps ≤ 1000000 }
+    requires few { trial.steps ≤ 1000000 }
     requires a_version { 1 ≤ version }
     requires known { version ≤ 2 }
-    ensures { IfOk result (λ text. IsStepText version machine favoured steps seed text.items) }
+    ensures { IfOk result (λ text. IsStepText version machine trial.favoured trial.steps trial.seed text.items) }
 {
-    let trace = run_of(alloc, machine, favoured, steps, seed)?;
+    let trace = run_of(alloc, machine, trial.favoured, trial.steps, trial.seed)?;
     let text = trace_text(alloc, version, &trace)?;
     Ok(text)
 }
@@ -70,14 +68,12 @@ fn access_text(
     buffers: &[Buffer],
     layouts: &[Layout],
     machine: Machine,
-    favoured: Option<UnitKind>,
-    steps: u32,
-    seed: u64,
+    trial: Trial,
 ) -> Result<Vec<u8>, NoMemory>
-    requires { steps ≤ 1000000 }
-    ensures { IfOk result (λ text. IsAccessText regions.now buffers.now layouts.now machine favoured steps seed text.items) }
+    requires { trial.steps ≤ 1000000 }
+    ensures { IfOk result (λ text. IsAccessText regions.now buffers.now layouts.now machine trial.favoured trial.steps trial.seed text.items) }
 {
-    let log = log_of(alloc, machine, favoured, steps, seed)?;
+    let log = log_of(alloc, machine, trial.favoured, trial.steps, trial.seed)?;
     let text = log_text(alloc, regions, buffers, layouts, &log)?;
     Ok(text)
 }
@@ -90,14 +86,12 @@ fn picture_text(
     buffers: &[Buffer],
     layouts: &[Layout],
     machine: Machine,
-    favoured: Option<UnitKind>,
-    steps: u32,
-    seed: u64,
+    trial: Trial,
 ) -> Result<Vec<u8>, NoMemory>
-    requires { steps ≤ 1000000 }
-    ensures { IfOk result (λ text. IsPictureText memory regions.now buffers.now layouts.now machine favoured steps seed text.items) }
+    requires { trial.steps ≤ 1000000 }
+    ensures { IfOk result (λ text. IsPictureText memory regions.now buffers.now layouts.now machine trial.favoured trial.steps trial.seed text.items) }
 {
-    let log = log_of(alloc, machine, favoured, steps, seed)?;
+    let log = log_of(alloc, machine, trial.favoured, trial.steps, trial.seed)?;
     let text = run_picture(alloc, memory, regions, buffers, layouts, &log)?;
     Ok(text)
 }
@@ -110,18 +104,12 @@ fn seed_text(alloc: Global, seed: u64, trace: &Trace) -> Result<Vec<u8>, AllocEr
     Ok(format!(in alloc; "seed {seed} {ending}")?.into_bytes())
 }
 
-// The line that says how a run ended.
-fn seed_line(
-    alloc: Global,
-    machine: Machine,
-    favoured: Option<UnitKind>,
-    steps: u32,
-    seed: u64,
-) -> Result<Vec<u8>, NoMemory>
-    requires { steps ≤ 1000000 }
-    ensures { IfOk result (λ line. IsSeedLine machine favoured steps seed line.items) }
+// The line that says how the run of a seed ended.
+fn seed_line(alloc: Global, machine: Machine, trial: Trial, seed: u64) -> Result<Vec<u8>, NoMemory>
+    requires { trial.steps ≤ 1000000 }
+    ensures { IfOk result (λ line. IsSeedLine machine trial.favoured trial.steps seed line.items) }
 {
-    let trace = run_of(alloc, machine, favoured, steps, seed)?;
+    let trace = run_of(alloc, machine, trial.favoured, trial.steps, seed)?;
     Ok(seed_text(alloc, seed, &trace)?)
 }
 
@@ -130,22 +118,20 @@ fn seed_line(
 fn seeds_text(
     alloc: Global,
     bytes: &[u8],
-    favoured: Option<UnitKind>,
-    steps: u32,
-    seed: u64,
+    trial: Trial,
     count: u32,
 ) -> Result<Vec<u8>, Stop<Refusal>>
-    requires few { steps ≤ 1000000 }
+    requires few { trial.steps ≤ 1000000 }
     requires some { 1 ≤ count }
-    requires within { seed + count < 2 ^ 64 }
+    requires within { trial.seed + count < 2 ^ 64 }
     ensures answers { Answers (all_questions bytes.now)
-        (λ out. IsLookText (file_at bytes.now) (Seeds count) favoured steps seed out.items) result }
+        (λ out. IsLookText (file_at bytes.now) (Seeds count) trial.favoured trial.steps trial.seed out.items) result }
     ensures spelled { IsOk result → IsFileOf bytes.now (file_at bytes.now) }
 {
     let mut text = Vec::new(alloc);
     for n in 0..count {
         let machine = accept(alloc, bytes)?.into_machine();
-        let line = seed_line(alloc, machine, favoured, steps, seed + u64::from(n))?;
+        let line = seed_line(alloc, machine, trial, trial.seed + u64::from(n))?;
         text.extend_from_slice(&line)?;
     }
     Ok(text)
@@ -153,21 +139,16 @@ fn seeds_text(
 
 // The text of the steps of a run of the file's machine.
 #[tactic(auto, using(crate::proofs::Moving::step_moved))]
-fn steps_told(
-    alloc: Global,
-    bytes: &[u8],
-    favoured: Option<UnitKind>,
-    steps: u32,
-    seed: u64,
-) -> Result<Vec<u8>, Stop<Refusal>>
-    requires { steps ≤ 1000000 }
-    ensures answers { Answers (all_questions bytes.now) (λ out. IsLookText (file_at bytes.now) Steps favoured steps seed out.items) result }
+fn steps_told(alloc: Global, bytes: &[u8], trial: Trial) -> Result<Vec<u8>, Stop<Refusal>>
+    requires { trial.steps ≤ 1000000 }
+    ensures answers { Answers (all_questions bytes.now)
+        (λ out. IsLookText (file_at bytes.now) Steps trial.favoured trial.steps trial.seed out.items) result }
     ensures spelled { IsOk result → IsFileOf bytes.now (file_at bytes.now) }
 {
     let accepted = accept(alloc, bytes)?;
     let version = accepted.version;
     let machine = accepted.into_machine();
-    Ok(step_text(alloc, version, machine, favoured, steps, seed)?)
+    Ok(step_text(alloc, version, machine, trial)?)
 }
 
 // What is told of all accesses of a run of an accepted file's machine: a line for each, or a picture.
@@ -176,15 +157,12 @@ fn accesses_of(
     alloc: Global,
     bytes: &[u8],
     accepted: Accepted,
-    look: Look,
-    favoured: Option<UnitKind>,
-    steps: u32,
-    seed: u64,
+    trial: Trial,
 ) -> Result<Vec<u8>, NoMemory>
-    requires few { steps ≤ 1000000 }
+    requires few { trial.steps ≤ 1000000 }
     requires accepted { IsAccepted (file_at bytes.now) accepted }
-    requires look { (look ≡ Accesses) ⊎ (look ≡ Picture) }
-    ensures { IfOk result (λ text. IsLookText (file_at bytes.now) look favoured steps seed text.items) }
+    requires look { (trial.look ≡ Accesses) ⊎ (trial.look ≡ Picture) }
+    ensures { IfOk result (λ text. IsLookText (file_at bytes.now) trial.look trial.favoured trial.steps trial.seed text.items) }
 {
     // No rule of the format stands of an accepted file.
     let Ok(file) = read_parts(alloc, bytes) else {
@@ -196,42 +174,25 @@ fn accesses_of(
         lengths: _,
         machine,
     } = accepted;
+    let memory = file.mem_size;
     let regions = &file.regions;
     let buffers = &file.buffers;
-    match look {
-        Look::Picture => picture_text(
-            alloc,
-            file.mem_size,
-            regions,
-            buffers,
-            &layouts,
-            machine,
-            favoured,
-            steps,
-            seed,
-        ),
-        _ => access_text(
-            alloc, regions, buffers, &layouts, machine, favoured, steps, seed,
-        ),
+    match trial.look {
+        Look::Picture => { picture_text(alloc, memory, regions, buffers, &layouts, machine, trial) }
+        _ => access_text(alloc, regions, buffers, &layouts, machine, trial),
     }
 }
 
 // The same of the file's machine.
-fn accesses_told(
-    alloc: Global,
-    bytes: &[u8],
-    look: Look,
-    favoured: Option<UnitKind>,
-    steps: u32,
-    seed: u64,
-) -> Result<Vec<u8>, Stop<Refusal>>
-    requires few { steps ≤ 1000000 }
-    requires look { (look ≡ Accesses) ⊎ (look ≡ Picture) }
-    ensures answers { Answers (all_questions bytes.now) (λ out. IsLookText (file_at bytes.now) look favoured steps seed out.items) result }
+fn accesses_told(alloc: Global, bytes: &[u8], trial: Trial) -> Result<Vec<u8>, Stop<Refusal>>
+    requires few { trial.steps ≤ 1000000 }
+    requires look { (trial.look ≡ Accesses) ⊎ (trial.look ≡ Picture) }
+    ensures answers { Answers (all_questions bytes.now)
+        (λ out. IsLookText (file_at bytes.now) trial.look trial.favoured trial.steps trial.seed out.items) result }
     ensures spelled { IsOk result → IsFileOf bytes.now (file_at bytes.now) }
 {
     let accepted = accept(alloc, bytes)?;
-    Ok(accesses_of(alloc, bytes, accepted, look, favoured, steps, seed)?)
+    Ok(accesses_of(alloc, bytes, accepted, trial)?)
 }
 
 /// What is told of runs of these bytes, a job file, by the script of a seed or of many. `Ok` comes exactly where no rule stands of them.
@@ -244,22 +205,8 @@ pub fn told_text(alloc: Global, trial: Trial, bytes: &[u8]) -> Result<Vec<u8>, S
     ensures spelled { IsOk result → IsFileOf bytes.now (file_at bytes.now) }
 {
     match trial.look {
-        Look::Steps => steps_told(alloc, bytes, trial.favoured, trial.steps, trial.seed),
-        Look::Accesses | Look::Picture => accesses_told(
-            alloc,
-            bytes,
-            trial.look,
-            trial.favoured,
-            trial.steps,
-            trial.seed,
-        ),
-        Look::Seeds(count) => seeds_text(
-            alloc,
-            bytes,
-            trial.favoured,
-            trial.steps,
-            trial.seed,
-            count,
-        ),
+        Look::Steps => steps_told(alloc, bytes, trial),
+        Look::Accesses | Look::Picture => accesses_told(alloc, bytes, trial),
+        Look::Seeds(count) => seeds_text(alloc, bytes, trial, count),
     }
 }

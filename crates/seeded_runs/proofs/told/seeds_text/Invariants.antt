@@ -11,5 +11,5 @@ abbrev pub invariant-loop-n : goal.invariant-loop-n
 invariant-loop-n l = record {
   none : 1 ≤ l.n → first_of (all_questions l.bytes) ≡ None;
   spelled : 1 ≤ l.n → IsFileOf l.bytes (file_at l.bytes);
-  lines : AreSeedLines (machine_of (file_at l.bytes)) l.favoured l.steps l.seed l.n l.text.items;
+  lines : AreSeedLines (machine_of (file_at l.bytes)) l.trial.favoured l.trial.steps l.trial.seed l.n l.text.items;
 }
