@@ -2,14 +2,14 @@
 use Rattle.std.proofs.Common.{◌≡◌, ℕ, List, None, Some, IfSome, refl, sym, subst, arith, ◌∙◌}
 use Rattle.std.specs.{Prelude.Option, Io.KnownBytes.Appends}
 use Rattle.job_format.specs.{declared.rule.Refusal.Refusal, Reading.file_at}
-use Rattle.job_check.specs.Whole.{refusal_of}
+use Rattle.job_check.specs.Whole.{all_questions, refusal_of}
 use Rattle.headline.proofs.Uses.{may_run}
 use Rattle.commands.specs.{declared.command.Command.Command, declared.command.Command.TheVariants.Check, Headline.IsSafelyAccepted}
-use Rattle.commands.specs.{Answer.image_of, Answer.IsVerdict, Answer.IsAnswer, Run.IsAnswered}
+use Rattle.commands.specs.{Verdict.image_of, Verdict.IsVerdict, Answer.IsAnswer, Run.IsAnswered}
 
 -- status 0 comes only where no rule stands
 by_verdict : (bytes : List ℕ) (found : Option Refusal) (status : ℕ) (text : List ℕ) (before now : Option (List ℕ)) → refusal_of bytes ≡ found → status ≡ 0
-    → IsVerdict bytes found (file_at bytes) status text → Appends before now text → IsSafelyAccepted bytes before now
+    → IsVerdict bytes (all_questions bytes) found (λ f out. out ≡ image_of f) status text → Appends before now text → IsSafelyAccepted bytes before now
 unfolding image_of
 by_verdict bytes None status text before now none zero (is_zero, text_is, is) appends =
     record { printed = subst (Appends before now) text_is appends; may_run = may_run bytes is none }

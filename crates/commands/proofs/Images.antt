@@ -14,7 +14,7 @@ use Rattle.job_check.proofs.{Counted.as_many_layouts, Counted.as_many_lengths, E
 use Rattle.dumper.specs.Parts.{part_at, part_end, parts_text, inserted, sorted, Ascend, RowsApart, ApartFrom, AllApart}
 use Rattle.dumper.specs.Text.{rows_text, head_text, accepted_text, AreOfVersion}
 use Rattle.dumper.proofs.Sorting.{rows_of_sorted, emitted_long, ascend_sorted, ascend_more}
-use Rattle.commands.specs.{Answer.image_of, Reply.rest_text}
+use Rattle.commands.specs.{Verdict.image_of, Reply.rest_text}
 
 -- Parts in items that lie apart lie in rows apart.
 part_inside : (memory : ℕ) (x : Item) (bytes : List ℕ) → IsSoundItem memory x → length bytes ≤ x.size → part_end (part_at x.place bytes) ≤ x.place + x.size

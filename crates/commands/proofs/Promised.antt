@@ -1,10 +1,12 @@
 -- Each promise holds.
-use Rattle.driver_law.proofs.Driver.{drivers_are_safe_law}
+use Rattle.day_apart.proofs.Apart.{days_apart_law}
+use Rattle.driver_law.proofs.{Driver.drivers_are_safe_law, Ends.submissions_end_law}
 use Rattle.headline.proofs.Uses.{accepted_may_run, accepted_end}
 use Rattle.job_bound.proofs.Holds.{bound_holds_law, end_holds_law}
 use Rattle.job_queue.proofs.Laws.{starts_late}
 use Rattle.job_safety.proofs.Safety.{bytes_apart_law}
 use Rattle.session_law.proofs.{Scripting.scripts_are_of_calls, Answering.clients_are_apart, Keeping.memory_is_kept}
+use Rattle.session_safety.proofs.Reach.{submits_reach_own}
 use Rattle.overflow_slots.proofs.Laws.{stays_ordered}
 use Rattle.tile_convert.proofs.Whole.{untiles_what_was_tiled, tiles_what_was_untiled}
 use Rattle.commands.specs.Run.{Promises}
@@ -20,9 +22,12 @@ promises = record {
   scripts = scripts_are_of_calls;
   clients = clients_are_apart;
   pages = memory_is_kept;
+  reach = submits_reach_own;
   bound = bound_holds_law;
   finish = end_holds_law;
   days = drivers_are_safe_law;
+  days_end = submissions_end_law;
+  days_apart = days_apart_law;
   blocks = stays_ordered;
   late = starts_late;
   untiled = untiles_what_was_tiled;

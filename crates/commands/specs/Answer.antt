@@ -1,28 +1,14 @@
 -- What a command answers: a status and a text.
-use Rattle.std.specs.Prelude.{◌≡◌, ℕ, List, length, Option, Some, None}
-use Rattle.field_words.specs.Questions.{IsFirst}
-use Rattle.job_format.specs.{declared.rule.Refusal.Refusal, File.IsFileOf, Model.FileModel, Reading.file_at, Text.file_text}
-use Rattle.job_check.specs.{Whole.all_questions, Whole.refusal_of, Emit.memory_of, Emit.lengths_of, Emit.all_lengths_of, Jobs.layouts_of}
-use Rattle.dumper.specs.{Text.accepted_text, Text.refused_text, Example.example_text}
+use Rattle.std.specs.Prelude.{◌≡◌, ℕ, List, length}
+use Rattle.job_format.specs.{Model.FileModel, Text.file_text}
+use Rattle.job_check.specs.Emit.{memory_of, lengths_of}
+use Rattle.dumper.specs.Example.{example_text}
 use Rattle.commands.specs.declared.command.Command.TheVariants.{Check, Runs, Drawn, Upgrade, Bound, Show, FromText, Asm, Disasm, Shader, ShaderText, Slots, Queue, Session, Untile, Tile, Level}
 use Rattle.commands.specs.{declared.command.Command.Command, Pictures.IsUntileAnswer, Pictures.IsTileAnswer, Pictures.IsLevelAnswer}
-use Rattle.commands.specs.{Replay.IsTrialAnswer, Drawn.IsDrawnAnswer, Bound.IsBoundAnswer, Upgrade.IsUpgradeAnswer}
+use Rattle.commands.specs.Verdict.{IsCheckAnswer, IsTrialAnswer, IsDrawnAnswer, IsBoundAnswer, IsUpgradeAnswer}
 use Rattle.commands.specs.{Scripts.IsSlotsAnswer, Scripts.IsQueueAnswer, Scripts.IsSessionAnswer, Show.IsShowAnswer, Show.IsMakeAnswer}
 use Rattle.commands.specs.{Shader.IsAsmAnswer, Shader.IsDisasmAnswer, LoneShader.IsShaderAnswer, LoneShader.IsShaderTextAnswer}
 use Rattle.example_job.specs.Example.{example}
-
--- what is printed of an accepted file: its emitted memory, and where the lists of each job lie there
-unfoldable pub image_of : FileModel → List ℕ
-image_of f = accepted_text f.version (memory_of f) (layouts_of f) (all_lengths_of f)
-
--- Where no rule stands the file is what its bytes spell, and is accepted with its memory; else it is refused by the first rule
--- that does: it stands, and none before it in the list does.
-abbrev pub IsVerdict : List ℕ → Option Refusal → FileModel → ℕ → List ℕ → Type 0
-IsVerdict bytes None f status text = (status ≡ 0) × (text ≡ image_of f) × IsFileOf bytes f
-IsVerdict bytes (Some refusal) f status text = (status ≡ 1) × (text ≡ refused_text refusal) × IsFirst (all_questions bytes) refusal
-
-abbrev pub IsCheckAnswer : List ℕ → ℕ → List ℕ → Type 0
-IsCheckAnswer bytes status text = IsVerdict bytes (refusal_of bytes) (file_at bytes) status text
 
 -- what each command answers
 abbrev pub IsAnswer : Command → List ℕ → ℕ → List ℕ → Type 0

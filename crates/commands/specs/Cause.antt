@@ -1,17 +1,17 @@
 -- Why a command refuses, as a person is told: a function of the refusal and of what was read.
-use Rattle.std.specs.Prelude.{◌≡◌, ℕ, ◌*◌, ◌%◌, ◌==◌, Bool, true, false, List, ◌++◌, codes, length, nat_le, slice_index, Option, Some, None, Result, Ok, Err, if◌then◌else◌, decimal}
+use Rattle.std.specs.Prelude.{◌≡◌, ℕ, ◌*◌, ◌%◌, ◌==◌, Bool, true, false, List, ◌++◌, codes, length, nat_le, slice_index, option_map, Option, Some, None, Result, Ok, Err, if◌then◌else◌, decimal}
 use Rattle.field_words.specs.{Questions.first_of, Sizes.most_words}
-use Rattle.job_format.specs.declared.rule.Refusal.{Refusal}
+use Rattle.job_format.specs.{declared.rule.Refusal.Refusal, declared.rule.Stage.TheVariants.S, declared.rule.Stage.TheVariants.U}
 use Rattle.job_check.specs.{Shaders.code_questions, Whole.refusal_of}
 use Rattle.job_text.specs.{declared.fault.MakeFault.MakeFault, Made.made, Sentences.sentence_of as mistake_of}
 use Rattle.qpu_asm.specs.{declared.fault.AsmFault.AsmFault, Assembly.Assembled, Place.fault_place, Place.wanted_text}
 use Rattle.qpu_asm.specs.{declared.place.FaultPlace.FaultPlace, declared.place.Opcode.TheVariants.Nop, declared.place.Wanted.Wanted}
 use Rattle.qpu_asm.specs.declared.place.Wanted.TheVariants.{Item}
-use Rattle.rule_words.specs.declared.name.Family.TheVariants.{Kind as KindFamily, S as ShaderFamily, U as TextureFamily, V as LevelFamily}
+use Rattle.rule_words.specs.declared.name.Family.TheVariants.{Kind as KindFamily, Check as StageFamily, V as LevelFamily}
 use Rattle.rule_words.specs.{declared.line.Line.Line, declared.name.RuleName.RuleName, Line.line_text, Line.IsLineOf}
 use Rattle.rule_words.specs.Names.{name_text, sentence_of}
 use Rattle.commands.specs.declared.cause.Cause.TheVariants.{Rule, Kind, Mistake, Shader as ShaderCause, Long, Call, Part, Size, Level as LevelCause, Words}
-use Rattle.commands.specs.declared.command.Command.TheVariants.{Check, Runs, Drawn, Upgrade, Bound, Show, FromText, Asm, Disasm, Shader, ShaderText, Slots, Queue, Session, Untile, Tile, Level}
+use Rattle.commands.specs.declared.command.Command.TheVariants.{Upgrade, Show, FromText, Asm, Disasm, Shader, ShaderText, Slots, Queue, Session, Untile, Tile, Level}
 use Rattle.commands.specs.{declared.cause.Cause.Cause, declared.command.Command.Command, declared.surfaces.TexturePart.TexturePart}
 use Rattle.commands.specs.{Upgrade.format_rules, WordFault.word_fault_text}
 use Rattle.shader_check.specs.{declared.fault.ShaderFault.ShaderFault, Rules.shader_questions}
@@ -48,7 +48,7 @@ mistake_line fault =
 
 -- the name of a rule of shaders
 abbrev pub shader_rule : ShaderFault → RuleName
-shader_rule fault = record { family = ShaderFamily; number = fault.number }
+shader_rule fault = record { family = StageFamily S; number = fault.number }
 
 -- "vc4check: S24: SENTENCE (instruction 12); see vc4check explain S24"
 unfoldable pub shader_line : ShaderFault → List ℕ
@@ -71,7 +71,7 @@ size_line n wanted = codes "vc4check: the input has " ++ (decimal n ++ (codes " 
 
 -- the name of the rule that refuses a level
 unfoldable pub level_rule : LevelFault → RuleName
-level_rule (Texture number) = record { family = TextureFamily; number = number }
+level_rule (Texture number) = record { family = StageFamily U; number = number }
 level_rule Face = record { family = LevelFamily; number = 1 }
 level_rule NoLevel = record { family = LevelFamily; number = 2 }
 
@@ -111,24 +111,14 @@ abbrev pub mistake_cause : Result (List ℕ) MakeFault → Option Cause
 mistake_cause (Ok bytes) = None
 mistake_cause (Err fault) = Some (Mistake fault)
 
--- the first rule that stands of a shader
-abbrev pub shader_cause : Option ShaderFault → Option Cause
-shader_cause None = None
-shader_cause (Some fault) = Some (ShaderCause fault)
-
--- that of a shader of these words, of which there may be too many
+-- the first rule that stands of a shader of these words, of which there may be too many
 abbrev pub words_cause : List ℕ → Option Cause
-words_cause code = if nat_le (length code) most_words then shader_cause (first_of (shader_questions code)) else Some (Long (length code))
+words_cause code = if nat_le (length code) most_words then option_map ShaderCause (first_of (shader_questions code)) else Some (Long (length code))
 
 -- that of a shader as text, which may have a fault
 abbrev pub text_cause : List ℕ → Result (List ℕ) AsmFault → Option Cause
 text_cause text (Ok words) = words_cause words
 text_cause text (Err fault) = Some (Kind fault (fault_place text fault))
-
--- the first line of a script that is no call
-abbrev pub call_cause : Option ℕ → Option Cause
-call_cause None = None
-call_cause (Some line) = Some (Call line)
 
 -- bytes that are no whole words
 abbrev pub part_cause : ℕ → Option Cause
@@ -138,31 +128,23 @@ part_cause n = if n % 8 == 0 then None else Some (Part n)
 abbrev pub size_cause : ℕ → ℕ → Option Cause
 size_cause n wanted = if n == wanted then None else Some (Size n wanted)
 
--- the first rule that stands of a level
-abbrev pub level_cause : Option LevelFault → Option Cause
-level_cause None = None
-level_cause (Some fault) = Some (LevelCause (level_rule fault))
-
 abbrev pub level_fault : TexturePart → List ℕ → Option LevelFault
 level_fault part bytes = first_of (level_questions (slice_index part.setup 0) (slice_index part.setup 1) (slice_index part.setup 2)
     (slice_index part.setup 3) (length bytes) part.face part.level)
 
 -- Why each command refuses its input; None where it doesn't.
 abbrev pub IsCause : Command → List ℕ → Option Cause → Type 0
-IsCause Check bytes cause = IsRuleCause bytes (refusal_of bytes) cause
-IsCause (Runs trial) bytes cause = IsRuleCause bytes (refusal_of bytes) cause
-IsCause Drawn bytes cause = IsRuleCause bytes (refusal_of bytes) cause
 IsCause Upgrade bytes cause = IsRuleCause bytes (first_of (format_rules bytes)) cause
-IsCause Bound bytes cause = IsRuleCause bytes (refusal_of bytes) cause
 IsCause Show bytes cause = cause ≡ None
 IsCause FromText bytes cause = cause ≡ mistake_cause (made bytes)
 IsCause Asm bytes cause = cause ≡ kind_cause bytes (Assembled bytes)
 IsCause Disasm bytes cause = cause ≡ part_cause (length bytes)
-IsCause Shader bytes cause = cause ≡ shader_cause (first_of (code_questions bytes))
+IsCause Shader bytes cause = cause ≡ option_map ShaderCause (first_of (code_questions bytes))
 IsCause ShaderText bytes cause = cause ≡ text_cause bytes (Assembled bytes)
-IsCause (Slots slots) bytes cause = cause ≡ call_cause (slots_fault bytes)
-IsCause (Queue buffers) bytes cause = cause ≡ call_cause (queue_fault bytes)
-IsCause Session bytes cause = cause ≡ call_cause (session_fault bytes)
+IsCause (Slots slots) bytes cause = cause ≡ option_map Call (slots_fault bytes)
+IsCause (Queue buffers) bytes cause = cause ≡ option_map Call (queue_fault bytes)
+IsCause Session bytes cause = cause ≡ option_map Call (session_fault bytes)
 IsCause (Untile p) bytes cause = cause ≡ size_cause (length bytes) (size_for p.tiling p.width p.height p.cpp)
 IsCause (Tile p) bytes cause = cause ≡ size_cause (length bytes) (p.width * p.height * p.cpp)
-IsCause (Level part) bytes cause = cause ≡ level_cause (level_fault part bytes)
+IsCause (Level part) bytes cause = cause ≡ option_map (λ fault. LevelCause (level_rule fault)) (level_fault part bytes)
+IsCause command bytes cause = IsRuleCause bytes (refusal_of bytes) cause

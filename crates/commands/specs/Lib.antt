@@ -1,14 +1,11 @@
 pub mod Answer
-pub mod Bound
 pub mod Cause
-pub mod Drawn
 pub mod Headline
 pub mod Image
 pub mod Line
 pub mod LoneShader
 pub mod Notice
 pub mod Pictures
-pub mod Replay
 pub mod Reply
 pub mod Run
 pub mod Scripts
@@ -17,5 +14,6 @@ pub mod Show
 pub mod Topics
 pub mod Trials
 pub mod Upgrade
+pub mod Verdict
 pub mod WordFault
 pub mod Words

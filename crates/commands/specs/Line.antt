@@ -10,7 +10,7 @@ use Rattle.commands.specs.declared.help.Verb.{Verb}
 use Rattle.commands.specs.declared.trial.SeedRange.{SeedRange}
 use Rattle.commands.specs.declared.words.Line.{Line as Unread}
 use Rattle.commands.specs.declared.word_fault.Argument.TheVariants.{Seed, Cpp, PictureTiling, Rule, Kind, Favoured, SeedNumbers}
-use Rattle.commands.specs.declared.word_fault.Values.TheVariants.{Number, SeedNumber, Tiling as TilingWord, Pixel, RuleName as RuleWord, KindNumber, UnitName, Seeds}
+use Rattle.commands.specs.declared.word_fault.Values.TheVariants.{Number}
 use Rattle.commands.specs.declared.word_fault.WordFault.TheVariants.{Missing, Wrong, Surplus}
 use Rattle.commands.specs.{declared.word_fault.Argument.Argument, declared.word_fault.Values.Values, declared.word_fault.WordFault.WordFault}
 use Rattle.commands.specs.{Pictures.tiling_named, Pictures.pixel_by, Trials.unit_named, Trials.seeds_named, Trials.most_seed, WordFault.values_of}
@@ -49,13 +49,7 @@ given argument read line = given_by argument read line.verb line.count line.word
 -- a number that an argument may be
 abbrev pub IsNumberOf : Values → ℕ → Type 0
 IsNumberOf (Number least most) number = (least ≤ number) × (number ≤ most)
-IsNumberOf SeedNumber number = ⊥
-IsNumberOf TilingWord number = ⊥
-IsNumberOf Pixel number = ⊥
-IsNumberOf RuleWord number = ⊥
-IsNumberOf KindNumber number = ⊥
-IsNumberOf UnitName number = ⊥
-IsNumberOf Seeds number = ⊥
+IsNumberOf values number = ⊥
 
 abbrev pub from : ℕ → Option ℕ → Option ℕ
 from least None = None
@@ -63,13 +57,7 @@ from least (Some number) = if nat_le least number then Some number else None
 
 abbrev pub number_by : Values → List ℕ → Option ℕ
 number_by (Number least most) word = from least (number_within most word)
-number_by SeedNumber word = None
-number_by TilingWord word = None
-number_by Pixel word = None
-number_by RuleWord word = None
-number_by KindNumber word = None
-number_by UnitName word = None
-number_by Seeds word = None
+number_by values word = None
 
 unfoldable pub given_number : Argument → Line → Result ℕ WordFault
 given_number argument line = given argument (number_by (values_of argument)) line
@@ -101,29 +89,11 @@ module _ {R : Type 0} where
   follow (Ok value) next line = next value (behind line)
   follow (Err fault) next line = Err fault
 
+  abbrev pub read : {T : Type 0} → (Line → Result T WordFault) → (T → Line → Result R WordFault) → Line → Result R WordFault
+  read given next line = follow (given line) next line
+
   abbrev pub number : Argument → (ℕ → Line → Result R WordFault) → Line → Result R WordFault
-  number argument next line = follow (given_number argument line) next line
-
-  abbrev pub seed : (ℕ → Line → Result R WordFault) → Line → Result R WordFault
-  seed next line = follow (given_seed line) next line
-
-  abbrev pub unit : (UnitKind → Line → Result R WordFault) → Line → Result R WordFault
-  unit next line = follow (given_unit line) next line
-
-  abbrev pub seeds : (SeedRange → Line → Result R WordFault) → Line → Result R WordFault
-  seeds next line = follow (given_seeds line) next line
-
-  abbrev pub tiling : (Tiling → Line → Result R WordFault) → Line → Result R WordFault
-  tiling next line = follow (given_tiling line) next line
-
-  abbrev pub cpp : (ℕ → Line → Result R WordFault) → Line → Result R WordFault
-  cpp next line = follow (given_cpp line) next line
-
-  abbrev pub rule : (RuleName → Line → Result R WordFault) → Line → Result R WordFault
-  rule next line = follow (given_rule line) next line
-
-  abbrev pub kind : (RuleName → Line → Result R WordFault) → Line → Result R WordFault
-  kind next line = follow (given_kind line) next line
+  number argument = read (given_number argument)
 
   -- this word and what is read behind it, or what is read in its place
   abbrev pub option : List ℕ → (Line → Result R WordFault) → (Line → Result R WordFault) → Line → Result R WordFault

@@ -2,9 +2,12 @@
 --
 -- A source and a sink are told by functions of their states: `left`, the bytes still to come, and `held`, the bytes taken, where they
 -- tell them; and `faults`, how often they failed.
-use Rattle.std.specs.Prelude.{◌≡◌, ◌≢◌, ◌⊎◌, ◌↔◌, ℕ, ◌≤◌, ◌<◌, length, List, Option, Some, None, IfSome}
+use Rattle.std.specs.Prelude.{◌≡◌, ◌≢◌, ◌⊎◌, ◌↔◌, ℕ, ◌≤◌, ◌<◌, length, List, String, Option, Some, None, IfErr, IfSome}
+use Rattle.std.specs.declared.alloc.Global.{Global}
 use Rattle.std.specs.Io.KnownBytes.{Appends, IsAtEnd}
-use Rattle.driver_law.specs.Driver.{DriversAreSafe}
+use Rattle.entry.specs.declared.Ended.{Ended}
+use Rattle.day_apart.specs.Apart.{DaysApart}
+use Rattle.driver_law.specs.{Driver.DriversAreSafe, Ends.SubmissionsEnd}
 use Rattle.headline.specs.{Ends.AcceptedEnd, MayRun.AcceptedMayRun}
 use Rattle.job_bound.specs.Law.{BoundHolds, EndHolds}
 use Rattle.job_io.specs.{Faults.Rose, Faults.LastCallFailed, Traffic.AppendsFront, Traffic.count_taken}
@@ -12,9 +15,13 @@ use Rattle.job_queue.specs.Laws.{StartsLate}
 use Rattle.job_safety.specs.Clients.{BytesApart}
 use Rattle.overflow_slots.specs.Laws.{StaysOrdered}
 use Rattle.session_law.specs.{Laws.ClientsAreApart, Laws.MemoryIsKept, Scripts.ScriptsAreOfCalls}
+use Rattle.session_safety.specs.Running.{SubmitsReachOwn}
 use Rattle.tile_convert.specs.Picture.{UntilesWhatWasTiled, TilesWhatWasUntiled}
-use Rattle.commands.specs.{declared.command.Command.Command, declared.command.Task.Task}
-use Rattle.commands.specs.{Answer.IsAnswer, Show.MakesAgain, Upgrade.UpgradeKeepsAll, Words.limit_of}
+use Rattle.commands.specs.{declared.command.Command.Command, declared.command.Command.TheVariants.Check, declared.command.Task.Task}
+use Rattle.commands.specs.declared.command.Task.TheVariants.{Read, Make, Tell}
+use Rattle.commands.specs.{declared.help.Topic.Topic, declared.cause.Cause.Cause, declared.cause.Cause.TheVariants.Words}
+use Rattle.commands.specs.{Answer.IsAnswer, Answer.IsExampleAnswer, Cause.IsCause, Headline.IsSafelyAccepted, Line.texts, Show.MakesAgain}
+use Rattle.commands.specs.{Topics.IsTopicAnswer, Upgrade.UpgradeKeepsAll, Words.limit_of, Words.task_or_fault, Words.task_of}
 
 -- The answer has this status, and its text was appended to a sink.
 abbrev pub IsAnswered : (ℕ → List ℕ → Type 0) → ℕ → Option (List ℕ) → Option (List ℕ) → Type 0
@@ -79,16 +86,22 @@ pub record Promises : Type 0 where
   pub makes_again : MakesAgain
   -- What `session` answers to a script is the replies to its calls, one by one.
   pub scripts : ScriptsAreOfCalls
-  -- A client to whom no reply was that memory is full has had exactly the replies of its own commands alone.
+  -- A client's replies, but for those that memory is full, are those of its own commands without the ones that were answered so.
   pub clients : ClientsAreApart
   -- Each live buffer of a session lies in its pages, and all other pages are zero.
   pub pages : MemoryIsKept
+  -- The job of an accepted submit reaches no byte of another client's live buffer.
+  pub reach : SubmitsReachOwn
   -- Where `bound` answers two numbers, each run of the jobs keeps to them.
   pub bound : BoundHolds
   -- Where it answers `ends` besides, each run that can't go on has finished, or waits for room in its tile slot.
   pub finish : EndHolds
   -- A driver that hands in jobs of accepted files at any time, also while others run, retires them and resets the chip, is safe for ever.
   pub days : DriversAreSafe
+  -- Each job that such a driver hands in has no more steps than its file says of it, whatever other jobs come and go.
+  pub days_end : SubmissionsEnd
+  -- To a client two days are alike in which its jobs come, take the same steps, find the same registers and go, whatever others' jobs do.
+  pub days_apart : DaysApart
   -- Blocks that the slot allocator grants lie apart, each in a slot of its own job.
   pub blocks : StaysOrdered
   -- Where the queue starts a job, each earlier writer of what it reads has rendered.
@@ -96,3 +109,30 @@ pub record Promises : Type 0 where
   -- `untile` gives back what was tiled, and `tile` what was untiled.
   pub untiled : UntilesWhatWasTiled
   pub tiled : TilesWhatWasUntiled
+
+-- A run with these words, from a source and a sink's states before it to those behind it, that ended with this status.
+pub record IsRun {X Y : Type 0} (words : List (String Global)) (left : X → Option (List ℕ)) (source_faults : X → ℕ) (source source_now : X)
+    (held : Y → Option (List ℕ)) (sink_faults : Y → ℕ) (sink sink_now : Y) (status : ℕ) : Type 0 where
+  pub ends : Ends left source_faults source source_now held sink_faults sink sink_now (task_of (texts words)) status
+  -- what a command answers, where the source tells its input
+  pub served : (command : Command) → task_of (texts words) ≡ Some (Read command)
+      → IsServed command (left source) (left source_now) (held sink) (held sink_now) status
+  -- what `gen` answers, and what is said of the program and of rules
+  pub made : (number : ℕ) → task_of (texts words) ≡ Some (Make number)
+      → IsSaid (IsExampleAnswer number) source source_now (held sink) (held sink_now) status
+  pub said : (topic : Topic) → task_of (texts words) ≡ Some (Tell topic)
+      → IsSaid (IsTopicAnswer topic) source source_now (held sink) (held sink_now) status
+  -- From just the memory that `check` prints of an accepted file, every run of the machine is safe, each access in what its own job may
+  -- reach, and bytes outside what jobs may reach have no effect.
+  pub safe : task_of (texts words) ≡ Some (Read Check) → status ≡ 0
+      → IfSome (left source) (λ bytes. IsSafelyAccepted bytes (held sink) (held sink_now))
+  pub promises : Promises
+
+-- The same of a run that says why it ended: of a refusal, where the source tells what was refused, and which of the words is wrong.
+pub record IsRunWithCause {X Y : Type 0} (words : List (String Global)) (left : X → Option (List ℕ)) (source_faults : X → ℕ) (source source_now : X)
+    (held : Y → Option (List ℕ)) (sink_faults : Y → ℕ) (sink sink_now : Y) (ended : Ended Cause) : Type 0 where
+  pub run : IsRun words left source_faults source source_now held sink_faults sink sink_now ended.status
+  pub cause : (command : Command) → task_of (texts words) ≡ Some (Read command) → ended.status ≡ 1
+      → IfSome (left source) (λ bytes. IsCause command bytes ended.cause)
+  pub wrong : IfErr (task_or_fault (texts words)) (λ fault. ended.cause ≡ Some (Words fault))
+  pub quiet : ended.status ≢ 1 → ended.status ≢ 2 → ended.cause ≡ None

@@ -28,51 +28,33 @@ verb_named word =
     else (if bytes_eq word (codes "shader") then Some Shader
     else (if bytes_eq word (codes "explain") then Some Explain else None)))))))))))))))))
 
--- a command's line, behind the program's name
-unfoldable pub usage_of : Verb → List ℕ
-usage_of Check = CHECK.0.now
-usage_of Replay = REPLAY.0.now
-usage_of Picture = PICTURE.0.now
-usage_of Upgrade = UPGRADE.0.now
-usage_of Bound = BOUND.0.now
-usage_of Show = SHOW.0.now
-usage_of Make = MAKE.0.now
-usage_of Gen = GEN.0.now
-usage_of Slots = SLOTS.0.now
-usage_of Queue = QUEUE.0.now
-usage_of Session = SESSION.0.now
-usage_of Untile = UNTILE.0.now
-usage_of Tile = TILE.0.now
-usage_of Level = LEVEL.0.now
-usage_of Asm = ASM.0.now
-usage_of Disasm = DISASM.0.now
-usage_of Shader = SHADER.0.now
-usage_of Explain = EXPLAIN.0.now
+-- a command's line, behind the program's name, and what the command does
+unfoldable pub usage_row : Verb → List ℕ × List ℕ
+usage_row Check = (CHECK.0.now, CHECK.1.now)
+usage_row Replay = (REPLAY.0.now, REPLAY.1.now)
+usage_row Picture = (PICTURE.0.now, PICTURE.1.now)
+usage_row Upgrade = (UPGRADE.0.now, UPGRADE.1.now)
+usage_row Bound = (BOUND.0.now, BOUND.1.now)
+usage_row Show = (SHOW.0.now, SHOW.1.now)
+usage_row Make = (MAKE.0.now, MAKE.1.now)
+usage_row Gen = (GEN.0.now, GEN.1.now)
+usage_row Slots = (SLOTS.0.now, SLOTS.1.now)
+usage_row Queue = (QUEUE.0.now, QUEUE.1.now)
+usage_row Session = (SESSION.0.now, SESSION.1.now)
+usage_row Untile = (UNTILE.0.now, UNTILE.1.now)
+usage_row Tile = (TILE.0.now, TILE.1.now)
+usage_row Level = (LEVEL.0.now, LEVEL.1.now)
+usage_row Asm = (ASM.0.now, ASM.1.now)
+usage_row Disasm = (DISASM.0.now, DISASM.1.now)
+usage_row Shader = (SHADER.0.now, SHADER.1.now)
+usage_row Explain = (EXPLAIN.0.now, EXPLAIN.1.now)
 
--- what a command does
-unfoldable pub about_of : Verb → List ℕ
-about_of Check = CHECK.1.now
-about_of Replay = REPLAY.1.now
-about_of Picture = PICTURE.1.now
-about_of Upgrade = UPGRADE.1.now
-about_of Bound = BOUND.1.now
-about_of Show = SHOW.1.now
-about_of Make = MAKE.1.now
-about_of Gen = GEN.1.now
-about_of Slots = SLOTS.1.now
-about_of Queue = QUEUE.1.now
-about_of Session = SESSION.1.now
-about_of Untile = UNTILE.1.now
-about_of Tile = TILE.1.now
-about_of Level = LEVEL.1.now
-about_of Asm = ASM.1.now
-about_of Disasm = DISASM.1.now
-about_of Shader = SHADER.1.now
-about_of Explain = EXPLAIN.1.now
+abbrev pub usage_of : Verb → List ℕ
+usage_of verb = (usage_row verb).0
 
 -- what `COMMAND --help` says
 unfoldable pub verb_help : Verb → List ℕ
-verb_help verb = codes "vc4check " ++ (usage_of verb ++ (codes "\n" ++ (about_of verb ++ codes "\n")))
+verb_help verb = codes "vc4check " ++ (usage_of verb ++ (codes "\n" ++ ((usage_row verb).1 ++ codes "\n")))
 
 -- a command's line in what `--help` says
 unfoldable pub usage_line : Verb → List ℕ

@@ -1,24 +1,13 @@
--- What `upgrade` answers: the same file as version 2.
-use Rattle.std.specs.Prelude.{◌≡◌, ℕ, List, Option, Some, None}
-use Rattle.field_words.specs.{Words.IsBytes, Questions.Question, Questions.IsFirst, Questions.first_of, Questions.answered}
-use Rattle.job_format.specs.{declared.rule.Refusal.Refusal, Faults.format_questions, File.IsFileOf, File.upgraded, Model.FileModel}
-use Rattle.job_format.specs.{Reading.file_at, Text.file_text}
+-- The rules of the format, and what `upgrade` keeps.
+use Rattle.std.specs.Prelude.{◌≡◌, ℕ, List, None}
+use Rattle.field_words.specs.{Words.IsBytes, Questions.Question, Questions.first_of, Questions.answered}
+use Rattle.job_format.specs.{declared.rule.Refusal.Refusal, Faults.format_questions, File.IsFileOf, File.upgraded, Reading.file_at, Text.file_text}
 use Rattle.job_check.specs.{Emit.memory_of, Emit.all_lengths_of, Jobs.layouts_of, Whole.format_refused, Whole.refusal_of}
 use Rattle.accepted_law.specs.Holdings.{plain_of, fixed_of, file_rights, file_starts}
-use Rattle.dumper.specs.Text.{refused_text}
 
 -- the rules of the format, as the program names them
 abbrev pub format_rules : List ℕ → List (Question Refusal)
 format_rules bytes = answered format_refused (format_questions bytes)
-
--- Where no rule of the format stands, the file is what its bytes spell, and is written with version 2; else it is refused by the first
--- such rule that does. No other rule is asked.
-abbrev pub IsUpgradeVerdict : List ℕ → Option Refusal → FileModel → ℕ → List ℕ → Type 0
-IsUpgradeVerdict bytes None f status text = (status ≡ 0) × (text ≡ file_text (upgraded f)) × IsFileOf bytes f
-IsUpgradeVerdict bytes (Some refusal) f status text = (status ≡ 1) × (text ≡ refused_text refusal) × IsFirst (format_rules bytes) refusal
-
-abbrev pub IsUpgradeAnswer : List ℕ → ℕ → List ℕ → Type 0
-IsUpgradeAnswer bytes status text = IsUpgradeVerdict bytes (first_of (format_rules bytes)) (file_at bytes) status text
 
 -- The same file as version 2 is what its text spells. It is refused by the same rule at the same place, or it is accepted with the same
 -- memory, with the lists of each job at the same places and as long; each job may reach the same and begins in the same places, and the

@@ -21,49 +21,30 @@ most_queued = 1024
 abbrev pub most_word : ℕ
 most_word = 4294967295
 
--- what an argument may be
-abbrev pub values_of : Argument → Values
-values_of Steps = Number 0 most_steps
-values_of Seed = SeedNumber
-values_of Example = Number 0 most_word
-values_of SlotCount = Number 1 most_slots
-values_of Buffers = Number 0 most_queued
-values_of PictureTiling = Tiling
-values_of Cpp = Pixel
-values_of Width = Number 1 most_side
-values_of Height = Number 1 most_side
-values_of P0 = Number 0 most_word
-values_of P1 = Number 0 most_word
-values_of P2 = Number 0 most_word
-values_of P3 = Number 0 most_word
-values_of Face = Number 0 most_word
-values_of LevelNumber = Number 0 most_word
-values_of Rule = RuleName
-values_of Kind = KindNumber
-values_of Favoured = UnitName
-values_of SeedNumbers = Seeds
+-- what the usage calls an argument, and what it may be
+abbrev pub argument_row : Argument → List ℕ × Values
+argument_row Steps = (codes "STEPS", Number 0 most_steps)
+argument_row Seed = (codes "SEED", SeedNumber)
+argument_row Example = (codes "NUMBER", Number 0 most_word)
+argument_row SlotCount = (codes "SLOTS", Number 1 most_slots)
+argument_row Buffers = (codes "BUFFERS", Number 0 most_queued)
+argument_row PictureTiling = (codes "TILING", Tiling)
+argument_row Cpp = (codes "CPP", Pixel)
+argument_row Width = (codes "WIDTH", Number 1 most_side)
+argument_row Height = (codes "HEIGHT", Number 1 most_side)
+argument_row P0 = (codes "P0", Number 0 most_word)
+argument_row P1 = (codes "P1", Number 0 most_word)
+argument_row P2 = (codes "P2", Number 0 most_word)
+argument_row P3 = (codes "P3", Number 0 most_word)
+argument_row Face = (codes "FACE", Number 0 most_word)
+argument_row LevelNumber = (codes "LEVEL", Number 0 most_word)
+argument_row Rule = (codes "RULE", RuleName)
+argument_row Kind = (codes "RULE", KindNumber)
+argument_row Favoured = (codes "KIND", UnitName)
+argument_row SeedNumbers = (codes "A..B", Seeds)
 
--- what the usage calls it
-unfoldable pub argument_name : Argument → List ℕ
-argument_name Steps = codes "STEPS"
-argument_name Seed = codes "SEED"
-argument_name Example = codes "NUMBER"
-argument_name SlotCount = codes "SLOTS"
-argument_name Buffers = codes "BUFFERS"
-argument_name PictureTiling = codes "TILING"
-argument_name Cpp = codes "CPP"
-argument_name Width = codes "WIDTH"
-argument_name Height = codes "HEIGHT"
-argument_name P0 = codes "P0"
-argument_name P1 = codes "P1"
-argument_name P2 = codes "P2"
-argument_name P3 = codes "P3"
-argument_name Face = codes "FACE"
-argument_name LevelNumber = codes "LEVEL"
-argument_name Rule = codes "RULE"
-argument_name Kind = codes "RULE"
-argument_name Favoured = codes "KIND"
-argument_name SeedNumbers = codes "A..B"
+abbrev pub values_of : Argument → Values
+values_of argument = (argument_row argument).1
 
 -- an argument, and what it may be: "STEPS is a number from 0 to 1000000"
 unfoldable pub values_text : Values → List ℕ
@@ -77,7 +58,7 @@ values_text UnitName = codes "qpu, texture, binner or renderer"
 values_text Seeds = codes "seeds from A to before B, 1 to 1000 of them"
 
 unfoldable pub argument_text : Argument → List ℕ
-argument_text argument = argument_name argument ++ (codes " is " ++ values_text (values_of argument))
+argument_text argument = (argument_row argument).0 ++ (codes " is " ++ values_text (values_of argument))
 
 -- "word 4 is one too many"
 unfoldable pub surplus_text : ℕ → List ℕ

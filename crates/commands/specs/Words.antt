@@ -16,17 +16,17 @@ use Rattle.commands.specs.declared.surfaces.Picture.{Picture}
 use Rattle.commands.specs.declared.word_fault.Argument.TheVariants.{Steps, Example, SlotCount, Buffers, Width, Height, P0, P1, P2, P3, Face, LevelNumber}
 use Rattle.commands.specs.declared.word_fault.WordFault.TheVariants.{Nothing, Unknown, Alone}
 use Rattle.commands.specs.{declared.command.Command.Command, declared.command.Task.Task, declared.help.Topic.Topic, declared.help.Verb.Verb, declared.word_fault.WordFault.WordFault}
-use Rattle.commands.specs.Line.{Line, texts, number, seed, unit, seeds, tiling, cpp, rule, kind, option, ended}
+use Rattle.commands.specs.Line.{Line, texts, number, given_seed, given_unit, given_seeds, given_tiling, given_cpp, given_rule, given_kind, read, option, ended}
 use Rattle.commands.specs.{Pictures.IsPictureWithin, Topics.verb_named, WordFault.most_slots, WordFault.most_queued}
 
 -- STEPS SEED: a run that is shown in this way, where a kind of unit is favoured or none
 abbrev pub run : Look → Option UnitKind → Line → Result Task WordFault
-run shown favoured = number Steps (λ steps. seed (λ seed.
+run shown favoured = number Steps (λ steps. read given_seed (λ seed.
     ended (Read (Runs (record { look = shown; favoured = favoured; steps = steps; seed = seed })))))
 
 -- A..B STEPS: a run of each seed
 abbrev pub many_runs : Option UnitKind → Line → Result Task WordFault
-many_runs favoured = seeds (λ range. number Steps (λ steps.
+many_runs favoured = read given_seeds (λ range. number Steps (λ steps.
     ended (Read (Runs (record { look = look.Seeds range.count; favoured = favoured; steps = steps; seed = range.first })))))
 
 -- [--accesses | --seeds A..B] STEPS [SEED]
@@ -36,16 +36,16 @@ runs favoured =
 
 -- replay [--favour KIND] [--accesses | --seeds A..B] STEPS [SEED]
 abbrev pub replay : Line → Result Task WordFault
-replay = option (codes "--favour") (unit (λ kind. runs (Some kind))) (runs None)
+replay = option (codes "--favour") (read given_unit (λ kind. runs (Some kind))) (runs None)
 
 -- picture [--run [--favour KIND] STEPS SEED]
 abbrev pub picture : Line → Result Task WordFault
-picture = option (codes "--run") (option (codes "--favour") (unit (λ kind. run look.Picture (Some kind))) (run look.Picture None))
+picture = option (codes "--run") (option (codes "--favour") (read given_unit (λ kind. run look.Picture (Some kind))) (run look.Picture None))
     (ended (Read Drawn))
 
 -- TILING CPP WIDTH HEIGHT
 abbrev pub pictured : Line → Result Picture WordFault
-pictured = tiling (λ tiling. cpp (λ cpp. number Width (λ width. number Height (λ height.
+pictured = read given_tiling (λ tiling. read given_cpp (λ cpp. number Width (λ width. number Height (λ height.
     ended (record { tiling = tiling; cpp = cpp; width = width; height = height })))))
 
 abbrev pub of_picture : (Picture → Command) → Result Picture WordFault → Result Task WordFault
@@ -76,7 +76,7 @@ abbrev pub told_of : RuleName → Line → Result Task WordFault
 told_of name = ended (Tell (RuleTopic name))
 
 abbrev pub explain : Line → Result Task WordFault
-explain = option (codes "kind") (kind told_of) (rule told_of)
+explain = option (codes "kind") (read given_kind told_of) (read given_rule told_of)
 
 -- the arguments of each command
 abbrev pub asked : Verb → Line → Result Task WordFault
@@ -128,9 +128,7 @@ task_of words = result_ok (task_or_fault words)
 
 abbrev pub is_read : Result Task WordFault → Bool
 is_read (Ok (Read command)) = true
-is_read (Ok (Make number)) = false
-is_read (Ok (Tell topic)) = false
-is_read (Err fault) = false
+is_read task = false
 
 -- Whether the last word is the name of a file to read in place of standard input: all words ask for nothing, and those before it for a
 -- command that reads.
@@ -139,28 +137,16 @@ names_file words = not (is_ok (task_or_fault (texts words))) && is_read (task_or
 
 -- a command whose numbers are within these
 abbrev pub IsWithin : Command → Type 0
-IsWithin Check = Unit {0}
 IsWithin (Runs trial) = IsTrialWithin trial
-IsWithin Drawn = Unit {0}
-IsWithin Upgrade = Unit {0}
-IsWithin Bound = Unit {0}
-IsWithin Show = Unit {0}
-IsWithin FromText = Unit {0}
-IsWithin Asm = Unit {0}
-IsWithin Disasm = Unit {0}
-IsWithin Shader = Unit {0}
-IsWithin ShaderText = Unit {0}
 IsWithin (Slots slots) = (1 ≤ slots) × (slots ≤ most_slots)
 IsWithin (Queue buffers) = buffers ≤ most_queued
-IsWithin Session = Unit {0}
 IsWithin (Untile picture) = IsPictureWithin picture
 IsWithin (Tile picture) = IsPictureWithin picture
-IsWithin (Level part) = Unit {0}
+IsWithin command = Unit {0}
 
 abbrev pub ReadsWithin : Task → Type 0
 ReadsWithin (Read command) = IsWithin command
-ReadsWithin (Make number) = Unit {0}
-ReadsWithin (Tell topic) = Unit {0}
+ReadsWithin task = Unit {0}
 
 -- the most bytes of a job file: 48 MiB
 abbrev pub most_file : ℕ
@@ -172,13 +158,6 @@ most_picture = 25165824
 
 -- the most bytes of input that a command takes
 abbrev pub limit_of : Command → ℕ
-limit_of Check = most_file
-limit_of (Runs trial) = most_file
-limit_of Drawn = most_file
-limit_of Upgrade = most_file
-limit_of Bound = most_file
-limit_of Show = most_file
-limit_of FromText = most_file
 limit_of Asm = most_list
 limit_of Disasm = most_list
 limit_of Shader = most_code
@@ -189,3 +168,4 @@ limit_of Session = most_list
 limit_of (Untile picture) = most_picture
 limit_of (Tile picture) = most_picture
 limit_of (Level part) = most_picture
+limit_of command = most_file

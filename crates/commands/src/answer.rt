@@ -1,8 +1,8 @@
 //! An answer to all of the input, and its way into the sink.
 ghost use Rattle.std.specs.Prelude.{◌≡◌, ◌≢◌, ◌≤◌, ◌<◌, None};
 ghost use Rattle.std.specs.Io.KnownBytes.{Appends};
-ghost use Rattle.job_io.specs.Faults.{Rose, LastCallFailed};
 ghost use Rattle.job_io.specs.Traffic.{AppendsFront};
+ghost use Rattle.commands.specs.Run.{FailsAt};
 
 use super::cause::Cause;
 use job_io::{Failed, Sink, write_all};
@@ -47,9 +47,7 @@ pub fn reply<K: Sink>(sink: &mut K, answer: &Answer) -> u8
     ensures failing { result ≤ 4 }
     ensures written { result ≢ 4 → Appends (K.held sink.old) (K.held sink.new) answer.now.text.items }
     ensures cut { result ≡ 4 → AppendsFront (K.held sink.old) (K.held sink.new) answer.now.text.items }
-    ensures failed { result ≡ 4 → Rose (K.faults sink.old) (K.faults sink.new) }
-    ensures last { result ≡ 4 → LastCallFailed K.held K.faults sink.old sink.new }
-    ensures steady { result ≢ 4 → K.faults sink.new ≡ K.faults sink.old }
+    ensures write { FailsAt K.held K.faults sink.old sink.new 4 result }
 {
     match write_all(sink, &answer.text) {
         Ok(()) => answer.status,

@@ -1,15 +1,12 @@
 //! The command `bound`.
 ghost use Rattle.std.specs.Prelude.{◌≡◌, ◌<◌, IfOk};
 ghost use Rattle.job_check.specs.Whole.{refusal_of};
-ghost use Rattle.commands.specs.Bound.{IsBoundAnswer};
-ghost use Rattle.commands.specs.Cause.{IsRuleCause};
+ghost use Rattle.commands.specs.{Cause.IsRuleCause, Verdict.IsBoundAnswer};
 
 use super::answer::Answer;
-use super::cause::Cause;
-use dumper::refusal_text;
+use super::check::refused;
 use field_words::{NoMemory, Stop};
 use job_bound::bound_text;
-use rule_words::line_of;
 use std::alloc::Global;
 
 /// What `bound` answers to these bytes: how many steps the jobs of an accepted file take at most and whether they may wait for a request
@@ -22,11 +19,7 @@ pub fn bound_answer(alloc: Global, bytes: &[u8]) -> Result<Answer, NoMemory>
 {
     match bound_text(alloc, bytes) {
         Ok(text) => Ok(Answer::done(text)),
-        Err(Stop::Fault(refusal)) => {
-            let text = refusal_text(alloc, &refusal)?;
-            let line = line_of(bytes, refusal);
-            Ok(Answer::refused(text, Some(Cause::Rule(line))))
-        }
+        Err(Stop::Fault(refusal)) => refused(alloc, bytes, refusal),
         Err(Stop::NoMemory) => Err(NoMemory),
     }
 }

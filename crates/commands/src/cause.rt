@@ -3,6 +3,7 @@ ghost use Rattle.std.specs.Prelude.{◌≡◌, Some};
 ghost use Rattle.commands.specs.Cause.{cause_text, is_bare, told_text, kind_of, shader_rule, level_rule, size_line, named_text};
 
 use super::word_fault::WordFault;
+use job_format::Stage;
 use job_text::MakeFault;
 use qpu_asm::{AsmFault, FaultPlace, Opcode, Wanted};
 use rule_words::{Family, Line, RuleName};
@@ -39,20 +40,14 @@ pub enum Cause {
 fn kind_of(fault: &AsmFault) -> RuleName
     ensures { result ≡ kind_of fault.now }
 {
-    RuleName {
-        family: Family::Kind,
-        number: fault.kind,
-    }
+    RuleName::new(Family::Kind, fault.kind)
 }
 
 // The rule's name, as `S24`.
 fn shader_rule(fault: &ShaderFault) -> RuleName
     ensures { result ≡ shader_rule fault.now }
 {
-    RuleName {
-        family: Family::S,
-        number: fault.number,
-    }
+    RuleName::new(Family::Check(Stage::S), fault.number)
 }
 
 /// The name of the rule that refuses a level, as `U7` or `V2`.
@@ -61,18 +56,9 @@ pub fn level_rule(fault: &LevelFault) -> RuleName
     ensures { result ≡ level_rule fault.now }
 {
     match fault {
-        LevelFault::Texture(number) => RuleName {
-            family: Family::U,
-            number: *number,
-        },
-        LevelFault::Face => RuleName {
-            family: Family::V,
-            number: 1,
-        },
-        LevelFault::Level => RuleName {
-            family: Family::V,
-            number: 2,
-        },
+        LevelFault::Texture(number) => RuleName::new(Family::Check(Stage::U), *number),
+        LevelFault::Face => RuleName::new(Family::V, 1),
+        LevelFault::Level => RuleName::new(Family::V, 2),
     }
 }
 

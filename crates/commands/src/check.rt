@@ -1,5 +1,5 @@
 //! The command `check`.
-ghost use Rattle.std.specs.Prelude.{◌≡◌, ◌<◌, ◌∷◌, [], ◌++◌, length, map, IfOk, IsOk};
+ghost use Rattle.std.specs.Prelude.{◌≡◌, ◌<◌, ◌∷◌, [], ◌++◌, length, map, Some, IfOk, IsOk};
 ghost use Rattle.field_words.specs.Sizes.{most_memory};
 ghost use Rattle.field_words.specs.Questions.{Answers};
 ghost use Rattle.job_format.specs.File.{IsWellFormed, IsFileOf};
@@ -9,8 +9,8 @@ ghost use Rattle.job_check.specs.Emit.{content_parts};
 ghost use Rattle.job_check.specs.Faults.{file_stages};
 ghost use Rattle.job_check.specs.Whole.{all_questions, refusal_of};
 ghost use Rattle.dumper.specs.Parts.{part_at, sorted, Ascend};
-ghost use Rattle.dumper.specs.Spans.{parts_of};
-ghost use Rattle.commands.specs.Answer.{image_of, IsCheckAnswer, IsVerdict};
+ghost use Rattle.dumper.specs.{Spans.parts_of, Text.refused_text};
+ghost use Rattle.commands.specs.Verdict.{image_of, IsCheckAnswer, IsVerdict};
 ghost use Rattle.commands.specs.Image.{IsAccepted};
 ghost use Rattle.commands.specs.Cause.{IsRuleCause};
 ghost use Rattle.commands.specs.Reply.{image_text, reply_status, reply_cause, IsReplyOf, IsReplyReady};
@@ -116,6 +116,15 @@ fn image_of<'a>(alloc: Global, accepted: Accepted<'a>) -> Result<Image<'a>, NoMe
     Ok(Image { head, spans })
 }
 
+/// The answer to these bytes where this rule is the first that stands.
+pub(crate) fn refused(alloc: Global, bytes: &[u8], refusal: Refusal) -> Result<Answer, NoMemory>
+    ensures { IfOk result (λ a. (a.status ≡ 1) × (a.text.items ≡ refused_text refusal) × IsRuleCause bytes.now (Some refusal) a.cause) }
+{
+    let text = refusal_text(alloc, &refusal)?;
+    let line = line_of(bytes, refusal);
+    Ok(Answer::refused(text, Some(Cause::Rule(line))))
+}
+
 /// What `check` answers to these bytes: the memory of an accepted file, or a refusal.
 #[tactic(auto, unfolding(job_check::specs::Whole::refusal_of), using(field_words::proofs::Questions::first_is))]
 pub fn check_answer(alloc: Global, bytes: &[u8]) -> Result<Reply<'_>, NoMemory>
@@ -126,11 +135,7 @@ pub fn check_answer(alloc: Global, bytes: &[u8]) -> Result<Reply<'_>, NoMemory>
 {
     match accept(alloc, bytes) {
         Ok(accepted) => Ok(Reply::Image(image_of(alloc, accepted)?)),
-        Err(Stop::Fault(refusal)) => {
-            let text = refusal_text(alloc, &refusal)?;
-            let line = line_of(bytes, refusal);
-            Ok(Reply::Text(Answer::refused(text, Some(Cause::Rule(line)))))
-        }
+        Err(Stop::Fault(refusal)) => Ok(Reply::Text(refused(alloc, bytes, refusal)?)),
         Err(Stop::NoMemory) => Err(NoMemory),
     }
 }

@@ -71,13 +71,6 @@ impl Command {
         ensures most { result ≤ most_file }
     {
         match self {
-            Command::Check
-            | Command::Runs(_)
-            | Command::Drawn
-            | Command::Upgrade
-            | Command::Bound
-            | Command::Show
-            | Command::FromText => MOST_FILE,
             Command::Untile(_) | Command::Tile(_) | Command::Level(_) => MOST_PICTURE,
             Command::Shader => MOST_CODE as usize,
             Command::Asm
@@ -86,6 +79,7 @@ impl Command {
             | Command::Slots(_)
             | Command::Queue(_)
             | Command::Session => MOST_LIST as usize,
+            _ => MOST_FILE,
         }
     }
 }

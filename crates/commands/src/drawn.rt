@@ -1,18 +1,14 @@
 //! The command `picture`.
 ghost use Rattle.std.specs.Prelude.{◌≡◌, ◌<◌, IfOk};
 ghost use Rattle.job_check.specs.Whole.{refusal_of};
-ghost use Rattle.commands.specs.Cause.{IsRuleCause};
-ghost use Rattle.commands.specs.Drawn.{picture_of, IsDrawnAnswer};
+ghost use Rattle.commands.specs.{Cause.IsRuleCause, Verdict.picture_of, Verdict.IsDrawnAnswer};
 ghost use Rattle.job_format.specs.Parts.{parts_view};
 ghost use Rattle.pictures.specs.Forest.{forest_text};
 
 use super::answer::Answer;
-use super::cause::Cause;
-use super::check::{Accepted, accept};
-use dumper::refusal_text;
+use super::check::{Accepted, accept, refused};
 use field_words::{NoMemory, Stop};
 use pictures::memory_picture;
-use rule_words::line_of;
 use std::alloc::Global;
 
 // The picture of an accepted file's memory.
@@ -35,11 +31,7 @@ pub fn drawn_answer(alloc: Global, bytes: &[u8]) -> Result<Answer, NoMemory>
             let text = picture_of(alloc, &accepted)?;
             Ok(Answer::done(text))
         }
-        Err(Stop::Fault(refusal)) => {
-            let text = refusal_text(alloc, &refusal)?;
-            let line = line_of(bytes, refusal);
-            Ok(Answer::refused(text, Some(Cause::Rule(line))))
-        }
+        Err(Stop::Fault(refusal)) => refused(alloc, bytes, refusal),
         Err(Stop::NoMemory) => Err(NoMemory),
     }
 }

@@ -1,8 +1,7 @@
 //! The command `gen`.
 ghost use Rattle.std.specs.Prelude.{◌≡◌, ◌≢◌, ◌≤◌, ◌<◌, ◌⊎◌, IfOk};
-ghost use Rattle.job_io.specs.Faults.{Rose, LastCallFailed};
 ghost use Rattle.commands.specs.Answer.{text_of, IsExampleAnswer};
-ghost use Rattle.commands.specs.Run.{IsAnswered, IsCut};
+ghost use Rattle.commands.specs.Run.{IsAnswered, IsCut, FailsAt};
 
 use super::answer::{Answer, reply};
 use dumper::example_text;
@@ -37,9 +36,7 @@ fn example_answer(alloc: Global, number: u32) -> Result<Answer, NoMemory>
 /// written. Status 0 is done, 4 is a fault of the sink, and 5 want of memory.
 pub fn make<K: Sink>(alloc: Global, number: u32, sink: &mut K) -> u8
     ensures statuses { (result ≡ 0) ⊎ ((result ≡ 4) ⊎ (result ≡ 5)) }
-    ensures write { result ≡ 4 → Rose (K.faults sink.old) (K.faults sink.new) }
-    ensures write_last { result ≡ 4 → LastCallFailed K.held K.faults sink.old sink.new }
-    ensures steady { result ≢ 4 → K.faults sink.new ≡ K.faults sink.old }
+    ensures write { FailsAt K.held K.faults sink.old sink.new 4 result }
     ensures made { result < 2 → IsAnswered (IsExampleAnswer number) result (K.held sink.old) (K.held sink.new) }
     ensures cut { result ≡ 4 → IsCut (IsExampleAnswer number) (K.held sink.old) (K.held sink.new) }
     ensures nothing { 1 < result → result ≢ 4 → sink.new ≡ sink.old }

@@ -1,9 +1,8 @@
 //! What the program says of itself and of rules: `--help`, `COMMAND --help`, `--version` and `explain`.
 ghost use Rattle.std.specs.Prelude.{◌≡◌, ◌≢◌, ◌≤◌, ◌<◌, ◌⊎◌, ◌++◌, IfOk, OnOk, codes};
 ghost use Rattle.std.specs.List.{flat_map};
-ghost use Rattle.job_io.specs.Faults.{Rose, LastCallFailed};
-ghost use Rattle.commands.specs.Run.{IsAnswered, IsCut};
-ghost use Rattle.commands.specs.Topics.{verb_named, usage_of, about_of, usage_line, verb_help, program_help, topic_text, IsTopicAnswer};
+ghost use Rattle.commands.specs.Run.{IsAnswered, IsCut, FailsAt};
+ghost use Rattle.commands.specs.Topics.{verb_named, usage_row, usage_of, usage_line, verb_help, program_help, topic_text, IsTopicAnswer};
 
 use super::answer::{Answer, reply};
 use field_words::NoMemory;
@@ -219,58 +218,39 @@ pub fn verb_named(word: &str) -> Option<Verb>
 }
 
 impl Verb {
-    /// The command's line, behind the program's name.
-    #[tactic(auto, unfolding(crate::specs::Topics::usage_of))]
-    pub fn usage(self) -> &'static str
-        ensures { result.now ≡ usage_of self }
+    /// The command's line, behind the program's name, and what the command does.
+    #[tactic(auto, unfolding(crate::specs::Topics::usage_row))]
+    fn row(self) -> Usage
+        ensures usage { result.0.now ≡ (usage_row self).0 }
+        ensures about { result.1.now ≡ (usage_row self).1 }
     {
         match self {
-            Verb::Check => CHECK.0,
-            Verb::Replay => REPLAY.0,
-            Verb::Picture => PICTURE.0,
-            Verb::Upgrade => UPGRADE.0,
-            Verb::Bound => BOUND.0,
-            Verb::Show => SHOW.0,
-            Verb::Make => MAKE.0,
-            Verb::Gen => GEN.0,
-            Verb::Slots => SLOTS.0,
-            Verb::Queue => QUEUE.0,
-            Verb::Session => SESSION.0,
-            Verb::Untile => UNTILE.0,
-            Verb::Tile => TILE.0,
-            Verb::Level => LEVEL.0,
-            Verb::Asm => ASM.0,
-            Verb::Disasm => DISASM.0,
-            Verb::Shader => SHADER.0,
-            Verb::Explain => EXPLAIN.0,
+            Verb::Check => CHECK,
+            Verb::Replay => REPLAY,
+            Verb::Picture => PICTURE,
+            Verb::Upgrade => UPGRADE,
+            Verb::Bound => BOUND,
+            Verb::Show => SHOW,
+            Verb::Make => MAKE,
+            Verb::Gen => GEN,
+            Verb::Slots => SLOTS,
+            Verb::Queue => QUEUE,
+            Verb::Session => SESSION,
+            Verb::Untile => UNTILE,
+            Verb::Tile => TILE,
+            Verb::Level => LEVEL,
+            Verb::Asm => ASM,
+            Verb::Disasm => DISASM,
+            Verb::Shader => SHADER,
+            Verb::Explain => EXPLAIN,
         }
     }
 
-    /// What the command does.
-    #[tactic(auto, unfolding(crate::specs::Topics::about_of))]
-    fn about(self) -> &'static str
-        ensures { result.now ≡ about_of self }
+    /// The command's line, behind the program's name.
+    pub fn usage(self) -> &'static str
+        ensures { result.now ≡ usage_of self }
     {
-        match self {
-            Verb::Check => CHECK.1,
-            Verb::Replay => REPLAY.1,
-            Verb::Picture => PICTURE.1,
-            Verb::Upgrade => UPGRADE.1,
-            Verb::Bound => BOUND.1,
-            Verb::Show => SHOW.1,
-            Verb::Make => MAKE.1,
-            Verb::Gen => GEN.1,
-            Verb::Slots => SLOTS.1,
-            Verb::Queue => QUEUE.1,
-            Verb::Session => SESSION.1,
-            Verb::Untile => UNTILE.1,
-            Verb::Tile => TILE.1,
-            Verb::Level => LEVEL.1,
-            Verb::Asm => ASM.1,
-            Verb::Disasm => DISASM.1,
-            Verb::Shader => SHADER.1,
-            Verb::Explain => EXPLAIN.1,
-        }
+        self.row().0
     }
 }
 
@@ -278,8 +258,7 @@ impl Verb {
 fn verb_help(alloc: Global, verb: Verb) -> Result<Vec<u8>, AllocError>
     ensures { IfOk result (λ text. text.items ≡ verb_help verb) }
 {
-    let usage = verb.usage();
-    let about = verb.about();
+    let (usage, about) = verb.row();
     Ok(format!(in alloc; "vc4check {usage}\n{about}\n")?.into_bytes())
 }
 
@@ -334,9 +313,7 @@ fn topic_text(alloc: Global, topic: Topic) -> Result<Vec<u8>, AllocError>
 /// fault of the sink, and 5 want of memory.
 pub fn tell<K: Sink>(alloc: Global, topic: Topic, sink: &mut K) -> u8
     ensures statuses { (result ≡ 0) ⊎ ((result ≡ 4) ⊎ (result ≡ 5)) }
-    ensures write { result ≡ 4 → Rose (K.faults sink.old) (K.faults sink.new) }
-    ensures write_last { result ≡ 4 → LastCallFailed K.held K.faults sink.old sink.new }
-    ensures steady { result ≢ 4 → K.faults sink.new ≡ K.faults sink.old }
+    ensures write { FailsAt K.held K.faults sink.old sink.new 4 result }
     ensures told { result < 2 → IsAnswered (IsTopicAnswer topic) result (K.held sink.old) (K.held sink.new) }
     ensures cut { result ≡ 4 → IsCut (IsTopicAnswer topic) (K.held sink.old) (K.held sink.new) }
     ensures nothing { 1 < result → result ≢ 4 → sink.new ≡ sink.old }

@@ -1,5 +1,5 @@
 //! The command `shader`: one shader, checked without a job.
-ghost use Rattle.std.specs.Prelude.{◌≡◌, ◌≤◌, ◌<◌, ◌++◌, length, IfOk, OnOk};
+ghost use Rattle.std.specs.Prelude.{◌≡◌, ◌≤◌, ◌<◌, ◌++◌, length, option_map, Some, IfOk, OnOk};
 ghost use Rattle.std.specs.Fmt.{decimal};
 ghost use Rattle.std.specs.List.{flat_map};
 ghost use Rattle.field_words.specs.Questions.{Answers, first_of};
@@ -8,16 +8,17 @@ ghost use Rattle.job_check.specs.Shaders.{code_questions, told_of};
 ghost use Rattle.qpu_asm.specs.Assembly.{Assembled};
 ghost use Rattle.qpu_isa.specs.Shader.{shader_view};
 ghost use Rattle.shader_check.specs.Rules.{shader_questions};
-ghost use Rattle.commands.specs.Cause.{shader_cause, words_cause, text_cause};
+ghost use Rattle.commands.specs.Cause.{words_cause, text_cause};
+ghost use Rattle.commands.specs.declared.cause.Cause.TheVariants.{Shader};
 ghost use Rattle.commands.specs.LoneShader.{position_text, sample_line, address_line, thread_count, head_text, shader_text, shader_refusal, long_text, IsShaderAnswer, IsWordsAnswer, IsShaderTextAnswer};
 
 use super::answer::Answer;
 use super::cause::Cause;
-use super::shader_text::fault_text;
+use super::shader_text::text_refused;
 use field_words::{MOST_WORDS, NoMemory, Stop};
 use itoa::Buffer;
 use job_check::shader_in;
-use qpu_asm::{assemble, fault_place};
+use qpu_asm::assemble;
 use qpu_isa::{Sample, ShaderInfo};
 use shader_check::{ShaderFault, check_code};
 use std::alloc::{AllocError, Global};
@@ -112,13 +113,14 @@ fn shader_text(alloc: Global, info: &ShaderInfo) -> Result<Vec<u8>, AllocError>
     Ok(text)
 }
 
+// The answer where this rule is the first that stands.
 #[tactic(auto, unfolding(crate::specs::LoneShader::shader_refusal))]
-fn shader_refusal(alloc: Global, fault: &ShaderFault) -> Result<Vec<u8>, AllocError>
-    ensures { IfOk result (λ text. text.items ≡ shader_refusal fault.now) }
+fn shader_refused(alloc: Global, fault: ShaderFault) -> Result<Answer, NoMemory>
+    ensures { IfOk result (λ a. (a.status ≡ 1) × (a.text.items ≡ shader_refusal fault) × (a.cause ≡ Some (Shader fault))) }
 {
-    let number = fault.number;
-    let index = fault.index;
-    Ok(format!(in alloc; "refused S{number} at instruction {index}\n")?.into_bytes())
+    let ShaderFault { number, index } = fault;
+    let text = format!(in alloc; "refused S{number} at instruction {index}\n")?.into_bytes();
+    Ok(Answer::refused(text, Some(Cause::Shader(fault))))
 }
 
 #[tactic(auto, unfolding(crate::specs::LoneShader::long_text))]
@@ -134,17 +136,11 @@ pub fn shader_answer(alloc: Global, bytes: &[u8]) -> Result<Answer, NoMemory>
     requires { length bytes.now ≤ most_code }
     ensures answers { IfOk result (λ a. IsShaderAnswer bytes.now a.status a.text.items) }
     ensures status { IfOk result (λ a. a.status < 2) }
-    ensures cause { IfOk result (λ a. a.cause ≡ shader_cause (first_of (code_questions bytes.now))) }
+    ensures cause { IfOk result (λ a. a.cause ≡ option_map Shader (first_of (code_questions bytes.now))) }
 {
     match shader_in(alloc, bytes) {
-        Ok(info) => {
-            let text = shader_text(alloc, &info)?;
-            Ok(Answer::done(text))
-        }
-        Err(Stop::Fault(fault)) => {
-            let text = shader_refusal(alloc, &fault)?;
-            Ok(Answer::refused(text, Some(Cause::Shader(fault))))
-        }
+        Ok(info) => Ok(Answer::done(shader_text(alloc, &info)?)),
+        Err(Stop::Fault(fault)) => shader_refused(alloc, fault),
         Err(Stop::NoMemory) => Err(NoMemory),
     }
 }
@@ -171,14 +167,8 @@ fn words_answer(alloc: Global, code: &[u64]) -> Result<Answer, NoMemory>
         return Ok(Answer::refused(text, Some(Cause::Long(count))));
     }
     match checked(alloc, code) {
-        Ok(info) => {
-            let text = shader_text(alloc, &info)?;
-            Ok(Answer::done(text))
-        }
-        Err(Stop::Fault(fault)) => {
-            let text = shader_refusal(alloc, &fault)?;
-            Ok(Answer::refused(text, Some(Cause::Shader(fault))))
-        }
+        Ok(info) => Ok(Answer::done(shader_text(alloc, &info)?)),
+        Err(Stop::Fault(fault)) => shader_refused(alloc, fault),
         Err(Stop::NoMemory) => Err(NoMemory),
     }
 }
@@ -193,11 +183,7 @@ pub fn shader_text_answer(alloc: Global, text: &[u8]) -> Result<Answer, NoMemory
 {
     match assemble(alloc, text) {
         Ok(words) => words_answer(alloc, &words),
-        Err(Stop::Fault(fault)) => {
-            let out = fault_text(alloc, &fault)?;
-            let place = fault_place(alloc, text, fault)?;
-            Ok(Answer::refused(out, Some(Cause::Kind(fault, place))))
-        }
+        Err(Stop::Fault(fault)) => text_refused(alloc, text, fault),
         Err(Stop::NoMemory) => Err(NoMemory),
     }
 }

@@ -1,4 +1,6 @@
 //! The program over any source and sink, for `main`.
+ghost use Rattle.commands.specs.Run.{IsRunWithCause, Promises};
+
 use super::cause::Cause;
 use super::notice::notice_of;
 use super::runs::run_with_cause;
@@ -12,6 +14,10 @@ pub struct Checker;
 
 impl Program for Checker {
     type Cause = Cause;
+
+    ghost does = { λ X Y. IsRunWithCause {X = X} {Y = Y} };
+
+    ghost promises = { Promises };
 
     fn name(&self) -> &'static str {
         "vc4check"
@@ -34,4 +40,7 @@ impl Program for Checker {
     fn notice(&self, status: u8) -> Option<&'static str> {
         notice_of(status)
     }
+
+    #[tactic(auto, using(crate::proofs::Promised::promises))]
+    fn promised(&self) {}
 }

@@ -1,15 +1,12 @@
 //! The command `replay`.
 ghost use Rattle.std.specs.Prelude.{◌≡◌, ◌<◌, IfOk};
 ghost use Rattle.job_check.specs.Whole.{refusal_of};
-ghost use Rattle.commands.specs.Cause.{IsRuleCause};
-ghost use Rattle.commands.specs.Replay.{IsTrialVerdict, IsTrialAnswer};
+ghost use Rattle.commands.specs.{Cause.IsRuleCause, Verdict.IsTrialAnswer};
 ghost use Rattle.seeded_runs.specs.Told.{IsTrialWithin};
 
 use super::answer::Answer;
-use super::cause::Cause;
-use dumper::refusal_text;
+use super::check::refused;
 use field_words::{NoMemory, Stop};
-use rule_words::line_of;
 use seeded_runs::{Trial, told_text};
 use std::alloc::Global;
 
@@ -23,11 +20,7 @@ pub fn trial_answer(alloc: Global, trial: Trial, bytes: &[u8]) -> Result<Answer,
 {
     match told_text(alloc, trial, bytes) {
         Ok(text) => Ok(Answer::done(text)),
-        Err(Stop::Fault(refusal)) => {
-            let text = refusal_text(alloc, &refusal)?;
-            let line = line_of(bytes, refusal);
-            Ok(Answer::refused(text, Some(Cause::Rule(line))))
-        }
+        Err(Stop::Fault(refusal)) => refused(alloc, bytes, refusal),
         Err(Stop::NoMemory) => Err(NoMemory),
     }
 }

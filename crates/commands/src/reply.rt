@@ -8,6 +8,7 @@ ghost use Rattle.dumper.specs.Text.{row_size};
 ghost use Rattle.dumper.specs.Parts.{part_at, part_end, part_text, parts_text, Ascend};
 ghost use Rattle.dumper.specs.Spans.{parts_of};
 ghost use Rattle.commands.specs.Reply.{rest_text, reply_status, reply_text, reply_cause, IsReplyReady};
+ghost use Rattle.commands.specs.Run.{FailsAt};
 
 use super::answer::{Answer, reply};
 use super::cause::Cause;
@@ -122,9 +123,7 @@ pub fn print<K: Sink>(sink: &mut K, given: Reply) -> u8
     ensures failing { result ≤ 4 }
     ensures written { result ≢ 4 → Appends (K.held sink.old) (K.held sink.new) (reply_text given.entry) }
     ensures cut { result ≡ 4 → AppendsFront (K.held sink.old) (K.held sink.new) (reply_text given.entry) }
-    ensures failed { result ≡ 4 → Rose (K.faults sink.old) (K.faults sink.new) }
-    ensures last { result ≡ 4 → LastCallFailed K.held K.faults sink.old sink.new }
-    ensures steady { result ≢ 4 → K.faults sink.new ≡ K.faults sink.old }
+    ensures write { FailsAt K.held K.faults sink.old sink.new 4 result }
 {
     match given {
         Reply::Text(answer) => reply(sink, &answer),

@@ -1,22 +1,24 @@
 //! Commands that answer scripts: `slots`, `queue` and `session`.
-ghost use Rattle.std.specs.Prelude.{◌≡◌, ◌≤◌, ◌<◌, length, IfOk};
+ghost use Rattle.std.specs.Prelude.{◌≡◌, ◌≤◌, ◌<◌, length, option_map, Some, IfOk};
 ghost use Rattle.field_words.specs.Sizes.{most_list};
 ghost use Rattle.overflow_slots.specs.Calls.{fault_line as slots_fault};
 ghost use Rattle.job_queue.specs.Calls.{fault_line as queue_fault};
 ghost use Rattle.job_session.specs.Calls.{fault_line as session_fault};
-ghost use Rattle.commands.specs.Cause.{call_cause};
+ghost use Rattle.commands.specs.declared.cause.Cause.TheVariants.{Call};
 ghost use Rattle.commands.specs.Scripts.{malformed_text, IsSlotsAnswer, IsQueueAnswer, IsSessionAnswer};
 
 use super::answer::Answer;
 use super::cause::Cause;
 use field_words::{NoMemory, Stop};
-use std::alloc::{AllocError, Global};
+use std::alloc::Global;
 
+// The answer to a script of which this line is the first that is no call.
 #[tactic(auto, unfolding(crate::specs::Scripts::malformed_text))]
-fn malformed_text(alloc: Global, line: u32) -> Result<Vec<u8>, AllocError>
-    ensures { IfOk result (λ text. text.items ≡ malformed_text line) }
+fn malformed(alloc: Global, line: u32) -> Result<Answer, NoMemory>
+    ensures { IfOk result (λ a. (a.status ≡ 1) × (a.text.items ≡ malformed_text line) × (a.cause ≡ Some (Call line))) }
 {
-    Ok(format!(in alloc; "line {line} fault 1\n")?.into_bytes())
+    let text = format!(in alloc; "line {line} fault 1\n")?.into_bytes();
+    Ok(Answer::refused(text, Some(Cause::Call(line))))
 }
 
 /// What `slots` answers to a script on so many slots: a line for each call, or its first malformed line.
@@ -26,14 +28,11 @@ pub fn slots_answer(alloc: Global, slots: u32, text: &[u8]) -> Result<Answer, No
     requires small { length text.now ≤ most_list }
     ensures answers { IfOk result (λ a. IsSlotsAnswer slots text.now a.status a.text.items) }
     ensures status { IfOk result (λ a. a.status < 2) }
-    ensures cause { IfOk result (λ a. a.cause ≡ call_cause (slots_fault text.now)) }
+    ensures cause { IfOk result (λ a. a.cause ≡ option_map Call (slots_fault text.now)) }
 {
     match overflow_slots::script(alloc, slots, text) {
         Ok(text) => Ok(Answer::done(text)),
-        Err(Stop::Fault(line)) => {
-            let text = malformed_text(alloc, line)?;
-            Ok(Answer::refused(text, Some(Cause::Call(line))))
-        }
+        Err(Stop::Fault(line)) => malformed(alloc, line),
         Err(Stop::NoMemory) => Err(NoMemory),
     }
 }
@@ -44,14 +43,11 @@ pub fn queue_answer(alloc: Global, buffers: u32, text: &[u8]) -> Result<Answer, 
     requires small { length text.now ≤ most_list }
     ensures answers { IfOk result (λ a. IsQueueAnswer buffers text.now a.status a.text.items) }
     ensures status { IfOk result (λ a. a.status < 2) }
-    ensures cause { IfOk result (λ a. a.cause ≡ call_cause (queue_fault text.now)) }
+    ensures cause { IfOk result (λ a. a.cause ≡ option_map Call (queue_fault text.now)) }
 {
     match job_queue::script(alloc, buffers, text) {
         Ok(text) => Ok(Answer::done(text)),
-        Err(Stop::Fault(line)) => {
-            let text = malformed_text(alloc, line)?;
-            Ok(Answer::refused(text, Some(Cause::Call(line))))
-        }
+        Err(Stop::Fault(line)) => malformed(alloc, line),
         Err(Stop::NoMemory) => Err(NoMemory),
     }
 }
@@ -61,14 +57,11 @@ pub fn session_answer(alloc: Global, text: &[u8]) -> Result<Answer, NoMemory>
     requires { length text.now ≤ most_list }
     ensures answers { IfOk result (λ a. IsSessionAnswer text.now a.status a.text.items) }
     ensures status { IfOk result (λ a. a.status < 2) }
-    ensures cause { IfOk result (λ a. a.cause ≡ call_cause (session_fault text.now)) }
+    ensures cause { IfOk result (λ a. a.cause ≡ option_map Call (session_fault text.now)) }
 {
     match job_session::script(alloc, text) {
         Ok(text) => Ok(Answer::done(text)),
-        Err(Stop::Fault(line)) => {
-            let text = malformed_text(alloc, line)?;
-            Ok(Answer::refused(text, Some(Cause::Call(line))))
-        }
+        Err(Stop::Fault(line)) => malformed(alloc, line),
         Err(Stop::NoMemory) => Err(NoMemory),
     }
 }

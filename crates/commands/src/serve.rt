@@ -1,12 +1,12 @@
 //! A command from its input to its text in the sink.
 ghost use Rattle.std.specs.Prelude.{◌≡◌, ◌≢◌, ◌≤◌, ◌<◌, ◌⊎◌, ◌↔◌, None, length, IfOk, IfSome};
 ghost use Rattle.std.specs.Io.KnownBytes.{IsAtEnd};
-ghost use Rattle.job_io.specs.Faults.{Rose, LastCallFailed};
+ghost use Rattle.job_io.specs.Faults.{Rose};
 ghost use Rattle.job_io.specs.Traffic.{count_taken};
 ghost use Rattle.commands.specs.Answer.{IsAnswer};
 ghost use Rattle.commands.specs.Cause.{IsCause};
 ghost use Rattle.commands.specs.Reply.{reply_status, reply_cause, IsReplyOf, IsReplyReady};
-ghost use Rattle.commands.specs.Run.{IsAnswered, IsCut};
+ghost use Rattle.commands.specs.Run.{IsAnswered, IsCut, FailsAt};
 ghost use Rattle.commands.specs.Words.{limit_of, IsWithin};
 
 use super::bounded::bound_answer;
@@ -77,9 +77,7 @@ fn respond<K: Sink>(alloc: Global, command: Command, bytes: &[u8], sink: &mut K)
     requires within { IsWithin command }
     ensures statuses { (result.status < 2) ⊎ ((result.status ≡ 4) ⊎ (result.status ≡ 5)) }
     ensures short { result.status ≢ 6 }
-    ensures write { result.status ≡ 4 → Rose (K.faults sink.old) (K.faults sink.new) }
-    ensures write_last { result.status ≡ 4 → LastCallFailed K.held K.faults sink.old sink.new }
-    ensures steady { result.status ≢ 4 → K.faults sink.new ≡ K.faults sink.old }
+    ensures write { FailsAt K.held K.faults sink.old sink.new 4 result.status }
     ensures answered { result.status < 2 → IsAnswered (IsAnswer command bytes.now) result.status (K.held sink.old) (K.held sink.new) }
     ensures cut { result.status ≡ 4 → IsCut (IsAnswer command bytes.now) (K.held sink.old) (K.held sink.new) }
     ensures nothing { 1 < result.status → result.status ≢ 4 → sink.new ≡ sink.old }
@@ -107,12 +105,8 @@ pub fn serve<S: Source, K: Sink>(
     requires { IsWithin command }
     ensures statuses { result.status ≤ 6 }
     ensures asked { result.status ≢ 2 }
-    ensures read { result.status ≡ 3 → Rose (S.faults source.old) (S.faults source.new) }
-    ensures read_last { result.status ≡ 3 → LastCallFailed S.left S.faults source.old source.new }
-    ensures write { result.status ≡ 4 → Rose (K.faults sink.old) (K.faults sink.new) }
-    ensures write_last { result.status ≡ 4 → LastCallFailed K.held K.faults sink.old sink.new }
-    ensures source_steady { result.status ≢ 3 → S.faults source.new ≡ S.faults source.old }
-    ensures sink_steady { result.status ≢ 4 → K.faults sink.new ≡ K.faults sink.old }
+    ensures read { FailsAt S.left S.faults source.old source.new 3 result.status }
+    ensures write { FailsAt K.held K.faults sink.old sink.new 4 result.status }
     ensures all { ((result.status < 2) ⊎ (result.status ≡ 4)) → IsAtEnd (S.left source.new) }
     ensures long { IfSome (S.left source.old) (λ _. (result.status ≡ 6) ↔
         (limit_of command < count_taken (S.left source.old) (S.left source.new))) }

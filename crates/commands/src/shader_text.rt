@@ -1,7 +1,8 @@
 //! The commands `asm` and `disasm`.
-ghost use Rattle.std.specs.Prelude.{◌≡◌, ◌≤◌, ◌<◌, length, IfOk};
+ghost use Rattle.std.specs.Prelude.{◌≡◌, ◌≤◌, ◌<◌, length, Some, IfOk};
 ghost use Rattle.field_words.specs.Sizes.{most_list};
-ghost use Rattle.qpu_asm.specs.Assembly.{Assembled};
+ghost use Rattle.qpu_asm.specs.{Assembly.Assembled, Place.fault_place};
+ghost use Rattle.commands.specs.declared.cause.Cause.TheVariants.{Kind};
 ghost use Rattle.commands.specs.Cause.{kind_cause, part_cause};
 ghost use Rattle.commands.specs.Shader.{fault_text, length_text, bytes_of, IsAsmAnswer, IsDisasmAnswer};
 
@@ -13,14 +14,16 @@ use job_check::words_of;
 use qpu_asm::{AsmFault, assemble, disassemble, fault_place};
 use std::alloc::{AllocError, Global};
 
-/// A line for the first fault of a text.
+/// The answer to a text whose first fault this is.
 #[tactic(auto, unfolding(crate::specs::Shader::fault_text))]
-pub fn fault_text(alloc: Global, fault: &AsmFault) -> Result<Vec<u8>, AllocError>
-    ensures { IfOk result (λ text. text.items ≡ fault_text fault.now) }
+pub(crate) fn text_refused(alloc: Global, text: &[u8], fault: AsmFault) -> Result<Answer, NoMemory>
+    requires { length text.now ≤ most_list }
+    ensures { IfOk result (λ a. (a.status ≡ 1) × (a.text.items ≡ fault_text fault) × (a.cause ≡ Some (Kind fault (fault_place text.now fault)))) }
 {
-    let line = fault.line;
-    let kind = fault.kind;
-    Ok(format!(in alloc; "line {line} fault {kind}\n")?.into_bytes())
+    let AsmFault { line, kind } = fault;
+    let out = format!(in alloc; "line {line} fault {kind}\n")?.into_bytes();
+    let place = fault_place(alloc, text, fault)?;
+    Ok(Answer::refused(out, Some(Cause::Kind(fault, place))))
 }
 
 #[tactic(auto, unfolding(crate::specs::Shader::length_text))]
@@ -49,12 +52,7 @@ pub fn asm_answer(alloc: Global, text: &[u8]) -> Result<Answer, NoMemory>
 {
     match assemble(alloc, text) {
         Ok(words) => Ok(Answer::done(bytes_of(alloc, &words)?)),
-        Err(Stop::Fault(fault)) => {
-            let out = fault_text(alloc, &fault)?;
-            let place = fault_place(alloc, text, fault)?;
-            let cause = Cause::Kind(fault, place);
-            Ok(Answer::refused(out, Some(cause)))
-        }
+        Err(Stop::Fault(fault)) => text_refused(alloc, text, fault),
         Err(Stop::NoMemory) => Err(NoMemory),
     }
 }

@@ -1,11 +1,11 @@
 //! Commands on pictures: `untile`, `tile` and `level`.
-ghost use Rattle.std.specs.Prelude.{◌≡◌, ◌≤◌, ◌<◌, ◌^◌, ◌*◌, length, Some, None, IfOk, IfSome};
+ghost use Rattle.std.specs.Prelude.{◌≡◌, ◌≤◌, ◌<◌, ◌^◌, ◌*◌, length, option_map, Some, None, IfOk, IfSome};
 ghost use Rattle.script.specs.Number.{number_within};
 ghost use Rattle.texture_layouts.specs.Surface.{IsPixelSize, size_for};
 ghost use Rattle.commands.specs.Pictures.{tiling_named, pixel_by, IsPictureWithin};
 ghost use Rattle.commands.specs.Pictures.{length_wanted_text, level_refusal, IsUntileAnswer, IsTileAnswer, IsLevelAnswer};
-ghost use Rattle.commands.specs.Cause.{size_cause, level_cause, level_fault};
-ghost use Rattle.commands.specs.declared.cause.Cause.TheVariants.{Size};
+ghost use Rattle.commands.specs.Cause.{size_cause, level_rule, level_fault};
+ghost use Rattle.commands.specs.declared.cause.Cause.TheVariants.{Level, Size};
 
 use super::answer::Answer;
 use super::cause::{Cause, level_rule};
@@ -92,13 +92,8 @@ pub fn untile_answer(alloc: Global, picture: Picture, bytes: &[u8]) -> Result<An
     ensures status { IfOk result (λ a. a.status < 2) }
     ensures cause { IfOk result (λ a. a.cause ≡ size_cause (length bytes.now) (size_for picture.tiling picture.width picture.height picture.cpp)) }
 {
-    let Picture {
-        tiling,
-        cpp,
-        width,
-        height,
-    } = picture;
-    match untile(alloc, tiling, width, height, cpp, bytes) {
+    let p = picture;
+    match untile(alloc, p.tiling, p.width, p.height, p.cpp, bytes) {
         Ok(pixels) => Ok(Answer::done(pixels)),
         Err(Stop::Fault(wanted)) => size_refusal(alloc, bytes.len(), wanted),
         Err(Stop::NoMemory) => Err(NoMemory),
@@ -112,13 +107,8 @@ pub fn tile_answer(alloc: Global, picture: Picture, bytes: &[u8]) -> Result<Answ
     ensures status { IfOk result (λ a. a.status < 2) }
     ensures cause { IfOk result (λ a. a.cause ≡ size_cause (length bytes.now) (picture.width * picture.height * picture.cpp)) }
 {
-    let Picture {
-        tiling,
-        cpp,
-        width,
-        height,
-    } = picture;
-    match tile(alloc, tiling, width, height, cpp, bytes) {
+    let p = picture;
+    match tile(alloc, p.tiling, p.width, p.height, p.cpp, bytes) {
         Ok(surface) => Ok(Answer::done(surface)),
         Err(Stop::Fault(wanted)) => size_refusal(alloc, bytes.len(), wanted),
         Err(Stop::NoMemory) => Err(NoMemory),
@@ -130,7 +120,7 @@ pub fn level_answer(alloc: Global, part: TexturePart, bytes: &[u8]) -> Result<An
     requires { length bytes.now < 2 ^ 32 }
     ensures answers { IfOk result (λ a. IsLevelAnswer part bytes.now a.status a.text.items) }
     ensures status { IfOk result (λ a. a.status < 2) }
-    ensures cause { IfOk result (λ a. a.cause ≡ level_cause (level_fault part bytes.now)) }
+    ensures cause { IfOk result (λ a. a.cause ≡ option_map (λ fault. Level (level_rule fault)) (level_fault part bytes.now)) }
 {
     match extract(alloc, part.setup, bytes, part.face, part.level) {
         Ok(text) => Ok(Answer::done(text)),

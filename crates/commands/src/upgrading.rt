@@ -4,16 +4,13 @@ ghost use Rattle.field_words.specs.Questions.{Answers, first_of};
 ghost use Rattle.job_format.specs.File.{IsFileOf, upgraded};
 ghost use Rattle.job_format.specs.Reading.{file_at};
 ghost use Rattle.job_format.specs.Text.{file_text};
-ghost use Rattle.commands.specs.Cause.{IsRuleCause};
-ghost use Rattle.commands.specs.Upgrade.{format_rules, IsUpgradeAnswer};
+ghost use Rattle.commands.specs.{Cause.IsRuleCause, Upgrade.format_rules, Verdict.IsUpgradeAnswer};
 
 use super::answer::Answer;
-use super::cause::Cause;
-use dumper::refusal_text;
+use super::check::refused;
 use field_words::{NoMemory, Stop};
 use job_check::format_refusal;
 use job_format::{Refusal, read_job, upgrade_file, write_job};
-use rule_words::line_of;
 use std::alloc::Global;
 
 // The same file as version 2.
@@ -36,11 +33,7 @@ pub fn upgrade_answer(alloc: Global, bytes: &[u8]) -> Result<Answer, NoMemory>
 {
     match upgraded(alloc, bytes) {
         Ok(text) => Ok(Answer::done(text)),
-        Err(Stop::Fault(refusal)) => {
-            let text = refusal_text(alloc, &refusal)?;
-            let line = line_of(bytes, refusal);
-            Ok(Answer::refused(text, Some(Cause::Rule(line))))
-        }
+        Err(Stop::Fault(refusal)) => refused(alloc, bytes, refusal),
         Err(Stop::NoMemory) => Err(NoMemory),
     }
 }

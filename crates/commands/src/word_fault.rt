@@ -1,6 +1,6 @@
 //! Which of the words is wrong, where they ask for nothing that the program does.
 ghost use Rattle.std.specs.Prelude.{◌≡◌, ◌≤◌, ◌<◌, ◌+◌, ◌++◌, Some, codes};
-ghost use Rattle.commands.specs.WordFault.{values_of, argument_name, values_text, argument_text, surplus_text, word_fault_text};
+ghost use Rattle.commands.specs.WordFault.{argument_row, values_of, values_text, argument_text, surplus_text, word_fault_text};
 
 use super::help::Verb;
 use std::fmt;
@@ -84,57 +84,39 @@ const COMMANDS: &str =
     "check, replay, picture, upgrade, bound, show, make, gen, slots, queue, session, untile, tile, level, asm, disasm, shader or explain; vc4check --help says more";
 
 impl Argument {
+    /// What the usage calls it, and what it may be.
+    fn row(self) -> (&'static str, Values)
+        ensures name { result.0.now ≡ (argument_row self).0 }
+        ensures values { result.1 ≡ values_of self }
+    {
+        match self {
+            Argument::Steps => ("STEPS", Values::Number(0, MOST_STEPS)),
+            Argument::Seed => ("SEED", Values::SeedNumber),
+            Argument::Example => ("NUMBER", Values::Number(0, u32::MAX)),
+            Argument::SlotCount => ("SLOTS", Values::Number(1, MOST_SLOTS)),
+            Argument::Buffers => ("BUFFERS", Values::Number(0, MOST_QUEUED)),
+            Argument::PictureTiling => ("TILING", Values::Tiling),
+            Argument::Cpp => ("CPP", Values::Pixel),
+            Argument::Width => ("WIDTH", Values::Number(1, MOST_SIDE)),
+            Argument::Height => ("HEIGHT", Values::Number(1, MOST_SIDE)),
+            Argument::P0 => ("P0", Values::Number(0, u32::MAX)),
+            Argument::P1 => ("P1", Values::Number(0, u32::MAX)),
+            Argument::P2 => ("P2", Values::Number(0, u32::MAX)),
+            Argument::P3 => ("P3", Values::Number(0, u32::MAX)),
+            Argument::Face => ("FACE", Values::Number(0, u32::MAX)),
+            Argument::LevelNumber => ("LEVEL", Values::Number(0, u32::MAX)),
+            Argument::Rule => ("RULE", Values::RuleName),
+            Argument::Kind => ("RULE", Values::KindNumber),
+            Argument::Favoured => ("KIND", Values::UnitName),
+            Argument::SeedNumbers => ("A..B", Values::Seeds),
+        }
+    }
+
     /// What the argument may be.
     pub fn values(self) -> Values
         ensures { result ≡ values_of self }
     {
-        match self {
-            Argument::Steps => Values::Number(0, MOST_STEPS),
-            Argument::Seed => Values::SeedNumber,
-            Argument::SlotCount => Values::Number(1, MOST_SLOTS),
-            Argument::Buffers => Values::Number(0, MOST_QUEUED),
-            Argument::PictureTiling => Values::Tiling,
-            Argument::Cpp => Values::Pixel,
-            Argument::Width | Argument::Height => Values::Number(1, MOST_SIDE),
-            Argument::Example
-            | Argument::P0
-            | Argument::P1
-            | Argument::P2
-            | Argument::P3
-            | Argument::Face
-            | Argument::LevelNumber => Values::Number(0, u32::MAX),
-            Argument::Rule => Values::RuleName,
-            Argument::Kind => Values::KindNumber,
-            Argument::Favoured => Values::UnitName,
-            Argument::SeedNumbers => Values::Seeds,
-        }
-    }
-
-    /// What the usage calls it.
-    #[tactic(auto, unfolding(crate::specs::WordFault::argument_name))]
-    fn name(self) -> &'static str
-        ensures { result.now ≡ argument_name self }
-    {
-        match self {
-            Argument::Steps => "STEPS",
-            Argument::Seed => "SEED",
-            Argument::Example => "NUMBER",
-            Argument::SlotCount => "SLOTS",
-            Argument::Buffers => "BUFFERS",
-            Argument::PictureTiling => "TILING",
-            Argument::Cpp => "CPP",
-            Argument::Width => "WIDTH",
-            Argument::Height => "HEIGHT",
-            Argument::P0 => "P0",
-            Argument::P1 => "P1",
-            Argument::P2 => "P2",
-            Argument::P3 => "P3",
-            Argument::Face => "FACE",
-            Argument::LevelNumber => "LEVEL",
-            Argument::Rule | Argument::Kind => "RULE",
-            Argument::Favoured => "KIND",
-            Argument::SeedNumbers => "A..B",
-        }
+        self.row().1
     }
 }
 
@@ -165,8 +147,7 @@ impl fmt::Display for Argument {
 
     #[tactic(auto, unfolding(crate::specs::WordFault::argument_text))]
     fn fmt<W: fmt::Write>(&self, f: &mut fmt::Formatter<W>) -> fmt::Result {
-        let name = self.name();
-        let values = self.values();
+        let (name, values) = self.row();
         write!(f, "{} is {}", name, values)
     }
 }

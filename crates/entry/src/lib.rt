@@ -2,7 +2,8 @@
 //! sink, a line on standard error where there is something to say, and the status.
 #![tactic(auto)]
 
-ghost use Rattle.std.specs.Prelude.{◌≡◌, ◌≢◌, None, IfErr};
+ghost use Rattle.std.specs.Prelude.{◌≡◌, ◌≢◌, ℕ, List, String, Option, None, IfErr};
+ghost use Rattle.std.specs.declared.alloc.Global.{Global};
 ghost use Rattle.std.specs.IoError.{error_kind};
 ghost use Rattle.std.specs.Process.{exit_status};
 ghost use Rattle.std.specs.declared.io.ErrorKind.TheVariants.{OutOfMemory};
@@ -35,8 +36,18 @@ impl<C> Ended<C> {
 
 /// A program over any source and sink.
 pub trait Program {
+    ghost use Rattle.entry.specs.declared.Ended.{Ended};
+
     /// Why a run ended as it did, as a line without a line feed.
     type Cause: fmt::Display + Drop;
+
+    /// What a run with these words does: between a source's state before and behind it, of which are known the bytes to come and how often
+    /// it failed, a sink's, of which are known the bytes taken and how often it failed, and its end.
+    ghost does: { (X Y : Type 0) → List (String Global) → (X → Option (List ℕ)) → (X → ℕ) → X → X → (Y → Option (List ℕ)) → (Y → ℕ) → Y → Y
+        → Ended Self.Cause → Type 0 };
+
+    /// What holds whatever a run is given.
+    ghost promises: { Type 0 };
 
     /// The program's name, with which its lines begin.
     fn name(&self) -> &'static str;
@@ -51,10 +62,15 @@ pub trait Program {
         words: &Vec<String>,
         source: &mut S,
         sink: &mut K,
-    ) -> Ended<Self::Cause>;
+    ) -> Ended<Self::Cause>
+        ensures { does _ _ words.now.items S.left S.faults source.old source.new K.held K.faults sink.old sink.new result };
 
     /// What a status says to a person where the run gave no cause.
     fn notice(&self, status: u8) -> Option<&'static str>;
+
+    /// A law: what it promises holds.
+    fn promised(&self)
+        ensures { promises };
 }
 
 /// Standard output, of which it is kept whether its reader has gone.
@@ -184,7 +200,10 @@ impl Termination for Ran {
 
 /// Runs the program over standard input, or over the file that its last word names, and standard output. The status is 5 where memory
 /// ran out before the words were there, and 2 where they aren't text.
-pub fn run<P: Program>(rt: &HostRuntime, program: &P) -> Ran {
+pub fn run<P: Program>(rt: &HostRuntime, program: &P) -> Ran
+    ensures { P.promises }
+{
+    program.promised();
     Ran {
         status: run_with(rt, program, words(rt)),
     }

@@ -10,6 +10,10 @@ struct Line;
 impl Program for Line {
     type Cause = &'static str;
 
+    ghost does = { λ X Y words left faults source now held sink_faults sink sink_now ended. Unit {0} };
+
+    ghost promises = { Unit {0} };
+
     fn name(&self) -> &'static str {
         "entry_unread"
     }
@@ -38,6 +42,8 @@ impl Program for Line {
     fn notice(&self, _status: u8) -> Option<&'static str> {
         None
     }
+
+    fn promised(&self) {}
 }
 
 fn main(rt: HostRuntime) -> Ran {

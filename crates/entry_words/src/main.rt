@@ -33,6 +33,10 @@ struct Words;
 impl Program for Words {
     type Cause = &'static str;
 
+    ghost does = { λ X Y words left faults source now held sink_faults sink sink_now ended. Unit {0} };
+
+    ghost promises = { Unit {0} };
+
     fn name(&self) -> &'static str {
         "entry_words"
     }
@@ -60,6 +64,8 @@ impl Program for Words {
         }
         None
     }
+
+    fn promised(&self) {}
 }
 
 fn main(rt: HostRuntime) -> Ran {

@@ -2,7 +2,7 @@
 use Rattle.std.proofs.Common.{refl, sym, ap, subst, ◌∙◌}
 use Rattle.job_check.specs.Whole.{refusal_of}
 use Rattle.job_format.specs.File.{IsWellFormed}
-use Rattle.commands.specs.{Answer.image_of, Image.IsAccepted}
+use Rattle.commands.specs.{Verdict.image_of, Image.IsAccepted}
 use Rattle.commands.proofs.Checked.{image_answers}
 use Rattle.commands.proofs.check.check_answer.Goals as goal
 

@@ -1,0 +1,46 @@
+-- What commands answer to a job file: what is made of it, or the first rule that it breaks.
+use Rattle.std.specs.Prelude.{◌≡◌, ℕ, List, Option, Some, None}
+use Rattle.field_words.specs.Questions.{Question, IsFirst, first_of}
+use Rattle.job_format.specs.{declared.rule.Refusal.Refusal, File.IsFileOf, File.upgraded, Model.FileModel, Reading.file_at, Text.file_text}
+use Rattle.job_check.specs.{Whole.all_questions, Whole.refusal_of, Emit.memory_of, Emit.all_lengths_of, Jobs.layouts_of}
+use Rattle.job_bound.specs.Bound.{bound_text}
+use Rattle.dumper.specs.Text.{accepted_text, refused_text}
+use Rattle.pictures.specs.{Memory.memory_picture, Forest.Forest, Forest.forest_text}
+use Rattle.seeded_runs.specs.{declared.told.Trial.Trial, Told.IsTold}
+use Rattle.commands.specs.Upgrade.{format_rules}
+
+-- Where no rule stands the file is what its bytes spell, and its answer is such a text; else it is refused by the first rule that does: it
+-- stands, and none before it in the list does.
+abbrev pub IsVerdict : List ℕ → List (Question Refusal) → Option Refusal → (FileModel → List ℕ → Type 0) → ℕ → List ℕ → Type 0
+IsVerdict bytes questions None IsText status text = (status ≡ 0) × IsText (file_at bytes) text × IsFileOf bytes (file_at bytes)
+IsVerdict bytes questions (Some refusal) IsText status text = (status ≡ 1) × (text ≡ refused_text refusal) × IsFirst questions refusal
+
+abbrev pub IsFileAnswer : (FileModel → List ℕ → Type 0) → List ℕ → ℕ → List ℕ → Type 0
+IsFileAnswer IsText bytes status text = IsVerdict bytes (all_questions bytes) (refusal_of bytes) IsText status text
+
+-- what is printed of an accepted file: its emitted memory, and where the lists of each job lie there
+unfoldable pub image_of : FileModel → List ℕ
+image_of f = accepted_text f.version (memory_of f) (layouts_of f) (all_lengths_of f)
+
+-- the picture of a file's memory
+abbrev pub picture_of : FileModel → Forest
+picture_of f = memory_picture f.mem_size f.regions f.buffers
+
+-- `check` prints the image, `picture` the text of the picture's elements, `replay` runs of the jobs' machine by scripts that seeds give, and
+-- `bound` how many steps the jobs take at most and whether they may wait for a request that isn't there, or where a shader branches back.
+abbrev pub IsCheckAnswer : List ℕ → ℕ → List ℕ → Type 0
+IsCheckAnswer = IsFileAnswer (λ f text. text ≡ image_of f)
+
+abbrev pub IsDrawnAnswer : List ℕ → ℕ → List ℕ → Type 0
+IsDrawnAnswer = IsFileAnswer (λ f text. text ≡ forest_text (picture_of f))
+
+abbrev pub IsTrialAnswer : Trial → List ℕ → ℕ → List ℕ → Type 0
+IsTrialAnswer trial = IsFileAnswer (λ f text. IsTold f trial text)
+
+abbrev pub IsBoundAnswer : List ℕ → ℕ → List ℕ → Type 0
+IsBoundAnswer = IsFileAnswer (λ f text. text ≡ bound_text f)
+
+-- `upgrade` writes the file with version 2. It asks the rules of the format alone.
+abbrev pub IsUpgradeAnswer : List ℕ → ℕ → List ℕ → Type 0
+IsUpgradeAnswer bytes status text =
+    IsVerdict bytes (format_rules bytes) (first_of (format_rules bytes)) (λ f text. text ≡ file_text (upgraded f)) status text
