@@ -3,6 +3,7 @@
 #   make                              the program, libvc4check.a and libvc4check.so.2, into out/
 #   make install PREFIX=/usr/local    (DESTDIR=FOLDER puts all below that folder)
 #   install/try                       installs into a folder of its own, and builds and runs a program against what is installed
+#   make web                          the page: out/web/ for a web server, and out/web/vc4check.html, one file
 PREFIX = /usr/local
 DESTDIR =
 ABI = 2
@@ -10,6 +11,7 @@ VERSION = $(ABI).0.0
 CFLAGS = -O2
 PROGRAM = crates/vc4check/out/vc4check
 PROVED = crates/vc4check_c/out/libvc4check_c.a
+PAGE = crates/vc4check_web/out/libvc4check_web.a
 TO = $(DESTDIR)$(PREFIX)
 
 all: $(PROGRAM) out/libvc4check.a out/libvc4check.so.$(VERSION) out/vc4check.pc
@@ -50,7 +52,13 @@ install: all
 	install -m 644 install/vc4check.3 $(TO)/share/man/man3
 	install -m 644 install/vc4check.bash $(TO)/share/bash-completion/completions/vc4check
 
+$(PAGE):
+	cd crates/vc4check_web && rt lib
+
+web: $(PROGRAM) $(PAGE)
+	web/build
+
 clean:
 	rm -rf out
 
-.PHONY: all install clean
+.PHONY: all install web clean
