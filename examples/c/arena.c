@@ -29,10 +29,14 @@ size_t arena_peak(void) {
     return (size_t)(highest - start);
 }
 
+static size_t rounded(size_t size) {
+    return (size + 15) / 16 * 16;
+}
+
 /* Makes `top` the first multiple of 16 behind so many bytes from a place on; false where they don't fit. */
 static bool reach(unsigned char *from, size_t size) {
     if (size > (size_t)(end - from)) return false;
-    top = from + (size + 15) / 16 * 16;
+    top = from + rounded(size);
     if (top > highest) highest = top;
     return true;
 }

@@ -4,6 +4,7 @@
 #include <linux/mm.h>
 #include <linux/module.h>
 #include <linux/slab.h>
+#include "../c/arena.h"
 #include "../c/job_file.h"
 #include "heap.h"
 #include "jobs.h" /* made by `jobs`: struct { const char *name; const u8 *bytes; size_t length; } jobs[] */
@@ -102,6 +103,27 @@ static bool test_call(const char *name, const char *what, call *one, struct test
 	return allocations >= 0;
 }
 
+/* The same submission with all memory from one block, of the size that is told. */
+static bool test_in_room(const char *name, struct test *test)
+{
+	size_t size = arena_for_submit(&test->filled.submission);
+	void *block = kvmalloc(size, GFP_KERNEL);
+	u64 best = U64_MAX;
+	bool well = block;
+
+	for (uint i = 0; well && i <= times; i++) {
+		u64 from = ktime_get_ns();
+
+		heap_over(block, size);
+		well = submit(test) == VC4CHECK_ACCEPTED;
+		heap_back();
+		best = min(best, ktime_get_ns() - from);
+	}
+	kvfree(block);
+	pr_info("vc4check: %s submit in a block of %zu bytes: %llu ns\n", name, size, best);
+	return well && !heap_held();
+}
+
 static bool test_job(const char *name, struct test *test)
 {
 	bool well = test_call(name, "check", check, test);
@@ -111,7 +133,7 @@ static bool test_job(const char *name, struct test *test)
 	well = well && test_call(name, "submit, no shader made before", submit, test);
 	for (size_t b = 0; b < test->filled.submission.buffer_count; b++)
 		well = well && starved(make_shader, test) >= 0;
-	return well && test_call(name, "submit", submit, test);
+	return well && test_call(name, "submit", submit, test) && test_in_room(name, test);
 }
 
 bool selftest(void)

@@ -7,6 +7,8 @@
  * client has a window, nor may write a shader's buffer, which has zeros behind the shader; what is checked are copies.
  */
 #include "vc4_drv.h"
+#include "arena.h"
+#include "heap.h"
 #include "linux_submit.h"
 
 /* The first address behind the memory that a job may name. */
@@ -119,6 +121,22 @@ static void note_lists(struct vc4_exec_info *exec, const struct vc4check_job *jo
 	exec->ct1ea = exec->ct1ca + job->render_length;
 }
 
+/* The call, with all its memory taken before. */
+static u32 call(const struct vc4check_submission *submission, void *window, struct vc4check_verdict *verdict)
+{
+	size_t size = arena_for_submit(submission);
+	void *block = kvmalloc(size, GFP_KERNEL);
+	u32 status = VC4CHECK_NO_MEMORY;
+
+	if (block) {
+		heap_over(block, size);
+		status = vc4check_submit(submission, window, submission->lists_size, verdict);
+		heap_back();
+	}
+	kvfree(block);
+	return status;
+}
+
 static int submit(struct drm_device *dev, struct vc4_exec_info *exec, struct vc4check_submission *submission)
 {
 	char sentence[VC4CHECK_SENTENCE_ROOM];
@@ -133,7 +151,7 @@ static int submit(struct drm_device *dev, struct vc4_exec_info *exec, struct vc4
 	status = make_room(dev, exec, submission, &window);
 	if (status)
 		return status;
-	status = vc4check_submit(submission, window->base.vaddr, submission->lists_size, &verdict);
+	status = call(submission, window->base.vaddr, &verdict);
 	if (status == VC4CHECK_NO_MEMORY)
 		return -ENOMEM;
 	if (status != VC4CHECK_ACCEPTED) {
