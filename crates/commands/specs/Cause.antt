@@ -10,6 +10,7 @@ use Rattle.qpu_asm.specs.declared.place.Wanted.TheVariants.{Item}
 use Rattle.rule_words.specs.declared.name.Family.TheVariants.{Kind as KindFamily, Check as StageFamily, V as LevelFamily}
 use Rattle.rule_words.specs.{declared.line.Line.Line, declared.name.RuleName.RuleName, Line.line_text, Line.IsLineOf}
 use Rattle.rule_words.specs.Names.{name_text, sentence_of}
+use Rattle.commands.specs.declared.answer.Answer.{Answer}
 use Rattle.commands.specs.declared.cause.Cause.TheVariants.{Rule, Kind, Mistake, Shader as ShaderCause, Long, Call, Part, Size, Level as LevelCause, Words}
 use Rattle.commands.specs.declared.command.Command.TheVariants.{Upgrade, Show, FromText, Asm, Disasm, Shader, ShaderText, Slots, Queue, Session, Untile, Tile, Level}
 use Rattle.commands.specs.{declared.cause.Cause.Cause, declared.command.Command.Command, declared.surfaces.TexturePart.TexturePart}
@@ -95,6 +96,10 @@ cause_text (Part n) = part_line n
 cause_text (Size n wanted) = size_line n wanted
 cause_text (LevelCause name) = level_line name
 cause_text (Words fault) = word_fault_text fault
+
+-- an answer that refuses, with this text and for this cause
+abbrev pub IsRefusal : List ℕ → Option Cause → Answer → Type 0
+IsRefusal text cause answer = (answer.status ≡ 1) × (answer.text.items ≡ text) × (answer.cause ≡ cause)
 
 -- A file that a rule refuses is told by a line of that refusal, and an accepted one by none.
 abbrev pub IsRuleCause : List ℕ → Option Refusal → Option Cause → Type 0

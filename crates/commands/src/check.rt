@@ -118,7 +118,8 @@ fn image_of<'a>(alloc: Global, accepted: Accepted<'a>) -> Result<Image<'a>, NoMe
 
 /// The answer to these bytes where this rule is the first that stands.
 pub(crate) fn refused(alloc: Global, bytes: &[u8], refusal: Refusal) -> Result<Answer, NoMemory>
-    ensures { IfOk result (λ a. (a.status ≡ 1) × (a.text.items ≡ refused_text refusal) × IsRuleCause bytes.now (Some refusal) a.cause) }
+    ensures { IfOk result (λ a. (a.status ≡ 1) × (a.text.items ≡ refused_text refusal)
+        × IsRuleCause bytes.now (Some refusal) a.cause) }
 {
     let text = refusal_text(alloc, &refusal)?;
     let line = line_of(bytes, refusal);

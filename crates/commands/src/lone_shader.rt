@@ -8,7 +8,7 @@ ghost use Rattle.job_check.specs.Shaders.{code_questions, told_of};
 ghost use Rattle.qpu_asm.specs.Assembly.{Assembled};
 ghost use Rattle.qpu_isa.specs.Shader.{shader_view};
 ghost use Rattle.shader_check.specs.Rules.{shader_questions};
-ghost use Rattle.commands.specs.Cause.{words_cause, text_cause};
+ghost use Rattle.commands.specs.Cause.{words_cause, text_cause, IsRefusal};
 ghost use Rattle.commands.specs.declared.cause.Cause.TheVariants.{Shader};
 ghost use Rattle.commands.specs.LoneShader.{position_text, sample_line, address_line, thread_count, head_text, shader_text, shader_refusal, long_text, IsShaderAnswer, IsWordsAnswer, IsShaderTextAnswer};
 
@@ -116,7 +116,7 @@ fn shader_text(alloc: Global, info: &ShaderInfo) -> Result<Vec<u8>, AllocError>
 // The answer where this rule is the first that stands.
 #[tactic(auto, unfolding(crate::specs::LoneShader::shader_refusal))]
 fn shader_refused(alloc: Global, fault: ShaderFault) -> Result<Answer, NoMemory>
-    ensures { IfOk result (λ a. (a.status ≡ 1) × (a.text.items ≡ shader_refusal fault) × (a.cause ≡ Some (Shader fault))) }
+    ensures { IfOk result (IsRefusal (shader_refusal fault) (Some (Shader fault))) }
 {
     let ShaderFault { number, index } = fault;
     let text = format!(in alloc; "refused S{number} at instruction {index}\n")?.into_bytes();

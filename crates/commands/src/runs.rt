@@ -31,7 +31,8 @@ pub fn run_with_cause<S: Source, K: Sink>(
     source: &mut S,
     sink: &mut K,
 ) -> Ended<Cause>
-    ensures { IsRunWithCause words.now.items S.left S.faults source.old source.new K.held K.faults sink.old sink.new result }
+    ensures { IsRunWithCause words.now.items S.left S.faults source.old source.new
+        K.held K.faults sink.old sink.new result }
 {
     match task_of(words) {
         Err(fault) => Ended {

@@ -4,6 +4,7 @@ ghost use Rattle.field_words.specs.Sizes.{most_list};
 ghost use Rattle.overflow_slots.specs.Calls.{fault_line as slots_fault};
 ghost use Rattle.job_queue.specs.Calls.{fault_line as queue_fault};
 ghost use Rattle.job_session.specs.Calls.{fault_line as session_fault};
+ghost use Rattle.commands.specs.Cause.{IsRefusal};
 ghost use Rattle.commands.specs.declared.cause.Cause.TheVariants.{Call};
 ghost use Rattle.commands.specs.Scripts.{malformed_text, IsSlotsAnswer, IsQueueAnswer, IsSessionAnswer};
 
@@ -15,7 +16,7 @@ use std::alloc::Global;
 // The answer to a script of which this line is the first that is no call.
 #[tactic(auto, unfolding(crate::specs::Scripts::malformed_text))]
 fn malformed(alloc: Global, line: u32) -> Result<Answer, NoMemory>
-    ensures { IfOk result (λ a. (a.status ≡ 1) × (a.text.items ≡ malformed_text line) × (a.cause ≡ Some (Call line))) }
+    ensures { IfOk result (IsRefusal (malformed_text line) (Some (Call line))) }
 {
     let text = format!(in alloc; "line {line} fault 1\n")?.into_bytes();
     Ok(Answer::refused(text, Some(Cause::Call(line))))

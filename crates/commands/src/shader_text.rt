@@ -3,7 +3,7 @@ ghost use Rattle.std.specs.Prelude.{◌≡◌, ◌≤◌, ◌<◌, length, Some,
 ghost use Rattle.field_words.specs.Sizes.{most_list};
 ghost use Rattle.qpu_asm.specs.{Assembly.Assembled, Place.fault_place};
 ghost use Rattle.commands.specs.declared.cause.Cause.TheVariants.{Kind};
-ghost use Rattle.commands.specs.Cause.{kind_cause, part_cause};
+ghost use Rattle.commands.specs.Cause.{kind_cause, part_cause, IsRefusal};
 ghost use Rattle.commands.specs.Shader.{fault_text, length_text, bytes_of, IsAsmAnswer, IsDisasmAnswer};
 
 use super::answer::Answer;
@@ -18,7 +18,7 @@ use std::alloc::{AllocError, Global};
 #[tactic(auto, unfolding(crate::specs::Shader::fault_text))]
 pub(crate) fn text_refused(alloc: Global, text: &[u8], fault: AsmFault) -> Result<Answer, NoMemory>
     requires { length text.now ≤ most_list }
-    ensures { IfOk result (λ a. (a.status ≡ 1) × (a.text.items ≡ fault_text fault) × (a.cause ≡ Some (Kind fault (fault_place text.now fault)))) }
+    ensures { IfOk result (IsRefusal (fault_text fault) (Some (Kind fault (fault_place text.now fault)))) }
 {
     let AsmFault { line, kind } = fault;
     let out = format!(in alloc; "line {line} fault {kind}\n")?.into_bytes();

@@ -4,7 +4,7 @@ ghost use Rattle.script.specs.Number.{number_within};
 ghost use Rattle.texture_layouts.specs.Surface.{IsPixelSize, size_for};
 ghost use Rattle.commands.specs.Pictures.{tiling_named, pixel_by, IsPictureWithin};
 ghost use Rattle.commands.specs.Pictures.{length_wanted_text, level_refusal, IsUntileAnswer, IsTileAnswer, IsLevelAnswer};
-ghost use Rattle.commands.specs.Cause.{size_cause, level_rule, level_fault};
+ghost use Rattle.commands.specs.Cause.{size_cause, level_rule, level_fault, IsRefusal};
 ghost use Rattle.commands.specs.declared.cause.Cause.TheVariants.{Level, Size};
 
 use super::answer::Answer;
@@ -78,7 +78,7 @@ fn level_refusal(alloc: Global, fault: LevelFault) -> Result<Vec<u8>, AllocError
 
 // The refusal of so many bytes where another number is wanted.
 fn size_refusal(alloc: Global, length: usize, wanted: u64) -> Result<Answer, NoMemory>
-    ensures { IfOk result (λ a. (a.status ≡ 1) × (a.text.items ≡ length_wanted_text length wanted) × (a.cause ≡ Some (Size length wanted))) }
+    ensures { IfOk result (IsRefusal (length_wanted_text length wanted) (Some (Size length wanted))) }
 {
     let text = length_wanted_text(alloc, length, wanted)?;
     let cause = Cause::Size(length as u64, wanted);
