@@ -6,8 +6,7 @@ use Rattle.buffer_table.specs.Table.{TableModel}
 use Rattle.relocation.specs.declared.layout.Layout.{Layout}
 use Rattle.packets.specs.Opcode.{indexed_primitive_list, gl_shader_state, tile_binning_mode, buffer_handles}
 use Rattle.tile_memory.specs.Slots.{alloc_offset}
-use Rattle.bin_list.specs.{declared.seen.Seen.Seen, Packets.opcode, Packets.passed, Seen.seen_before}
-use Rattle.bin_list.specs.Rules.{GivenModel, given_of, index_buffer}
+use Rattle.bin_list.specs.{declared.seen.Seen.Seen, Packets.opcode, Packets.passed, Seen.seen_before, Rules.GivenModel, Rules.given_of, Rules.index_buffer}
 
 -- the address of the indexes, an offset in their buffer, becomes a place in memory
 unfoldable pub index_text : GivenModel → Seen → List ℕ → List ℕ

@@ -3,9 +3,8 @@ use Rattle.std.specs.Prelude.{◌≡◌, ◌≤◌, ℕ, ◌+◌, List, [], leng
 use Rattle.field_words.specs.Questions.{first_of}
 use Rattle.buffer_table.specs.Table.{TableModel}
 use Rattle.relocation.specs.declared.layout.Layout.{Layout}
-use Rattle.bin_list.specs.{declared.check.Read.Read, declared.info.BinInfo.BinInfo, Packets.packets, Packets.passed, Packets.onto}
+use Rattle.bin_list.specs.{declared.check.Read.Read, declared.info.BinInfo.BinInfo, Packets.packets, Packets.passed, Packets.onto, Collected.all_states}
 use Rattle.bin_list.specs.{Seen.seen_before, Seen.states_in, Rules.GivenModel, Rules.given_of, Rules.asked, States.states_of, Emitted.texts}
-use Rattle.bin_list.specs.Collected.{all_states}
 
 -- the grid of the list's configuration, the states, and the length of the emitted list
 pub record IsInfoOf (given : GivenModel) (layout : Layout) (list : List ℕ) (info : BinInfo) : Type 0 where

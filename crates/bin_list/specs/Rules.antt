@@ -7,8 +7,7 @@ use Rattle.packets.specs.Opcode.{flush, start_tile_binning, increment_semaphore,
 use Rattle.packets.specs.Length.{bin_length}
 use Rattle.tile_memory.specs.Slots.{slot_fits}
 use Rattle.bin_list.specs.declared.rule.BinRule.TheVariants.{UnknownOpcode, CutOff, FlushNotLast, SecondStart, StartWithoutConfig, IncrementNotLast, PrimitiveWithoutState, PrimitiveWithoutStart, NoIndexBuffer, IndexesOutside, IndexOverflow, UndeclaredState, StateBits, SecondConfig, NoTiles, ConfigFlags, TooManyTiles, NoStart, NoEnd}
-use Rattle.bin_list.specs.{declared.fault.ListFault.ListFault, declared.rule.BinRule.BinRule, declared.seen.Seen.Seen, Faults.fault}
-use Rattle.bin_list.specs.{Packets.opcode, Packets.passed, Seen.place, Seen.seen_before}
+use Rattle.bin_list.specs.{declared.fault.ListFault.ListFault, declared.rule.BinRule.BinRule, declared.seen.Seen.Seen, Faults.fault, Packets.opcode, Packets.passed, Seen.place, Seen.seen_before}
 
 -- What a list is checked against: its length, the number of shader states that its job declares, and the job's
 -- buffers and handles.

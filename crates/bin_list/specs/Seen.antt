@@ -2,8 +2,7 @@
 -- kind before this one" is the first of that list.
 use Rattle.std.specs.Prelude.{ℕ, ◌+◌, Bool, true, false, ◌==◌, List, [], ◌∷◌, length, slice_index, Option, Some, None, if◌then◌else◌}
 use Rattle.field_words.specs.Words.{u32_at}
-use Rattle.packets.specs.StateWord.{record_room}
-use Rattle.packets.specs.Opcode.{start_tile_binning, gl_shader_state, tile_binning_mode, buffer_handles}
+use Rattle.packets.specs.{StateWord.record_room, Opcode.start_tile_binning, Opcode.gl_shader_state, Opcode.tile_binning_mode, Opcode.buffer_handles}
 use Rattle.bin_list.specs.{declared.seen.Seen.Seen, Packets.opcode}
 
 -- the last packet with this opcode

@@ -2,8 +2,7 @@
 use Rattle.std.specs.Prelude.{ℕ, ◌+◌, ◌==◌, Bool, true, false, not, ◌&&◌, List, nat_lt, nat_le, if◌then◌else◌, Option, None, Some}
 use Rattle.qpu_isa.specs.Terms.{names, sets_alone, is_accumulator, is_switch, first_register, passes, loaded_value, is_max_with_zero, is_min_with_uniform}
 use Rattle.qpu_isa.specs.declared.inst.Reg.{Reg}
-use Rattle.shader_flow.specs.{Bounded.some_below, Bounded.some_in, Bounded.last_below, Flow.word, Flow.checked_of, Flow.is_target}
-use Rattle.shader_flow.specs.Pending.{count_of}
+use Rattle.shader_flow.specs.{Bounded.some_below, Bounded.some_in, Bounded.last_below, Flow.word, Flow.checked_of, Flow.is_target, Pending.count_of}
 use Rattle.clamp_facts.specs.declared.fact.Fact.TheVariants.{Nothing, Immediate, NotNegative, Clamped}
 use Rattle.clamp_facts.specs.{declared.fact.Fact.Fact, Readings.is_value, Readings.has_bound}
 

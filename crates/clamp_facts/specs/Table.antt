@@ -1,7 +1,6 @@
 -- The table of facts: an entry for each register that a unit can write.
 use Rattle.std.specs.Prelude.{ℕ, List, replicate, slice_index_or, slice_set, if◌then◌else◌}
-use Rattle.qpu_isa.specs.declared.inst.Reg.{Reg}
-use Rattle.qpu_isa.specs.declared.inst.Reg.TheVariants.{A, B, Acc}
+use Rattle.qpu_isa.specs.{declared.inst.Reg.Reg, declared.inst.Reg.TheVariants.A, declared.inst.Reg.TheVariants.B, declared.inst.Reg.TheVariants.Acc}
 use Rattle.clamp_facts.specs.{declared.fact.Fact.Fact, declared.fact.Fact.TheVariants.Nothing, declared.fact.Entry.Entry, Facts.is_delayed}
 
 -- the entries of A0 to A31, B0 to B31 and r0 to r3

@@ -1,11 +1,10 @@
 -- How the walk keeps the table, and how the searches look back. No part of what the crate claims.
 use Rattle.std.specs.Prelude.{◌≡◌, ◌≤◌, ◌<◌, ℕ, ◌-◌, Bool, true, false, not, List, length, nat_lt, if◌then◌else◌, Option, None, Some}
 use Rattle.field_words.specs.Sizes.{most_words}
-use Rattle.qpu_isa.specs.{declared.inst.Reg.Reg, Word.ws_of, Word.waddr_add_of, Word.waddr_mul_of, Told.IsRegister}
+use Rattle.qpu_isa.specs.{declared.inst.Reg.Reg, Word.ws_of, Word.waddr_add_of, Word.waddr_mul_of, Told.IsRegister, Terms.is_branch, Terms.names, Terms.add_names_reg}
 use Rattle.qpu_isa.specs.declared.inst.Reg.TheVariants.{A, B, Acc}
-use Rattle.qpu_isa.specs.Terms.{is_branch, names, sets_alone, add_names_reg}
 use Rattle.shader_flow.specs.{Flow.word, Pending.count_of}
-use Rattle.clamp_facts.specs.{declared.fact.Fact.Fact, declared.fact.Fact.TheVariants.Nothing, declared.fact.Entry.Entry}
+use Rattle.clamp_facts.specs.{declared.fact.Fact.TheVariants.Nothing, declared.fact.Entry.Entry}
 use Rattle.clamp_facts.specs.{Facts.sets, Facts.maker_of, Facts.made, Facts.carries, Table.Table, Table.entry_of}
 
 -- an entry for what an instruction made, or for what none made
@@ -26,10 +25,6 @@ pub record IsKnownAt (code : List ℕ) (at count : ℕ) (table : Table) : Type 0
   pub inside : at < length code
   pub taken : count ≡ count_of code at
   pub kept : IsTableOf code (maker_of code at) table
-
--- the fact that is put to a register that the instruction at `at` names by its add unit
-abbrev pub fact_put : List ℕ → ℕ → Reg → Fact
-fact_put code at reg = if sets_alone (word code at) reg then made code at else Nothing
 
 -- the register that a write address names on a side
 unfoldable pub register_at : (on_a : Bool) → ℕ → Option Reg

@@ -1,12 +1,12 @@
 //! Keeping the table on the way up a shader.
-ghost use Rattle.std.specs.Prelude.{◌≡◌, ◌<◌, ◌≤◌, ◌+◌, length, IfSome};
-ghost use Rattle.qpu_isa.specs.Terms.{is_switch};
+ghost use Rattle.std.specs.Prelude.{◌≡◌, ◌<◌, ◌≤◌, ◌+◌, length, IfSome, if◌then◌else◌};
+ghost use Rattle.qpu_isa.specs.Terms.{is_switch, sets_alone};
 ghost use Rattle.qpu_isa.specs.Told.{IsRegister};
 ghost use Rattle.shader_flow.specs.Bounded.{is_back};
 ghost use Rattle.shader_flow.specs.Flow.{word, checked_of, IsFlow};
 ghost use Rattle.shader_flow.specs.Pending.{count_of};
-ghost use Rattle.clamp_facts.specs.Facts.{maker_of, makes_clamp, made};
-ghost use Rattle.clamp_facts.specs.Upkeep.{IsTableOf, fact_put, register_at, add_register, mul_register, maker_added, maker_written};
+ghost use Rattle.clamp_facts.specs.{Facts.maker_of, Facts.makes_clamp, Facts.made, declared.fact.Fact.TheVariants.Nothing};
+ghost use Rattle.clamp_facts.specs.Upkeep.{IsTableOf, register_at, add_register, mul_register, maker_added, maker_written};
 
 use crate::fact::Fact;
 use crate::known::Known;
@@ -102,7 +102,8 @@ fn mul_register(word: u64) -> Option<Reg>
 // The fact that the instruction makes of the register, where it sets the whole of it.
 fn fact_set<L: Ledger>(known: &Known, reg: Reg, steps: &mut Steps<L>) -> Fact
     requires register { IsRegister reg }
-    ensures value { result ≡ fact_put known.now.code known.now.at reg }
+    ensures value { result ≡ (if sets_alone (word known.now.code known.now.at) reg
+        then made known.now.code known.now.at else Nothing) }
     ensures steps { steps.new ≤ steps.old + 1 }
 {
     if sets_alone(known.word(), reg) {

@@ -1,9 +1,9 @@
 -- What is so of each example, and of each file that is made as they are.
-use Rattle.std.specs.Prelude.{◌≡◌, ◌≤◌, ℕ, ◌+◌, ◌*◌, List, None}
+use Rattle.std.specs.Prelude.{◌≡◌, ◌≤◌, ℕ, ◌+◌, ◌*◌, None}
 use Rattle.field_words.specs.{Sizes.most_memory, Sizes.most_list, Questions.first_of}
-use Rattle.job_format.specs.{Model.FileModel, File.IsWellFormed, File.IsFileOf}
-use Rattle.job_check.specs.{Faults.file_stages, Whole.refusal_of}
-use Rattle.example_job.specs.Example.{frame_bytes, file_of, example}
+use Rattle.job_format.specs.{Model.FileModel, File.IsWellFormed}
+use Rattle.job_check.specs.Faults.{file_stages}
+use Rattle.example_job.specs.Example.{frame_bytes}
 
 -- A frame of so many tiles of 64 by 64 pixels across and down, with so many triangles: it is at most 4,096 pixels wide and high, its
 -- buffer, which begins behind the vertices, ends inside the greatest memory, and a record of 60 bytes for each triangle has room.
@@ -19,15 +19,3 @@ pub record IsInRange (across down count : ℕ) : Type 0 where
 pub record IsFaultless (f : FileModel) : Type 0 where
   pub well_formed : IsWellFormed f
   pub none : first_of (file_stages f) ≡ None
-
--- so is the file of each such frame, whatever its vertices are
-abbrev pub FramesHaveNoFault : Type 0
-FramesHaveNoFault = (seed across down count : ℕ) → IsInRange across down count → IsFaultless (file_of seed across down count)
-
--- and the file of each number
-abbrev pub ExamplesHaveNoFault : Type 0
-ExamplesHaveNoFault = (number : ℕ) → IsFaultless (example number)
-
--- bytes that spell it are refused by no rule, the format's among them
-abbrev pub ExamplesAreAccepted : Type 0
-ExamplesAreAccepted = (number : ℕ) (bytes : List ℕ) → IsFileOf bytes (example number) → refusal_of bytes ≡ None

@@ -1,5 +1,6 @@
 -- What the headline says of the two files, computed: the lengths of the emitted lists first.
 use Rattle.std.proofs.Common.{◌≡◌, ℕ, zero, suc, Option, List, [], ◌∷◌, ◌++◌, length, map, Some, refl, ap, ◌∙◌}
+use Rattle.std.specs.List.{flat_map}
 use Rattle.buffer_table.specs.{Table.buffer_at, Handles.data_of, Handles.code_of}
 use Rattle.field_words.specs.{Words.rounded_up, Words.u32_at, WordBytes.word_bytes}
 use Rattle.job_format.specs.Model.{FileModel}
@@ -23,7 +24,7 @@ use Rattle.accepted_law.specs.Holdings.{named_buffers, plain_of, codes_of, lists
 use Rattle.textured_job.specs.Job.{frame, textured, two_clients, one_client}
 use Rattle.textured_job.proofs.Cases.{Case, Alone, First, Second, Single, file_in, number_in, input_in}
 use Rattle.textured_job.proofs.{Lists.grid_is, Whole.input_is}
-use Rattle.headline.specs.Numbers.{Numbers, intervals, rights, start, all_fixed, numbers_of, alone, first, second}
+use Rattle.headline.specs.Numbers.{Numbers, intervals, rights, start, fixed, numbers_of, alone, first, second}
 
 -- The lengths of a job's emitted lists are those of what its sources, its input and its grid come to.
 abbrev lengths_by : FileModel → ℕ → InputModel → Option (ℕ × ℕ) → Lengths
@@ -61,7 +62,7 @@ lengths_are c =
 -- What the headline says of a file, in these numbers.
 pub record AreOf (f : FileModel) (jobs : List Numbers) : Type 0 where
   pub rights : file_rights f ≡ map rights jobs
-  pub fixed : fixed_of f ≡ intervals (all_fixed jobs)
+  pub fixed : fixed_of f ≡ intervals (flat_map fixed jobs)
   pub starts : file_starts f ≡ map start jobs
   pub plain : (j : ℕ) → plain_of f j ≡ intervals (numbers_of jobs j).plain
 

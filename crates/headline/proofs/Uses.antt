@@ -1,6 +1,6 @@
 -- The headline, proved and used: what it comes to for the two files.
 use Rattle.std.proofs.Common.{◌≡◌, ◌≤◌, ◌<◌, ◌⊎◌, inl, inr, ℕ, zero, suc, ◌+◌, List, [], ◌∷◌, length, map, None, sym, subst, arith, ◌∙◌}
-use Rattle.std.specs.List.{AllByRecursion}
+use Rattle.std.specs.List.{AllByRecursion, flat_map}
 use Rattle.field_words.specs.{declared.access.Access.Access, declared.access.Actor.TheVariants.Tmu as TheTmu}
 use Rattle.job_format.specs.{Model.FileModel, File.IsFileOf, Reading.file_at}
 use Rattle.job_format.proofs.Laws.{read_again}
@@ -14,7 +14,7 @@ use Rattle.job_safety.specs.{Files.IsSafeFile, Safe.AreSound}
 use Rattle.job_safety.proofs.Safety.{bytes_spell, file_is_safe, fixed_upto, file_ends}
 use Rattle.textured_job.specs.{Job.textured, Job.two_clients, Laws.IsAccepted, Laws.textured_bytes, Laws.two_clients_bytes}
 use Rattle.textured_job.proofs.Witness.{is_file, two_are_file, textured_witness, two_clients_witness}
-use Rattle.headline.specs.Numbers.{Span, Numbers, alone, first, second, written, reached, numbers_of, LiesInOne, KeepsTo, Misses, intervals, rights, start, all_fixed, KeepAnywhere, InNumbers}
+use Rattle.headline.specs.Numbers.{Span, Numbers, alone, first, second, reached, numbers_of, Misses, intervals, rights, start, fixed, KeepAnywhere, InNumbers}
 use Rattle.headline.specs.{Ends.AcceptedEnd, MayRun.MayRun, MayRun.AcceptedMayRun}
 use Rattle.headline.proofs.Stages.{AreOf, alone_is, two_are}
 
@@ -32,23 +32,14 @@ pub accepted_end : AcceptedEnd
 unfolding refusal_of
 accepted_end bytes fits none = file_ends bytes (bytes_spell bytes fits none) none
 
--- an access in intervals of numbers
-lies_in_one : (spans : List Span) (a : Access) → IsIn (intervals spans) a → LiesInOne spans a
-lies_in_one [] a lies = lies
-lies_in_one (span ∷ spans) a (inl here) = inl (here.from, here.upto)
-lies_in_one (span ∷ spans) a (inr there) = inr (lies_in_one spans a there)
-
 -- an access that keeps to the rights of the job of a number
-keeps_at : (jobs : List Numbers) (a : Access) (j : ℕ) → IsSafeIn (rights_of (map rights jobs) j) a → (j < length jobs) × KeepsTo (numbers_of jobs j) a
+keeps_at : (jobs : List Numbers) (a : Access) (j : ℕ) → IsSafeIn (rights_of (map rights jobs) j) a → (j < length jobs) × IsSafeIn (rights (numbers_of jobs j)) a
 keeps_at [] a j safe = absurd safe.inside
-keeps_at (n ∷ jobs) a zero safe = (
-  omega arith,
-  record { tame = safe.tame; lies = lies_in_one (reached n) a safe.inside; writes = λ writes. lies_in_one (written n) a (safe.writes writes) },
-)
+keeps_at (n ∷ jobs) a zero safe = (omega arith, safe)
 keeps_at (n ∷ jobs) a (suc j) safe = let rest = keeps_at jobs a j safe in (omega (arith, rest.0), rest.1)
 
 all_keep : (jobs : List Numbers) (found : List Access) → Every (IsSafeAccess (map rights jobs)) found
-    → AllByRecursion (λ a. (a.job < length jobs) × KeepsTo (numbers_of jobs a.job) a) found
+    → AllByRecursion (λ a. (a.job < length jobs) × IsSafeIn (rights (numbers_of jobs a.job)) a) found
 all_keep jobs [] all = tt
 all_keep jobs (a ∷ found) all = (keeps_at jobs a a.job (record { tame = all.0.tame; inside = all.0.inside; writes = all.0.writes }), all_keep jobs found all.1)
 
@@ -63,13 +54,13 @@ said headline bytes f accepted is =
     subst Says (read_again bytes f is).1
     (record { sound = may.sound; fixed = λ j inside. record { lists = may.lists_fixed j inside; code = may.code_fixed j inside } })
 
-sound_in : (f : FileModel) (jobs : List Numbers) (m : List ℕ) → AreOf f jobs → Says f → Agree (intervals (all_fixed jobs)) (memory_of f) m
+sound_in : (f : FileModel) (jobs : List Numbers) (m : List ℕ) → AreOf f jobs → Says f → Agree (intervals (flat_map fixed jobs)) (memory_of f) m
     → Sound (map rights jobs) (plain_of f) m (units_start (map start jobs))
 sound_in f jobs m are says agree =
     subst (λ s. Sound (map rights jobs) (plain_of f) m (units_start s)) are.starts
     (subst (λ r. Sound r (plain_of f) m (units_start (file_starts f))) are.rights (says.sound m (subst (λ k. Agree k (memory_of f) m) (sym are.fixed) agree)))
 
-fixed_in : (f : FileModel) (jobs : List Numbers) (p : ℕ) → AreOf f jobs → Says f → Inside (intervals (all_fixed jobs)) p 1 → IsOutside (map rights jobs) p
+fixed_in : (f : FileModel) (jobs : List Numbers) (p : ℕ) → AreOf f jobs → Says f → Inside (intervals (flat_map fixed jobs)) p 1 → IsOutside (map rights jobs) p
 unfolding fixed_of
 fixed_in f jobs p are says lies =
     subst (λ r. IsOutside r p) are.rights (fixed_upto f (length f.jobs) p (omega arith) says.fixed (subst (λ k. Inside k p 1) (sym are.fixed) lies))
@@ -91,10 +82,10 @@ keep f jobs are says m agree =
 abbrev IsClear : (from upto : ℕ) → Span → Type 0
 IsClear from upto span = (span.0 + span.1 ≤ from) ⊎ (upto ≤ span.0)
 
-misses : (from upto : ℕ) (spans : List Span) (a : Access) → AllByRecursion (IsClear from upto) spans → LiesInOne spans a → Misses from upto a
+misses : (from upto : ℕ) (spans : List Span) (a : Access) → AllByRecursion (IsClear from upto) spans → IsIn (intervals spans) a → Misses from upto a
 misses from upto [] a clear lies = absurd lies
-misses from upto (span ∷ spans) a (inl before, others) (inl here) = λ p is_from is_upto begins ends. omega (arith, before, here.0, here.1, is_from, is_upto, begins, ends)
-misses from upto (span ∷ spans) a (inr behind, others) (inl here) = λ p is_from is_upto begins ends. omega (arith, behind, here.0, here.1, is_from, is_upto, begins, ends)
+misses from upto (span ∷ spans) a (inl before, others) (inl here) = λ p is_from is_upto begins ends. omega (arith, before, here.from, here.upto, is_from, is_upto, begins, ends)
+misses from upto (span ∷ spans) a (inr behind, others) (inl here) = λ p is_from is_upto begins ends. omega (arith, behind, here.from, here.upto, is_from, is_upto, begins, ends)
 misses from upto (span ∷ spans) a (clear, others) (inr there) = misses from upto spans a others there
 
 first_clear : AllByRecursion (IsClear 1069056 1085440) (reached first)
@@ -125,13 +116,13 @@ second_clear = (
 abbrev both : List Numbers
 both = first ∷ second ∷ []
 
-clients_miss : (found : List Access) → AllByRecursion (λ a. (a.job < 2) × KeepsTo (numbers_of both a.job) a) found
+clients_miss : (found : List Access) → AllByRecursion (λ a. (a.job < 2) × IsSafeIn (rights (numbers_of both a.job)) a) found
     → AllByRecursion (λ a. (a.job ≡ 0 → Misses 1069056 1085440 a) × (a.job ≡ 1 → Misses 1052672 1069056 a)) found
 clients_miss [] all = tt
 clients_miss (a ∷ found) all = (
   (
-    λ is. misses 1069056 1085440 (reached first) a first_clear (subst (λ j. KeepsTo (numbers_of both j) a) is all.0.1).lies,
-    λ is. misses 1052672 1069056 (reached second) a second_clear (subst (λ j. KeepsTo (numbers_of both j) a) is all.0.1).lies,
+    λ is. misses 1069056 1085440 (reached first) a first_clear (subst (λ j. IsSafeIn (rights (numbers_of both j)) a) is all.0.1).inside,
+    λ is. misses 1052672 1069056 (reached second) a second_clear (subst (λ j. IsSafeIn (rights (numbers_of both j)) a) is all.0.1).inside,
   ),
   clients_miss found all.1,
 )

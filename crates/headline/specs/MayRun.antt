@@ -24,8 +24,7 @@ use Rattle.job_check.specs.{Emit.memory_of, Whole.refusal_of}
 use Rattle.machine_plan.specs.Regions.{Agree}
 use Rattle.qpu_law.specs.Asks.{IsOneOf}
 use Rattle.machine_law.specs.Begins.{IsFixed}
-use Rattle.accepted_law.specs.Holdings.{OfEachJob, plain_of, lists_of, fixed_of, file_rights, file_starts}
-use Rattle.accepted_law.specs.Held.{IsNamedCode}
+use Rattle.accepted_law.specs.{Holdings.OfEachJob, Holdings.plain_of, Holdings.lists_of, Holdings.fixed_of, Holdings.file_rights, Holdings.file_starts, Held.IsNamedCode}
 use Rattle.job_safety.specs.Safe.{AreSound}
 
 -- No rule stands of the bytes, and they are one file's. From each memory of the emitted one's length that has the lists and the code of

@@ -1,8 +1,9 @@
 -- Numbers parted by commas.
 use Rattle.std.proofs.Common.{◌≡◌, ℕ, suc, ◌≤◌, ◌<◌, ◌==◌, ◌&&◌, Bool, true, false, List, [], ◌∷◌, ◌++◌, length, refl, sym, ◌∙◌, ap, append_assoc, append-nil, arith, eq-eqb, Option, Some, None, is_some, if◌then◌else◌}
+use Rattle.std.specs.Prelude.{option_to_list}
 use Rattle.std.proofs.{lemmas.Bool.false≢true, lemmas.Bool.Decides.nat_tests}
 use Rattle.script.specs.{Lines.before, Lines.behind, Lines.onto_line, Number.number_within, Number.is_number}
-use Rattle.job_queue.specs.Calls.{parts_of, are_all_numbers, numbers_in, onto_numbers, last_number}
+use Rattle.job_queue.specs.Calls.{parts_of, are_all_numbers, numbers_in, last_number}
 
 whole_by : (byte : ℕ) (bytes : List ℕ) (b : Bool) → (byte == 44) ≡ b → (length (before 44 bytes) ≡ length bytes → (parts_of bytes ≡ before 44 bytes ∷ []) × (behind 44 bytes ≡ []))
     → length (before 44 (byte ∷ bytes)) ≡ length (byte ∷ bytes) → (parts_of (byte ∷ bytes) ≡ before 44 (byte ∷ bytes) ∷ []) × (behind 44 (byte ∷ bytes) ≡ [])
@@ -87,20 +88,20 @@ unfolding parts_of numbers_in number_within is_number
 no_parts = refl
 
 next_by : (bytes : List ℕ) (same : Bool) → (length (before 44 bytes) == length bytes) ≡ same
-    → numbers_in (parts_of bytes) ≡ onto_numbers (number_within last_number (before 44 bytes)) (numbers_in (parts_of (behind 44 bytes)))
+    → numbers_in (parts_of bytes) ≡ option_to_list (number_within last_number (before 44 bytes)) ++ numbers_in (parts_of (behind 44 bytes))
 unfolding numbers_in
 next_by bytes true same =
     let e : length (before 44 bytes) ≡ length bytes = grind (arith, nat_tests) in
     let known = whole bytes e in
     ap numbers_in known.0
-    ∙ ap (onto_numbers (number_within last_number (before 44 bytes))) (sym no_parts)
-    ∙ ap (λ r. onto_numbers (number_within last_number (before 44 bytes)) (numbers_in (parts_of r))) (sym known.1)
+    ∙ ap (λ ns. option_to_list (number_within last_number (before 44 bytes)) ++ ns) (sym no_parts)
+    ∙ ap (λ r. option_to_list (number_within last_number (before 44 bytes)) ++ numbers_in (parts_of r)) (sym known.1)
 next_by bytes false same =
     let apart : length (before 44 bytes) ≡ length bytes → ⊥ = λ e. absurd (false≢true (sym same ∙ eq-eqb _ _ e)) in
     ap numbers_in (more bytes apart)
 
 next : (bytes first rest : List ℕ) (found : Option ℕ) → first ≡ before 44 bytes → rest ≡ behind 44 bytes → found ≡ number_within last_number first
-    → numbers_in (parts_of bytes) ≡ onto_numbers found (numbers_in (parts_of rest))
+    → numbers_in (parts_of bytes) ≡ option_to_list found ++ numbers_in (parts_of rest)
 next bytes first rest found cut after is =
     rw (is, cut, after) (next_by bytes (length (before 44 bytes) == length bytes) refl)
 
@@ -108,13 +109,13 @@ pub put_one : (old all bytes first rest : List ℕ) (number : ℕ) (found : Opti
     → found ≡ Some number → old ++ numbers_in (parts_of bytes) ≡ all → (old ++ number ∷ []) ++ numbers_in (parts_of rest) ≡ all
 put_one old all bytes first rest number found cut after is here told =
     append_assoc old (number ∷ []) (numbers_in (parts_of rest))
-    ∙ ap (λ o. old ++ onto_numbers o (numbers_in (parts_of rest))) (sym here)
+    ∙ ap (λ o. old ++ (option_to_list o ++ numbers_in (parts_of rest))) (sym here)
     ∙ ap (λ ns. old ++ ns) (sym (next bytes first rest found cut after is)) ∙ told
 
 pub put_none : (old all bytes first rest : List ℕ) (found : Option ℕ) → first ≡ before 44 bytes → rest ≡ behind 44 bytes → found ≡ number_within last_number first
     → found ≡ None → old ++ numbers_in (parts_of bytes) ≡ all → old ++ numbers_in (parts_of rest) ≡ all
 put_none old all bytes first rest found cut after is here told =
-    ap (λ o. old ++ onto_numbers o (numbers_in (parts_of rest))) (sym here)
+    ap (λ o. old ++ (option_to_list o ++ numbers_in (parts_of rest))) (sym here)
     ∙ ap (λ ns. old ++ ns) (sym (next bytes first rest found cut after is)) ∙ told
 
 pub put_all : (old all rest : List ℕ) → length rest ≤ 0 → old ++ numbers_in (parts_of rest) ≡ all → old ≡ all

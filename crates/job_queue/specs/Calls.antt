@@ -1,5 +1,5 @@
 -- The lines of a script, and the calls that they are.
-use Rattle.std.specs.Prelude.{ℕ, is_some, ◌==◌, ◌||◌, ◌&&◌, Bool, true, bytes_eq, codes, List, [], ◌∷◌, Option, Some, None, if◌then◌else◌}
+use Rattle.std.specs.Prelude.{ℕ, is_some, ◌==◌, ◌||◌, ◌&&◌, Bool, true, bytes_eq, codes, List, [], ◌∷◌, flat_map, Option, Some, None, option_to_list, if◌then◌else◌}
 use Rattle.script.specs.{Lines.before, Lines.behind, Lines.first_malformed, Lines.onto_line, Number.number_within}
 use Rattle.job_queue.specs.declared.call.Call.TheVariants.{Submit, Start, Bin, Render}
 use Rattle.job_queue.specs.declared.call.Call.{Call}
@@ -16,14 +16,9 @@ unfoldable pub are_all_numbers : List (List ℕ) → Bool
 are_all_numbers [] = true
 are_all_numbers (word ∷ words) = is_some (number_within last_number word) && are_all_numbers words
 
-abbrev pub onto_numbers : Option ℕ → List ℕ → List ℕ
-onto_numbers None numbers = numbers
-onto_numbers (Some number) numbers = number ∷ numbers
-
 -- the numbers among words
 unfoldable pub numbers_in : List (List ℕ) → List ℕ
-numbers_in [] = []
-numbers_in (word ∷ words) = onto_numbers (number_within last_number word) (numbers_in words)
+numbers_in words = flat_map (λ word. option_to_list (number_within last_number word)) words
 
 -- a job's buffers are `-` for none, or numbers parted by commas
 unfoldable pub are_numbers : List ℕ → Bool

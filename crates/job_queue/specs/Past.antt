@@ -72,30 +72,20 @@ bin_answer past = if past.started == past.binned then Err NotBinning else Ok pas
 unfoldable pub render_answer : Past → Result ℕ QueueFault
 render_answer past = if past.rendered == past.binned then Err NotBinned else Ok (past.rendered + 1)
 
-abbrev pub with_job : Past → Job → Result ℕ QueueFault → Past
-with_job past job (Err fault) = past
-with_job past job (Ok number) = record { buffers = past.buffers; jobs = past.jobs ++ job ∷ []; started = past.started; binned = past.binned; rendered = past.rendered }
-
-abbrev pub with_start : Past → Result ℕ QueueFault → Past
-with_start past (Err fault) = past
-with_start past (Ok number) = record { buffers = past.buffers; jobs = past.jobs; started = number; binned = past.binned; rendered = past.rendered }
-
-abbrev pub with_bin : Past → Result ℕ QueueFault → Past
-with_bin past (Err fault) = past
-with_bin past (Ok number) = record { buffers = past.buffers; jobs = past.jobs; started = past.started; binned = number; rendered = past.rendered }
-
-abbrev pub with_render : Past → Result ℕ QueueFault → Past
-with_render past (Err fault) = past
-with_render past (Ok number) = record { buffers = past.buffers; jobs = past.jobs; started = past.started; binned = past.binned; rendered = number }
+-- what an answer leaves: a fault leaves all as it is
+abbrev pub past_by : (ℕ → Past) → Past → Result ℕ QueueFault → Past
+past_by next past (Err fault) = past
+past_by next past (Ok number) = next number
 
 unfoldable pub after_submit : Past → List ℕ → List ℕ → Past
-after_submit past reads writes = with_job past (record { reads = reads; writes = writes }) (submit_answer past reads writes)
+after_submit past reads writes =
+    past_by (λ number. record past { jobs = past.jobs ++ record { reads = reads; writes = writes } ∷ [] }) past (submit_answer past reads writes)
 
 unfoldable pub after_start : Past → Past
-after_start past = with_start past (start_answer past)
+after_start past = past_by (λ number. record past { started = number }) past (start_answer past)
 
 unfoldable pub after_bin : Past → Past
-after_bin past = with_bin past (bin_answer past)
+after_bin past = past_by (λ number. record past { binned = number }) past (bin_answer past)
 
 unfoldable pub after_render : Past → Past
-after_render past = with_render past (render_answer past)
+after_render past = past_by (λ number. record past { rendered = number }) past (render_answer past)

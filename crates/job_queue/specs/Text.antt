@@ -4,8 +4,7 @@ use Rattle.script.specs.Replies.{replies as script_replies}
 use Rattle.job_queue.specs.declared.queue.QueueFault.TheVariants.{Unknown, Full, Binning, NoJob, Waits, NotBinning, NotBinned}
 use Rattle.job_queue.specs.declared.call.Call.TheVariants.{Submit, Start, Bin, Render}
 use Rattle.job_queue.specs.Past.{Past, none_yet, submit_answer, start_answer, bin_answer, render_answer, after_submit, after_start, after_bin, after_render}
-use Rattle.job_queue.specs.{declared.queue.QueueFault.QueueFault, declared.call.Call.Call}
-use Rattle.job_queue.specs.Calls.{call_of, buffers_of, reads_word, writes_word}
+use Rattle.job_queue.specs.{declared.queue.QueueFault.QueueFault, declared.call.Call.Call, Calls.call_of, Calls.buffers_of, Calls.reads_word, Calls.writes_word}
 
 unfoldable pub refused_line : QueueFault → List ℕ
 refused_line (Unknown buffer) = codes "refused Q1\n"

@@ -4,8 +4,7 @@ use Rattle.std.specs.Prelude.{ℕ, ◌+◌, Bool, false, ◌&&◌, nat_lt, is_no
 use Rattle.std.specs.List.{list_all}
 use Rattle.field_words.specs.declared.access.Actor.TheVariants.{Binner as TheBinner, Renderer as TheRenderer, Qpu as TheQpu, Tmu as TheTmu}
 use Rattle.field_words.specs.{declared.access.Access.Access, declared.access.Actor.Actor}
-use Rattle.machine_plan.specs.{declared.launch.Launch.Launch, Plan.Done, Glance.Glance, Glance.Now, Glance.glanced, Runs.Moved, Runs.Run}
-use Rattle.machine_plan.specs.World.{mapped, Turn, world_may, world_step}
+use Rattle.machine_plan.specs.{declared.launch.Launch.Launch, Plan.Done, Glance.Glance, Glance.Now, Glance.glanced, Runs.Moved, Runs.Run, World.mapped, World.Turn, World.world_may, World.world_step}
 use Rattle.list_machine.specs.Lists.{Lists, Turned, quiet, binner_of, renderer_of, binner_ended, renderer_ended}
 use Rattle.list_machine.specs.{Binner.binner_ready, Binner.binner_plan, Renderer.renderer_ready, Renderer.renderer_plan}
 use Rattle.qpu_machine.specs.Qpu.{active_of, job_of_thread, qpu_ready, qpu_plan, qpu_stopped, queue_of, oldest, job_of_request, tmu_ready, tmu_plan, dropped, launched, free_in, is_idle}

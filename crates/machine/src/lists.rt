@@ -1,13 +1,12 @@
 //! The turns of binner and renderer.
-ghost use Rattle.std.specs.Prelude.{◌≡◌, ◌≤◌, ◌<◌, [], IsTrue, length};
-ghost use Rattle.machine_plan.specs.Glance.{glanced};
+ghost use Rattle.std.specs.Prelude.{◌≡◌, ◌≤◌, ◌<◌, [], IsTrue, length, Some};
+ghost use Rattle.machine_plan.specs.{Glance.glanced, World.Moves, World.turned};
 ghost use Rattle.list_machine.specs.Binner.{binner_ready};
 ghost use Rattle.list_machine.specs.Renderer.{renderer_ready};
 ghost use Rattle.qpu_machine.specs.Qpu.{free_in};
 ghost use Rattle.qpu_machine.specs.Bounds.{AreBounded};
 ghost use Rattle.machine.specs.State.{binner_job, renderer_job, picked_in, job_at};
-ghost use Rattle.machine.specs.Moves.{BinnerMoves, RendererMoves};
-ghost use Rattle.machine.specs.Step.{with_launch, is_ahead, binner_may, renderer_may};
+ghost use Rattle.machine.specs.Step.{with_launch, is_ahead, binner_may, renderer_may, binner_turn, renderer_turn};
 
 use crate::machine::Machine;
 use machine_plan::{Accesses, Choices, Launch};
@@ -64,7 +63,7 @@ impl Machine {
     pub(crate) fn take_binner_turn<C: Choices>(&mut self, words: &C, accesses: &mut Accesses)
         requires empty { accesses.old.items ≡ [] }
         requires may { IsTrue (glanced (binner_may self.old.units (binner_job self.old.units)) self.old.memory) }
-        ensures { BinnerMoves self.old (binner_job self.old.units) (C.listed words.now) accesses.new.items self.new }
+        ensures { Moves (turned self.old (binner_turn self.old.units (binner_job self.old.units) (C.listed words.now))) accesses.new.items self.new }
     {
         if let Some(job) = self.binner_job() {
             self.bin(job, words, accesses);
@@ -76,7 +75,8 @@ impl Machine {
         requires empty { accesses.old.items ≡ [] }
         requires within { job < length self.old.units.jobs }
         requires ready { IsTrue (glanced (binner_ready (job_at self.old.units.jobs job) (free_in self.old.units.qpus)) self.old.memory) }
-        ensures { BinnerMoves self.old (Some (picked_in self.old.units.jobs job)) (C.listed words.now) accesses.new.items self.new }
+        ensures { let picked = Some (picked_in self.old.units.jobs job) in
+            Moves (turned self.old (binner_turn self.old.units picked (C.listed words.now))) accesses.new.items self.new }
     {
         let free = free_in(self.qpus.as_slice());
         let started = self.jobs[job].step_binner(
@@ -93,7 +93,7 @@ impl Machine {
     pub(crate) fn take_renderer_turn<C: Choices>(&mut self, words: &C, accesses: &mut Accesses)
         requires empty { accesses.old.items ≡ [] }
         requires may { IsTrue (glanced (renderer_may (renderer_job self.old.units)) self.old.memory) }
-        ensures { RendererMoves self.old (renderer_job self.old.units) (C.listed words.now) accesses.new.items self.new }
+        ensures { Moves (turned self.old (renderer_turn self.old.units (renderer_job self.old.units) (C.listed words.now))) accesses.new.items self.new }
     {
         if let Some(job) = self.renderer_job() {
             self.render(job, words, accesses);
@@ -105,7 +105,8 @@ impl Machine {
         requires empty { accesses.old.items ≡ [] }
         requires within { job < length self.old.units.jobs }
         requires ready { IsTrue (glanced (renderer_ready (job_at self.old.units.jobs job)) self.old.memory) }
-        ensures { RendererMoves self.old (Some (picked_in self.old.units.jobs job)) (C.listed words.now) accesses.new.items self.new }
+        ensures { let picked = Some (picked_in self.old.units.jobs job) in
+            Moves (turned self.old (renderer_turn self.old.units picked (C.listed words.now))) accesses.new.items self.new }
     {
         let free = free_in(self.qpus.as_slice());
         let started = self.jobs[job].step_renderer(

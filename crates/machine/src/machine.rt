@@ -2,8 +2,8 @@
 ghost use Rattle.std.specs.Prelude.{◌≡◌, ◌≤◌, ◌<◌, [], IsTrue, false, length, option_map, unwrap_or, position, IfOk, IfSome};
 ghost use Rattle.list_machine.specs.Binner.{has_binner_work};
 ghost use Rattle.list_machine.specs.Renderer.{has_renderer_work};
-ghost use Rattle.machine.specs.Moves.{UnitMoves};
-ghost use Rattle.machine.specs.Step.{enabled, finished, job_of};
+ghost use Rattle.machine_plan.specs.World.{Moves};
+ghost use Rattle.machine.specs.Step.{enabled, finished, job_of, step};
 ghost use Rattle.machine.specs.State.{start_of, binner_job, renderer_job, picked_in};
 
 use crate::job::{Start, all_started, idle_qpus};
@@ -139,7 +139,7 @@ impl Machine {
         ensures refused { enabled self.old unit ≡ false → result ≡ Stepped.NotEnabled }
         ensures same { result ≡ Stepped.NotEnabled → self.new ≡ self.old }
         ensures emptied { result ≡ Stepped.NotEnabled → accesses.new.items ≡ [] }
-        ensures moved { result ≡ Stepped.Done → UnitMoves self.old unit words.now accesses.new.items self.new }
+        ensures moved { result ≡ Stepped.Done → Moves (step self.old (record { unit = unit; words = words.now })) accesses.new.items self.new }
     {
         self.step_by(unit, &words, accesses)
     }
@@ -156,7 +156,7 @@ impl Machine {
         ensures refused { enabled self.old unit ≡ false → result ≡ Stepped.NotEnabled }
         ensures same { result ≡ Stepped.NotEnabled → self.new ≡ self.old }
         ensures emptied { result ≡ Stepped.NotEnabled → accesses.new.items ≡ [] }
-        ensures moved { result ≡ Stepped.Done → UnitMoves self.old unit (C.listed words.now) accesses.new.items self.new }
+        ensures moved { result ≡ Stepped.Done → Moves (step self.old (record { unit = unit; words = C.listed words.now })) accesses.new.items self.new }
     {
         accesses.clear();
         if !self.enabled(unit) {
@@ -171,7 +171,7 @@ impl Machine {
     fn take_turn<C: Choices>(&mut self, unit: Actor, words: &C, accesses: &mut Accesses)
         requires empty { accesses.old.items ≡ [] }
         requires may { IsTrue (enabled self.old unit) }
-        ensures { UnitMoves self.old unit (C.listed words.now) accesses.new.items self.new }
+        ensures { Moves (step self.old (record { unit = unit; words = C.listed words.now })) accesses.new.items self.new }
     {
         match unit {
             Actor::Binner => self.take_binner_turn(words, accesses),

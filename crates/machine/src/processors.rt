@@ -1,11 +1,10 @@
 //! The turns of the shader processors and of their texture and memory units (TMUs).
 ghost use Rattle.std.specs.Prelude.{◌≡◌, ◌≤◌, ◌<◌, [], IsTrue};
-ghost use Rattle.machine_plan.specs.Glance.{glanced};
+ghost use Rattle.machine_plan.specs.{Glance.glanced, World.Moves, World.turned};
 ghost use Rattle.std.specs.List.{list_all};
 ghost use Rattle.qpu_machine.specs.Qpu.{is_idle};
 ghost use Rattle.machine.specs.State.{item_at};
-ghost use Rattle.machine.specs.Moves.{QpuMoves, TmuMoves};
-ghost use Rattle.machine.specs.Step.{qpu_may, tmu_may, qpu_job, tmu_job};
+ghost use Rattle.machine.specs.Step.{qpu_may, tmu_may, qpu_job, tmu_job, qpu_turn, tmu_turn};
 
 use crate::machine::Machine;
 use field_words::Actor;
@@ -64,7 +63,7 @@ impl Machine {
     pub(crate) fn take_qpu_turn<C: Choices>(&mut self, k: u8, words: &C, accesses: &mut Accesses)
         requires empty { accesses.old.items ≡ [] }
         requires may { IsTrue (glanced (qpu_may (item_at self.old.units.qpus k)) self.old.memory) }
-        ensures { QpuMoves self.old k (C.listed words.now) accesses.new.items self.new }
+        ensures { Moves (turned self.old (qpu_turn self.old.units k (item_at self.old.units.qpus k) (C.listed words.now))) accesses.new.items self.new }
     {
         let who = Who {
             unit: Actor::Qpu(k),
@@ -89,7 +88,7 @@ impl Machine {
     )
         requires empty { accesses.old.items ≡ [] }
         requires may { IsTrue (glanced (tmu_may (item_at self.old.units.qpus k) n) self.old.memory) }
-        ensures { TmuMoves self.old k n (C.listed words.now) accesses.new.items self.new }
+        ensures { Moves (turned self.old (tmu_turn self.old.units k n (item_at self.old.units.qpus k) (C.listed words.now))) accesses.new.items self.new }
     {
         let who = Who {
             unit: Actor::Tmu(k, n),

@@ -1,10 +1,11 @@
 -- No slot belongs to two jobs, and blocks lie apart, after any list of calls.
 use Rattle.std.proofs.Common.{inl, inr, ◌≡◌, ◌⊎◌, ℕ, ◌+◌, ◌≤◌, ◌<◌, ◌==◌, Bool, true, false, not, ◌||◌, List, [], ◌∷◌, refl, sym, ◌∙◌, ap, subst, arith, Option, None, Some, Result, Ok, Err, if◌then◌else◌, eq-eqb}
 use Rattle.std.proofs.{lemmas.Bool.false≢true, lemmas.Bool.Decides.nat_tests}
+use Rattle.std.specs.List.{AllByRecursion}
 use Rattle.field_words.specs.Sizes.{slot_size}
 use Rattle.overflow_slots.specs.declared.call.Call.TheVariants.{Begin, Take, Overflow, End}
 use Rattle.overflow_slots.specs.SlotRun.{Held, Run, holds, is_free, least_free, front, start, after, run_of, with, slot_answer, has_room, begin_answer, take_answer, take_answer_of, overflow_answer, overflow_answer_of, end_answer, with_slot, with_block, with_end, is_running}
-use Rattle.overflow_slots.specs.Laws.{NoneShared, LiesInOne, EachLies, AreApart, IsApartFrom, AllApart, EachApart, IsOrdered, AllInRange, StaysOrdered}
+use Rattle.overflow_slots.specs.Laws.{NoneShared, LiesInOne, AreApart, AllApart, IsOrdered, StaysOrdered}
 use Rattle.overflow_slots.specs.{declared.pool.Block.Block, declared.call.Call.Call, Calls.IsInRange, Search.any_where}
 use Rattle.tile_memory.specs.Slots.{slot_fits}
 use Rattle.overflow_slots.proofs.Searches.{equal, apart_by, any_is, first_found}
@@ -17,7 +18,7 @@ AreOrderly (one ∷ others) = (holds one.slot others ≡ false) × ((one.front �
 record Core (run : Run) : Type 0 where
   none_shared : NoneShared run
   orderly : (job : ℕ) → job < 32 → AreOrderly (run.held job)
-  lie : (job : ℕ) → job < 32 → EachLies (run.held job) (run.blocks job)
+  lie : (job : ℕ) → job < 32 → AllByRecursion (LiesInOne (run.held job)) (run.blocks job)
   own_apart : (job : ℕ) → job < 32 → AllApart (run.blocks job)
 
 -- no other job holds one of these slots
@@ -48,12 +49,12 @@ of_both : (P : List Held → List Block → Type 0) (helds held : List Held) (bl
 of_both P helds held blocks old true new kept = new
 of_both P helds held blocks old false new kept = kept
 
-changed : (run : Run) (job : ℕ) (helds : List Held) (blocks : List Block) → Core run → Fresh run job helds → AreOrderly helds → EachLies helds blocks → AllApart blocks
+changed : (run : Run) (job : ℕ) (helds : List Held) (blocks : List Block) → Core run → Fresh run job helds → AreOrderly helds → AllByRecursion (LiesInOne helds) blocks → AllApart blocks
     → Core (with run job helds blocks)
 changed run job helds blocks core fresh orderly lie apart = record {
   none_shared = λ slot a b low_a low_b ha hb. shared run job helds core fresh slot a b low_a low_b (a == job) refl (b == job) refl ha hb;
   orderly = λ other low. of_held AreOrderly helds (run.held other) (other == job) (λ e. orderly) (λ e. core.orderly other low);
-  lie = λ other low. of_both EachLies helds (run.held other) blocks (run.blocks other) (other == job) lie (core.lie other low);
+  lie = λ other low. of_both (λ h b. AllByRecursion (LiesInOne h) b) helds (run.held other) blocks (run.blocks other) (other == job) lie (core.lie other low);
   own_apart = λ other low. of_blocks AllApart blocks (run.blocks other) (other == job) apart (core.own_apart other low);
 }
 
@@ -129,7 +130,7 @@ begin_step run job tiles (Ok slot) e core =
     (refl, (omega arith, tt)) tt tt
 
 -- slots that a block lies in
-lies_more : (one : Held) (helds : List Held) (blocks : List Block) → EachLies helds blocks → EachLies (one ∷ helds) blocks
+lies_more : (one : Held) (helds : List Held) (blocks : List Block) → AllByRecursion (LiesInOne helds) blocks → AllByRecursion (LiesInOne (one ∷ helds)) blocks
 lies_more one helds [] lie = tt
 lies_more one helds (block ∷ blocks) lie = (inr lie.0, lies_more one helds blocks lie.1)
 
@@ -148,8 +149,8 @@ overflow_step run job (Ok slot) low e core =
     (lies_more (record { slot = slot; front = 0; used = 0 }) (run.held job) (run.blocks job) (core.lie job low))
     (core.own_apart job low)
 
-lies_grown : (one : Held) (others : List Held) (blocks : List Block) → EachLies (one ∷ others) blocks
-    → EachLies (record { slot = one.slot; front = one.front; used = one.used + 128 } ∷ others) blocks
+lies_grown : (one : Held) (others : List Held) (blocks : List Block) → AllByRecursion (LiesInOne (one ∷ others)) blocks
+    → AllByRecursion (LiesInOne (record { slot = one.slot; front = one.front; used = one.used + 128 } ∷ others)) blocks
 lies_grown one others [] lie = tt
 lies_grown one others (block ∷ blocks) lie = (
   elim (lie.0) [
@@ -178,8 +179,8 @@ apart_of one others block differ lie = elim lie [
   | inr there ↦ inl (λ e. false≢true (sym differ ∙ (ap (λ s. holds s others) e ∙ held_of others block there)))
 ]
 
-all_apart : (one : Held) (others : List Held) (blocks : List Block) → holds one.slot others ≡ false → EachLies (one ∷ others) blocks
-    → IsApartFrom (record { slot = one.slot; at = one.used }) blocks
+all_apart : (one : Held) (others : List Held) (blocks : List Block) → holds one.slot others ≡ false → AllByRecursion (LiesInOne (one ∷ others)) blocks
+    → AllByRecursion (AreApart (record { slot = one.slot; at = one.used })) blocks
 all_apart one others [] differ lie = tt
 all_apart one others (block ∷ blocks) differ lie = (apart_of one others block differ lie.0, all_apart one others blocks differ lie.1)
 
@@ -192,7 +193,7 @@ unfolding holds
 take_by run job one others false low is room core = core
 take_by run job one others true low is room core =
     let orderly = subst AreOrderly is (core.orderly job low) in
-    let lie = subst (λ helds. EachLies helds (run.blocks job)) is (core.lie job low) in
+    let lie = subst (λ helds. AllByRecursion (LiesInOne helds) (run.blocks job)) is (core.lie job low) in
     changed run job (record { slot = one.slot; front = one.front; used = one.used + 128 } ∷ others) (record { slot = one.slot; at = one.used } ∷ run.blocks job) core
     (fresh_own run job (one ∷ others) low is core)
     (orderly.0, (omega (arith, orderly.1.0), orderly.1.1))
@@ -223,14 +224,14 @@ core_start slots = record {
   own_apart = λ job low. tt;
 }
 
-core_of : (run : Run) (calls : List Call) → AllInRange calls → Core run → Core (run_of run calls)
+core_of : (run : Run) (calls : List Call) → AllByRecursion IsInRange calls → Core run → Core (run_of run calls)
 unfolding run_of
 core_of run [] low core = core
 core_of run (call ∷ calls) low core = core_of (after run call) calls low.1 (step run call low.0 core)
 
 -- blocks of two jobs
 from_other : (run : Run) (job other : ℕ) (block : Block) (blocks : List Block) → job < 32 → other < 32 → (job ≡ other → ⊥) → Core run
-    → holds block.slot (run.held job) ≡ true → EachLies (run.held other) blocks → IsApartFrom block blocks
+    → holds block.slot (run.held job) ≡ true → AllByRecursion (LiesInOne (run.held other)) blocks → AllByRecursion (AreApart block) blocks
 from_other run job other block [] low low_o apart core mine lie = tt
 from_other run job other block (one ∷ blocks) low low_o apart core mine lie = (
   inl (λ e. apart (core.none_shared block.slot job other low low_o mine (ap (λ s. holds s (run.held other)) e ∙ held_of (run.held other) one lie.0))),
@@ -238,7 +239,7 @@ from_other run job other block (one ∷ blocks) low low_o apart core mine lie = 
 )
 
 from_each : (run : Run) (job other : ℕ) (blocks others : List Block) → job < 32 → other < 32 → (job ≡ other → ⊥) → Core run
-    → EachLies (run.held job) blocks → EachLies (run.held other) others → EachApart blocks others
+    → AllByRecursion (LiesInOne (run.held job)) blocks → AllByRecursion (LiesInOne (run.held other)) others → AllByRecursion (λ block. AllByRecursion (AreApart block) others) blocks
 from_each run job other [] others low low_o apart core lie theirs = tt
 from_each run job other (block ∷ blocks) others low low_o apart core lie theirs = (
   from_other run job other block others low low_o apart core (held_of (run.held job) block lie.0) theirs,

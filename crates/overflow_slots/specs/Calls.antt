@@ -1,5 +1,5 @@
 -- The lines of a script, and the calls that they are.
-use Rattle.std.specs.Prelude.{ℕ, is_some, ◌≤◌, ◌<◌, Bool, bytes_eq, codes, List, Option, Some, None, if◌then◌else◌}
+use Rattle.std.specs.Prelude.{ℕ, is_some, ◌≤◌, ◌<◌, Bool, bytes_eq, codes, List, Option, Some, None, option_map, if◌then◌else◌}
 use Rattle.script.specs.{Lines.before, Lines.behind, Lines.first_malformed, Number.number_within}
 use Rattle.overflow_slots.specs.declared.call.Call.TheVariants.{Begin, Take, Overflow, End}
 use Rattle.overflow_slots.specs.declared.call.Call.{Call}
@@ -20,17 +20,13 @@ begin_by (Some job) (Some tiles) = Some (Begin job tiles)
 abbrev pub begin_of : List ℕ → Option Call
 begin_of words = begin_by (number_within last_job (before 32 words)) (number_within most_tiles (behind 32 words))
 
-abbrev pub by_job : (ℕ → Call) → Option ℕ → Option Call
-by_job call None = None
-by_job call (Some job) = Some (call job)
-
 -- `take <job>`, `overflow <job>`, `end <job>`
 abbrev pub call_named : List ℕ → List ℕ → Option Call
 call_named name words =
     if bytes_eq name (codes "begin") then begin_of words
-    else (if bytes_eq name (codes "take") then by_job Take (number_within last_job words)
-    else (if bytes_eq name (codes "overflow") then by_job Overflow (number_within last_job words)
-    else (if bytes_eq name (codes "end") then by_job End (number_within last_job words) else None)))
+    else (if bytes_eq name (codes "take") then option_map Take (number_within last_job words)
+    else (if bytes_eq name (codes "overflow") then option_map Overflow (number_within last_job words)
+    else (if bytes_eq name (codes "end") then option_map End (number_within last_job words) else None)))
 
 -- the call that a line is; words are parted by one space
 unfoldable pub call_of : List ℕ → Option Call

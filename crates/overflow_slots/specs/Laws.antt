@@ -1,9 +1,8 @@
 -- What is true after any list of calls: no slot belongs to two jobs, and blocks lie apart, each in a slot of its own job past the
 -- bytes that the slot's front takes.
-use Rattle.std.specs.Prelude.{◌≡◌, ◌≤◌, ◌<◌, ◌⊎◌, ℕ, ◌+◌, true, List, [], ◌∷◌}
+use Rattle.std.specs.{Prelude.◌≡◌, Prelude.◌≤◌, Prelude.◌<◌, Prelude.◌⊎◌, Prelude.ℕ, Prelude.◌+◌, Prelude.true, Prelude.List, Prelude.[], Prelude.◌∷◌, List.AllByRecursion}
 use Rattle.field_words.specs.Sizes.{slot_size}
-use Rattle.overflow_slots.specs.{declared.pool.Block.Block, declared.call.Call.Call, Calls.IsInRange}
-use Rattle.overflow_slots.specs.SlotRun.{Held, Run, holds, start, run_of, block_size}
+use Rattle.overflow_slots.specs.{declared.pool.Block.Block, declared.call.Call.Call, Calls.IsInRange, SlotRun.Held, SlotRun.Run, SlotRun.holds, SlotRun.start, SlotRun.run_of, SlotRun.block_size}
 
 -- no slot belongs to two jobs
 abbrev pub NoneShared : Run → Type 0
@@ -21,38 +20,23 @@ abbrev pub LiesInOne : List Held → Block → Type 0
 LiesInOne [] block = ⊥
 LiesInOne (one ∷ others) block = LiesIn block one ⊎ LiesInOne others block
 
-abbrev pub EachLies : List Held → List Block → Type 0
-EachLies helds [] = Unit {0}
-EachLies helds (block ∷ blocks) = LiesInOne helds block × EachLies helds blocks
-
 -- the blocks have no byte in common
 abbrev pub AreApart : Block → Block → Type 0
 AreApart block other = (block.slot ≡ other.slot → ⊥) ⊎ ((block.at + block_size ≤ other.at) ⊎ (other.at + block_size ≤ block.at))
 
-abbrev pub IsApartFrom : Block → List Block → Type 0
-IsApartFrom block [] = Unit {0}
-IsApartFrom block (other ∷ others) = AreApart block other × IsApartFrom block others
-
 -- each two of a list
 abbrev pub AllApart : List Block → Type 0
 AllApart [] = Unit {0}
-AllApart (block ∷ blocks) = IsApartFrom block blocks × AllApart blocks
-
-abbrev pub EachApart : List Block → List Block → Type 0
-EachApart [] others = Unit {0}
-EachApart (block ∷ blocks) others = IsApartFrom block others × EachApart blocks others
+AllApart (block ∷ blocks) = AllByRecursion (AreApart block) blocks × AllApart blocks
 
 -- the book of the slots is in order
 pub record IsOrdered (run : Run) : Type 0 where
   pub none_shared : NoneShared run
-  pub lie : (job : ℕ) → job < 32 → EachLies (run.held job) (run.blocks job)
+  pub lie : (job : ℕ) → job < 32 → AllByRecursion (LiesInOne (run.held job)) (run.blocks job)
   pub own_apart : (job : ℕ) → job < 32 → AllApart (run.blocks job)
-  pub apart : (job other : ℕ) → job < 32 → other < 32 → (job ≡ other → ⊥) → EachApart (run.blocks job) (run.blocks other)
-
-abbrev pub AllInRange : List Call → Type 0
-AllInRange [] = Unit {0}
-AllInRange (call ∷ calls) = IsInRange call × AllInRange calls
+  pub apart : (job other : ℕ) → job < 32 → other < 32 → (job ≡ other → ⊥)
+      → AllByRecursion (λ block. AllByRecursion (AreApart block) (run.blocks other)) (run.blocks job)
 
 -- after any list of calls on any number of slots
 abbrev pub StaysOrdered : Type 0
-StaysOrdered = (slots : ℕ) (calls : List Call) → AllInRange calls → IsOrdered (run_of (start slots) calls)
+StaysOrdered = (slots : ℕ) (calls : List Call) → AllByRecursion IsInRange calls → IsOrdered (run_of (start slots) calls)

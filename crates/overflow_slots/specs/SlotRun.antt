@@ -3,8 +3,7 @@ use Rattle.std.specs.Prelude.{ℕ, ◌+◌, ◌*◌, ◌==◌, Bool, true, false
 use Rattle.field_words.specs.{Sizes.slot_size, Words.rounded_up}
 use Rattle.tile_memory.specs.Slots.{alloc_offset, slot_fits}
 use Rattle.overflow_slots.specs.declared.call.Call.TheVariants.{Begin, Take, Overflow, End}
-use Rattle.overflow_slots.specs.{declared.pool.Block.Block, declared.call.Call.Call}
-use Rattle.overflow_slots.specs.Search.{first_where, count_where, any_where}
+use Rattle.overflow_slots.specs.{declared.pool.Block.Block, declared.call.Call.Call, Search.first_where, Search.count_where, Search.any_where}
 
 -- the jobs that a pool knows: 0 to 31
 abbrev pub most_jobs : ℕ

@@ -4,8 +4,7 @@ use Rattle.field_words.specs.declared.stop.Stop.{Stop}
 use Rattle.field_words.specs.declared.stop.Stop.TheVariants as stop
 use Rattle.qpu_isa.specs.Fields.{joined}
 use Rattle.script.specs.Lines.{before, behind}
-use Rattle.qpu_asm.specs.{declared.fault.AsmFault.AsmFault, declared.fault.Mistake.Mistake, Table.Row, Table.Kind, Table.widths_of}
-use Rattle.qpu_asm.specs.{Lines.Line, Lines.Blank, Lines.Label, Lines.BadLabel, Lines.Coded, Faults.text_faults}
+use Rattle.qpu_asm.specs.{declared.fault.AsmFault.AsmFault, declared.fault.Mistake.Mistake, Table.Row, Table.Kind, Table.widths_of, Lines.Line, Lines.Coded, Faults.text_faults}
 use Rattle.qpu_asm.specs.{Items.Spots, Items.read_value, Items.is_row, Items.kind_named, Labels.size_of, Labels.read_lines, Labels.spots_of}
 
 abbrev pub value_or : ℕ → Result ℕ Mistake → ℕ
@@ -30,10 +29,8 @@ code_word spots index items (Some kind) = kind_word spots index items kind
 
 -- the word of an instruction's line
 unfoldable pub words_on : Spots → ℕ → Line → List ℕ
-words_on spots index Blank = []
-words_on spots index (Label name) = []
-words_on spots index BadLabel = []
 words_on spots index (Coded opcode items) = code_word spots index items (kind_named opcode) ∷ []
+words_on spots index other = []
 
 unfoldable pub words_from : Spots → ℕ → List Line → List ℕ
 words_from spots index [] = []

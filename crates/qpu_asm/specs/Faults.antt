@@ -1,7 +1,6 @@
 -- All faults of a text: each line's and each item's by its own sentence, whatever other faults stand before it.
 use Rattle.std.specs.Prelude.{ℕ, ◌≡◌, ◌+◌, true, ◌&&◌, List, [], ◌∷◌, ◌++◌, map, if◌then◌else◌, Option, None, Some, Result, Ok, Err}
-use Rattle.field_words.specs.{Questions.Question, Questions.Ask, Least.NotAfter, Least.IsLeast, declared.stop.Stop.Stop}
-use Rattle.field_words.specs.declared.stop.Stop.TheVariants.{Fault, NoMemory}
+use Rattle.field_words.specs.{Questions.Question, Questions.Ask, Least.NotAfter, Least.IsLeast, declared.stop.Stop.Stop, declared.stop.Stop.TheVariants.Fault, declared.stop.Stop.TheVariants.NoMemory}
 use Rattle.script.specs.Lines.{before, behind}
 use Rattle.qpu_asm.specs.declared.fault.Mistake.TheVariants.{UnknownWord, BadOperand, LabelTwice}
 use Rattle.qpu_asm.specs.Items.{Spots, mistake_number, read_value, is_row, has_row, has_value, kind_named}

@@ -1,15 +1,12 @@
 -- The labels of a text, and where each one stands.
 use Rattle.std.specs.Prelude.{ℕ, ◌+◌, Bool, false, nat_lt, List, [], ◌∷◌, ◌++◌, map, if◌then◌else◌, Option, None, Some, bytes_eq}
 use Rattle.script.specs.Lines.{lines_of}
-use Rattle.qpu_asm.specs.{declared.label.Spot.Spot, Lines.Line, Lines.Blank, Lines.Label, Lines.BadLabel, Lines.Coded, Lines.read_line}
-use Rattle.qpu_asm.specs.Items.{Spots}
+use Rattle.qpu_asm.specs.{declared.label.Spot.Spot, Lines.Line, Lines.Label, Lines.Coded, Lines.read_line, Items.Spots}
 
 -- an instruction's line takes one index
 abbrev pub size_of : Line → ℕ
-size_of Blank = 0
-size_of (Label name) = 0
-size_of BadLabel = 0
 size_of (Coded opcode items) = 1
+size_of other = 0
 
 -- a label, and where it stands
 pub record LabelSpot : Type 0 where
@@ -18,10 +15,8 @@ pub record LabelSpot : Type 0 where
 
 -- what a line with this number, and this index of the next instruction, defines
 abbrev pub label_on : ℕ → ℕ → Line → List LabelSpot
-label_on line index Blank = []
 label_on line index (Label name) = record { name = name; spot = record { line = line; index = index } } ∷ []
-label_on line index BadLabel = []
-label_on line index (Coded opcode items) = []
+label_on line index other = []
 
 unfoldable pub labels_from : ℕ → ℕ → List Line → List LabelSpot
 labels_from line index [] = []
@@ -38,10 +33,8 @@ or_spot (Some spot) other = Some spot
 
 -- the spots with what a line defines, where its label is new
 abbrev pub spots_with : Spots → ℕ → ℕ → Line → Spots
-spots_with spots line index Blank = spots
 spots_with spots line index (Label name) = λ other. or_spot (spots other) (if bytes_eq name other then Some (record { line = line; index = index }) else None)
-spots_with spots line index BadLabel = spots
-spots_with spots line index (Coded opcode items) = spots
+spots_with spots line index other = spots
 
 -- the label was defined before this line
 abbrev pub is_before : ℕ → Option Spot → Bool

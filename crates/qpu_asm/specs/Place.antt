@@ -1,5 +1,5 @@
 -- Where on its line a fault of a text stands, and what was expected there.
-use Rattle.std.specs.Prelude.{ℕ, ◌+◌, ◌-◌, ◌==◌, Bool, false, List, [], ◌∷◌, ◌++◌, codes, length, slice_index_or, if◌then◌else◌, Option, None, Some}
+use Rattle.std.specs.Prelude.{ℕ, ◌+◌, ◌-◌, ◌==◌, Bool, false, List, [], ◌∷◌, ◌++◌, codes, length, slice_index_or, if◌then◌else◌, Option, None, Some, unwrap_or}
 use Rattle.std.specs.{Fmt.decimal, List.slice_split, List.flat_map, Str.bytes_eq}
 use Rattle.script.specs.Lines.{lines_of, before}
 use Rattle.qpu_asm.specs.declared.place.Opcode.TheVariants.{Nop, Alu, Li, Br}
@@ -65,15 +65,11 @@ item_place spots kind opcode all rows (item ∷ items) =
     if is_of kind (item_mistakes spots 0 all rows item.text) then Some (record { column = item.column; wanted = wanted_item opcode all rows item.text })
     else item_place spots kind opcode all (rows_after item.text rows) items
 
-abbrev pub place_or : FaultPlace → Option FaultPlace → FaultPlace
-place_or other None = other
-place_or other (Some place) = place
-
 -- an instruction's first word that is no kind of instruction, or the first item with such a mistake
 abbrev pub code_place : Spots → ℕ → ℕ → List ℕ → List Word → Option Kind → FaultPlace
 code_place spots kind column opcode items None = record { column = column; wanted = FirstWord }
 code_place spots kind column opcode items (Some of) =
-    place_or (record { column = column; wanted = FirstWord }) (item_place spots kind (opcode_of opcode) of.rows of.rows items)
+    unwrap_or (item_place spots kind (opcode_of opcode) of.rows of.rows items) (record { column = column; wanted = FirstWord })
 
 -- by what the line is; its first word begins at a column
 abbrev pub line_place : Spots → ℕ → ℕ → List Word → Line → FaultPlace

@@ -1,9 +1,7 @@
 -- The disassembler's text: one line a word.
 use Rattle.std.specs.Prelude.{ℕ, ◌≡◌, ◌<◌, ◌^◌, ◌==◌, List, [], ◌∷◌, ◌++◌, decimal, All, if◌then◌else◌, Option, None, Some, Ok, flat_map}
-use Rattle.qpu_isa.specs.{Word.sig_of, Inst.alu_of, Inst.load_imm_of, Inst.branch_of}
-use Rattle.qpu_isa.specs.Fields.{values_of, alu_values, load_imm_values, branch_values}
-use Rattle.qpu_asm.specs.Table.{Named, Row, Kind, widths_of, nop_word, nop_kind, alu_kind, load_imm_kind, branch_kind}
-use Rattle.qpu_asm.specs.Assembly.{Assembled}
+use Rattle.qpu_isa.specs.{Word.sig_of, Inst.alu_of, Inst.load_imm_of, Inst.branch_of, Fields.values_of, Fields.alu_values, Fields.load_imm_values, Fields.branch_values}
+use Rattle.qpu_asm.specs.{Table.Named, Table.Row, Table.Kind, Table.widths_of, Table.nop_word, Table.nop_kind, Table.alu_kind, Table.load_imm_kind, Table.branch_kind, Assembly.Assembled}
 
 unfoldable pub name_of : List Named → ℕ → Option (List ℕ)
 name_of [] value = None

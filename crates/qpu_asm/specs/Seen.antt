@@ -1,6 +1,5 @@
 -- The code's tables as the definitions' tables, and what it has read as the definitions' words.
-use Rattle.std.specs.Prelude.{ℕ, List, map, Result}
-use Rattle.std.specs.{BTreeMap.get_by, Cmp.Lexicographic.slice_cmp, Ordering.nat_cmp}
+use Rattle.std.specs.{Prelude.ℕ, Prelude.List, Prelude.map, Prelude.Result, BTreeMap.get_by, Cmp.Lexicographic.slice_cmp, Ordering.nat_cmp}
 use Rattle.script.specs.{declared.lines.Cut.Cut}
 use Rattle.qpu_asm.specs.{declared.fault.Mistake.Mistake, declared.lines.Line.Line, declared.label.Labels.Labels, Items.Spots, Items.read_value}
 use Rattle.qpu_asm.specs.{declared.table.Named.Named, declared.table.Row.Row, declared.table.Kind.Kind}

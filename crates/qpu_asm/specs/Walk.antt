@@ -7,8 +7,7 @@ use Rattle.script.specs.Lines.{before, behind}
 use Rattle.qpu_asm.specs.declared.fault.Mistake.TheVariants.{UnknownWord, BadOperand, LabelTwice}
 use Rattle.qpu_asm.specs.Items.{Spots, mistake_number, read_value, is_row, has_row, has_value, kind_named}
 use Rattle.qpu_asm.specs.{declared.fault.AsmFault.AsmFault, declared.fault.Mistake.Mistake, Labels.is_before, Faults.fault_on}
-use Rattle.qpu_asm.specs.{Table.Row, Table.Kind, Table.fallbacks_of, Table.widths_of, Printed.item_text}
-use Rattle.qpu_asm.specs.Lines.{Line, Blank, Label, BadLabel, Coded}
+use Rattle.qpu_asm.specs.{Table.Row, Table.Kind, Table.fallbacks_of, Table.widths_of, Printed.item_text, Lines.Line, Lines.Blank, Lines.Label, Lines.BadLabel, Lines.Coded}
 
 -- the one with the lesser number, where there is another
 abbrev pub least_of : Mistake → Option Mistake → Mistake

@@ -2,8 +2,7 @@
 use Rattle.std.specs.Prelude.{◌≡◌, ◌≤◌, ◌<◌, ℕ, ◌+◌, ◌^◌, Bool, false, true, List, length, slice_index_or, Option, None, Some, IfSome}
 use Rattle.arrayvec.specs.ArrayVec.{ArrayVec}
 use Rattle.machine_plan.specs.Turn.{CarriesOver}
-use Rattle.qpu_machine.specs.{State.Access, State.Leaves, State.Qpu, State.Request, State.Thread, State.Who, Qpu.queued, Qpu.idle_qpu}
-use Rattle.qpu_machine.specs.Step.{thread_plan, turned}
+use Rattle.qpu_machine.specs.{State.Access, State.Leaves, State.Qpu, State.Request, State.Thread, State.Who, Qpu.queued, Qpu.idle_qpu, Step.thread_plan, Step.turned}
 
 -- a thread's next instruction is no further than this
 abbrev pub IsNear : Option Thread → Type 0

@@ -1,8 +1,7 @@
 -- What the two units compute with, and what they come to.
 use Rattle.std.specs.Prelude.{ℕ, ◌+◌, ◌-◌, ◌%◌, ◌^◌, ◌==◌, ◌||◌, ◌&&◌, not, Bool, nat_lt, nat_le, if◌then◌else◌, List, [], slice_index, slice_index_or, unwrap_or}
 use Rattle.qpu_isa.specs.Word.{raddr_a_of, raddr_b_of, add_a_of, add_b_of, mul_a_of, mul_b_of, op_add_of, op_mul_of, mode_of, imm_of}
-use Rattle.qpu_isa.specs.declared.inst.Reg.TheVariants.{A, B}
-use Rattle.qpu_isa.specs.Terms.{is_plain, has_small, is_load_imm, is_add_packed, is_mul_packed, names}
+use Rattle.qpu_isa.specs.{declared.inst.Reg.TheVariants.A, declared.inst.Reg.TheVariants.B, Terms.is_plain, Terms.has_small, Terms.is_load_imm, Terms.is_add_packed, Terms.is_mul_packed, Terms.names}
 use Rattle.qpu_alu.specs.Operation.{add_result_of, mul_result_of}
 use Rattle.machine_plan.specs.Choice.{word_at}
 use Rattle.qpu_machine.specs.{State.Thread, Row.lanes, Row.filled, Row.chosen_row}

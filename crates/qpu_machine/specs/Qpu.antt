@@ -2,7 +2,7 @@
 -- and where a program can start.
 use Rattle.std.specs.Prelude.{ℕ, ◌+◌, ◌==◌, ◌&&◌, ◌||◌, not, Bool, true, false, if◌then◌else◌, List, [], ◌∷◌, ◌++◌, drop, length, Option, None, Some, is_some, is_none, option_map, count_by}
 use Rattle.machine_plan.specs.{Glance.Glance, Glance.Now, Plan.Plan, Plan.Done, World.mapped}
-use Rattle.qpu_machine.specs.State.{Asked, Ends, Fate, Free, GoesOn, Launch, Leaves, Qpu, Request, Slot, Switches, Thread}
+use Rattle.qpu_machine.specs.State.{Asked, Ends, Fate, Free, GoesOn, Launch, Leaves, Qpu, Request, Slot, Thread}
 use Rattle.qpu_machine.specs.{Request.ask_plan, Start.thread_of, Step.ThreadTurn, Step.thread_plan, Step.thread_ready}
 
 -- the thread that is active, where it runs, and the other one
@@ -34,19 +34,16 @@ qpu_ready q = ready_by (active_of q) q
 
 -- an end leaves no thread, and gives way to the other one, as a switch does
 abbrev pub left_by : Fate → Thread → Option Thread
-left_by GoesOn t = Some t
-left_by Switches t = Some t
 left_by Ends t = None
+left_by other t = Some t
 
 abbrev pub kept_by : Fate → Option Thread → Option Thread
-kept_by GoesOn slot = slot
-kept_by Switches slot = slot
 kept_by Ends slot = None
+kept_by other slot = slot
 
 abbrev pub gives_way : Fate → Bool
 gives_way GoesOn = false
-gives_way Switches = true
-gives_way Ends = true
+gives_way other = true
 
 -- a thread that becomes active is fresh
 abbrev pub refreshed : Thread → Thread

@@ -1,8 +1,7 @@
 -- What a texture and memory unit (TMU) does with a request.
 use Rattle.std.specs.Prelude.{ℕ, zero, suc, ◌+◌, ◌-◌, ◌*◌, ◌%◌, ◌||◌, Bool, if◌then◌else◌, List, [], ◌∷◌, ◌++◌, Option, Some, None, slice_index}
 use Rattle.field_words.specs.Words.{u32_at}
-use Rattle.texture_layouts.specs.Setup.{TextureModel, texture_of, faces_of, level_width_of, level_height_of, tiling_at}
-use Rattle.texture_layouts.specs.Fetch.{fetch_place_of, fetch_size_of}
+use Rattle.texture_layouts.specs.{Setup.TextureModel, Setup.texture_of, Setup.faces_of, Setup.level_width_of, Setup.level_height_of, Setup.tiling_at, Fetch.fetch_place_of, Fetch.fetch_size_of}
 use Rattle.texture_layouts.specs.Fits.{has_two_strides, lacks_stride, is_unlisted, has_child_image}
 use Rattle.machine_plan.specs.{Choice.word_at, Plan.Plan, Plan.Done, Plan.Wilds, Plan.Reads, World.mapped}
 use Rattle.qpu_machine.specs.State.{Ask, Direct, Texture}

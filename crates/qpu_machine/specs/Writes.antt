@@ -115,9 +115,8 @@ unfoldable pub fate_of : Thread → Fate
 fate_of t = if is_end t.last2.word then Ends else (if is_switch t.last2.word then Switches else GoesOn)
 
 abbrev pub switches : Fate → Bool
-switches GoesOn = false
 switches Switches = true
-switches Ends = false
+switches other = false
 
 -- a thread that switches is fresh from then on
 unfoldable pub rested : Fate → Thread → Thread

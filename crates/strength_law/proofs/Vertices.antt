@@ -22,7 +22,7 @@ use Rattle.qpu_machine.specs.Qpu.{free_in}
 use Rattle.machine.specs.Step.{Event, with_lists, ready, turn, enabled, is_ahead, binner_may as may_bin, renderer_may}
 use Rattle.machine.specs.State.{Units, renderer_job}
 use Rattle.job_safety.proofs.{Packets.AllSafe, Steps.first_step, Steps.mapped_accesses}
-use Rattle.strength_law.specs.Vertices.{IsAtWork, IsAtListed, ItemReadsPastAreUnsafe, BinnerFetches, RendererFetches, Fetches, index_place, index_of, IndexesPastAreUnsafe, AttributesPastAreUnsafe, ExtensionsPastAreUnsafe, DataPastAreUnsafe, BinnerStarts, choice_of, threaded_by, RendererStarts, IsOfRecord, RecordsPastAreUnsafe}
+use Rattle.strength_law.specs.Vertices.{IsAtWork, IsAtListed, ItemReadsPastAreUnsafe, BinnerFetches, RendererFetches, Fetches, index_place, index_of, IndexesPastAreUnsafe, IsOfAttribute, AttributesPastAreUnsafe, BinnerStarts, choice_of, threaded_by, RendererStarts, IsOfRecord, RecordsPastAreUnsafe}
 
 -- the job of a unit may reach these bytes
 abbrev pub MayReach : List Rights → Who → ℕ → ℕ → Type 0
@@ -211,23 +211,17 @@ indexes_past_law jobs m u j p state number fetches indexed past safe =
     past (by_job jobs is.who j (index_place p number) (index_size p) is.job_is
     (index_read jobs is.who m p number indexed (front_safe jobs is.who (index_plan p number) (indexed_plan p state) m is.all)))
 
+part_reached : (jobs : List Rights) (who : Who) (m : List ℕ) (state index attribute place len : ℕ) → IsOfAttribute m state index attribute place len
+    → IsReached jobs who m state index attribute → MayReach jobs who place len
+part_reached jobs who m state index attribute place len (inl is) reached = rw (is.0, is.1) reached.bytes
+part_reached jobs who m state index attribute place len (inr (inl is)) reached = rw (is.1.0, is.1.1) (reached.extension is.0)
+part_reached jobs who m state index attribute place len (inr (inr is)) reached = rw (is.0, is.1) reached.data_there
+
 pub attributes_past_law : AttributesPastAreUnsafe
-attributes_past_law jobs m u j p state number attribute has past safe =
-    let is : IsFetched jobs m j p state number = vertex_fetched jobs m u j p state number has.fetches safe in
-    let reached = vertex_reached jobs is.who m p state number attribute has.draws has.few is.all in
-    past (by_job jobs is.who j (attribute_place state attribute) 8 is.job_is reached.bytes)
-
-pub extensions_past_law : ExtensionsPastAreUnsafe
-extensions_past_law jobs m u j p state number attribute has extended past safe =
-    let is : IsFetched jobs m j p state number = vertex_fetched jobs m u j p state number has.fetches safe in
-    let reached = vertex_reached jobs is.who m p state number attribute has.draws has.few is.all in
-    past (by_job jobs is.who j (extension_place state attribute) 4 is.job_is (reached.extension extended))
-
-pub data_past_law : DataPastAreUnsafe
-data_past_law jobs m u j p state number attribute has past safe =
-    let is : IsFetched jobs m j p state number = vertex_fetched jobs m u j p state number has.fetches safe in
-    let reached = vertex_reached jobs is.who m p state number attribute has.draws has.few is.all in
-    past (by_job jobs is.who j _ _ is.job_is reached.data_there)
+attributes_past_law jobs m u j p state number attribute fetches draws few place len part past safe =
+    let is : IsFetched jobs m j p state number = vertex_fetched jobs m u j p state number fetches safe in
+    past (by_job jobs is.who j place len is.job_is
+    (part_reached jobs is.who m state (index_of m p number) attribute place len part (vertex_reached jobs is.who m p state number attribute draws few is.all)))
 
 -- the start of a program
 launch_reads : (jobs : List Rights) (who : Who) (m : List ℕ) (program : Program) (threaded : Bool) (state place len : ℕ) → IsOfRecord program state place len

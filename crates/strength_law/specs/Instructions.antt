@@ -1,6 +1,5 @@
 -- What safety refuses of an instruction: each case that the hardware leaves undefined, and a uniform outside what its job may reach.
-use Rattle.std.specs.Prelude.{◌≡◌, ◌≢◌, ◌≤◌, ◌⊎◌, ℕ, true, false, List, length}
-use Rattle.std.specs.Int.{from_le_bytes, w64}
+use Rattle.std.specs.{Prelude.◌≡◌, Prelude.◌≢◌, Prelude.◌≤◌, Prelude.◌⊎◌, Prelude.ℕ, Prelude.true, Prelude.false, Prelude.List, Prelude.length, Int.from_le_bytes, Int.w64}
 use Rattle.qpu_isa.specs.Terms.{is_branch, is_switch, is_load_imm, names_address, names_on_b, is_address_write, add_is_tmu, mul_is_tmu, writes_tmu, reads_upper, names_upper}
 use Rattle.qpu_isa.specs.Word.{sig_of, mode_of, relative_of, register_of, cond_add_of, cond_mul_of}
 use Rattle.qpu_machine.specs.{declared.state.Thread.Thread, Wild.takes_one}

@@ -1,12 +1,10 @@
 -- What safety refuses of a packet: each that the hardware leaves undefined where it stands, and a load outside what its job may reach.
 use Rattle.std.specs.Prelude.{◌≡◌, ◌⊎◌, ℕ, false, List, slice_index, Option, None, Some}
 use Rattle.packets.specs.declared.packet.Packet.TheVariants.{StoreTileColor, StoreTileColorAndEnd, StoreTileBuffer, LoadFullResolution, LoadTileBuffer, BranchToSubList, TileCoordinates}
-use Rattle.packets.specs.declared.packet.Packet.{Packet}
-use Rattle.packets.specs.Opcode.{start_tile_binning, indexed_primitive_list, array_primitive_list}
+use Rattle.packets.specs.{declared.packet.Packet.Packet, Opcode.start_tile_binning, Opcode.indexed_primitive_list, Opcode.array_primitive_list}
 use Rattle.machine_plan.specs.{Regions.Rights, World.Safe}
-use Rattle.list_machine.specs.{declared.state.Frame.Frame, declared.state.Load.Load, declared.surface.Cover.Cover, Cover.cover_for}
+use Rattle.list_machine.specs.{declared.state.Frame.Frame, declared.state.Load.Load, declared.surface.Cover.Cover, Cover.cover_for, Surfaces.aligned, Surfaces.names_none, Surfaces.whole_size}
 use Rattle.list_machine.specs.{declared.state.Load.TheVariants.Full, declared.state.Load.TheVariants.General, Lists.Lists, Renderer.tile_by}
-use Rattle.list_machine.specs.Surfaces.{aligned, names_none, whole_size}
 use Rattle.texture_layouts.specs.Format.{general_style, frame_style}
 use Rattle.machine.specs.{State.Units, Step.ready, Step.turn}
 use Rattle.job_safety.specs.Strength.{IsPast, IsAtBinPacket, IsPart, IsAtPacket}

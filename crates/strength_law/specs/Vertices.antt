@@ -7,8 +7,7 @@ use Rattle.machine_plan.specs.{Choice.word_at, Memory.bytes_at, Regions.Rights, 
 use Rattle.list_machine.specs.declared.state.Program.TheVariants.{Fragment, Vertex, Coordinate}
 use Rattle.list_machine.specs.Fetch.{index_size, index_in, draws_nothing, record_place, attribute_place, extension_place, data_size, data_place}
 use Rattle.list_machine.specs.{declared.state.Found.Found, declared.state.Primitive.Primitive, declared.state.Program.Program, Lists.Lists}
-use Rattle.list_machine.specs.{declared.state.SubList.SubList, declared.state.Work.Work, Renderer.item_at}
-use Rattle.list_machine.specs.Start.{code_offset, can_start, is_threaded}
+use Rattle.list_machine.specs.{declared.state.SubList.SubList, declared.state.Work.Work, Renderer.item_at, Start.code_offset, Start.can_start, Start.is_threaded}
 use Rattle.list_law.specs.Uses.{attribute_at, extension_at}
 use Rattle.qpu_machine.specs.Qpu.{free_in}
 use Rattle.machine.specs.{State.Units, State.binner_job, State.renderer_job, Step.ready, Step.turn, Step.enabled}
@@ -75,32 +74,20 @@ IndexesPastAreUnsafe =
     → primitive.indexed ≡ true → IsPast jobs j (index_place primitive number) (index_size primitive)
     → Safe ready turn jobs m u → ⊥
 
--- The vertex is fetched, whose index is none above the greatest, and its record has this attribute.
-pub record HasAttribute (m : List ℕ) (u : Units) (j : ℕ) (primitive : Primitive) (state number attribute : ℕ) : Type 0 where
-  pub fetches : Fetches m u j primitive state number
-  pub draws : draws_nothing primitive (index_of m primitive number) ≡ false
-  pub few : attribute < attribute_count state
+-- what is read of an attribute: its bytes, the word that extends its stride, and the vertex's data, by the attribute's bytes, its stride and
+-- the vertex's index as this memory has them
+abbrev pub IsOfAttribute : List ℕ → (state index attribute place len : ℕ) → Type 0
+IsOfAttribute m state index attribute place len =
+    ((place ≡ attribute_place state attribute) × (len ≡ 8))
+    ⊎ (((is_extended state ≡ true) × ((place ≡ extension_place state attribute) × (len ≡ 4)))
+    ⊎ ((place ≡ data_place (attribute_at m state attribute) (extension_at m state attribute) index) × (len ≡ data_size (attribute_at m state attribute))))
 
+-- The vertex is fetched, whose index is none above the greatest, and its record has this attribute.
 abbrev pub AttributesPastAreUnsafe : Type 0
 AttributesPastAreUnsafe =
-    (jobs : List Rights) (m : List ℕ) (u : Units) (j : ℕ) (primitive : Primitive) (state number attribute : ℕ)
-    → HasAttribute m u j primitive state number attribute
-    → IsPast jobs j (attribute_place state attribute) 8
-    → Safe ready turn jobs m u → ⊥
-
-abbrev pub ExtensionsPastAreUnsafe : Type 0
-ExtensionsPastAreUnsafe =
-    (jobs : List Rights) (m : List ℕ) (u : Units) (j : ℕ) (primitive : Primitive) (state number attribute : ℕ)
-    → HasAttribute m u j primitive state number attribute
-    → is_extended state ≡ true → IsPast jobs j (extension_place state attribute) 4
-    → Safe ready turn jobs m u → ⊥
-
--- the vertex's data, by the attribute's bytes, its stride and the vertex's index as this memory has them
-abbrev pub DataPastAreUnsafe : Type 0
-DataPastAreUnsafe =
-    (jobs : List Rights) (m : List ℕ) (u : Units) (j : ℕ) (primitive : Primitive) (state number attribute : ℕ)
-    → HasAttribute m u j primitive state number attribute
-    → IsPast jobs j (data_place (attribute_at m state attribute) (extension_at m state attribute) (index_of m primitive number)) (data_size (attribute_at m state attribute))
+    (jobs : List Rights) (m : List ℕ) (u : Units) (j : ℕ) (primitive : Primitive) (state number attribute : ℕ) → Fetches m u j primitive state number
+    → draws_nothing primitive (index_of m primitive number) ≡ false → attribute < attribute_count state
+    → (place len : ℕ) → IsOfAttribute m state (index_of m primitive number) attribute place len → IsPast jobs j place len
     → Safe ready turn jobs m u → ⊥
 
 -- A program of this record is started: the binner's coordinate program where it is due, or one that choice words let the renderer start,

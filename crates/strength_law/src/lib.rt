@@ -9,7 +9,7 @@ ghost use Rattle.strength_law.specs.Instructions.{IsRefused, HasUndefinedSignal,
 ghost use Rattle.strength_law.specs.Packets.{BinningsBlindAreUnsafe, PrimitivesEarlyAreUnsafe, IsRefusedPacket, BranchesNowhere, LoadsTwice, StoresNothing, LoadsNothing, LoadsPastAreUnsafe};
 ghost use Rattle.strength_law.specs.Requests.{TexturesUndefinedAreUnsafe};
 ghost use Rattle.strength_law.specs.Rows.{ConfigurationFlags, FrameEdges};
-ghost use Rattle.strength_law.specs.Vertices.{ItemReadsPastAreUnsafe, IndexesPastAreUnsafe, AttributesPastAreUnsafe, ExtensionsPastAreUnsafe, DataPastAreUnsafe, RecordsPastAreUnsafe};
+ghost use Rattle.strength_law.specs.Vertices.{ItemReadsPastAreUnsafe, IndexesPastAreUnsafe, AttributesPastAreUnsafe, RecordsPastAreUnsafe};
 
 /// An instruction that is undefined by itself is not safe: by its signal, by the mode of its load immediate, by a register that is nobody's
 /// to write, by two writes to texture units, or by one under a condition.
@@ -44,8 +44,6 @@ pub fn uniforms_past_are_unsafe()
 pub fn vertices_past_are_unsafe()
     ensures indexes { IndexesPastAreUnsafe }
     ensures attributes { AttributesPastAreUnsafe }
-    ensures extensions { ExtensionsPastAreUnsafe }
-    ensures vertex_data { DataPastAreUnsafe }
 {}
 
 /// Nor is the start of a program, by either list unit, whose record doesn't lie there.

@@ -1,20 +1,17 @@
 -- What is fetched of a texture for one pixel: its whole microtile, or in raster the pixel alone.
 use Rattle.std.specs.Prelude.{◌≤◌, ◌<◌, ℕ, ◌+◌, ◌-◌, ◌/◌, nat_lt, if◌then◌else◌, Option, Some, None}
-use Rattle.texture_layouts.specs.declared.surface.Tiling.TheVariants.{Raster, T, Lt}
+use Rattle.texture_layouts.specs.{declared.surface.Tiling.TheVariants.Raster, declared.surface.Tiling.Tiling, Surface.microtile_width_of, Surface.microtile_height_of}
 use Rattle.texture_layouts.specs.Setup.{TextureModel, faces_of, face_place, level_width_of, level_height_of, tiling_at, size_below}
-use Rattle.texture_layouts.specs.{declared.surface.Tiling.Tiling, Surface.microtile_width_of, Surface.microtile_height_of}
 use Rattle.texture_layouts.specs.Place.{raster_place, microtile_place_of}
 
 -- where it begins in its image, and how many bytes it has
 unfoldable pub fetch_offset_of : Tiling → ℕ → ℕ → ℕ → ℕ → ℕ
 fetch_offset_of Raster width cpp x y = raster_place width cpp x y
-fetch_offset_of T width cpp x y = microtile_place_of T width cpp (x / microtile_width_of cpp) (y / microtile_height_of cpp)
-fetch_offset_of Lt width cpp x y = microtile_place_of Lt width cpp (x / microtile_width_of cpp) (y / microtile_height_of cpp)
+fetch_offset_of tiling width cpp x y = microtile_place_of tiling width cpp (x / microtile_width_of cpp) (y / microtile_height_of cpp)
 
 unfoldable pub fetch_size_of : Tiling → ℕ → ℕ
 fetch_size_of Raster cpp = cpp
-fetch_size_of T cpp = 64
-fetch_size_of Lt cpp = 64
+fetch_size_of other cpp = 64
 
 -- Where it would begin if the level's pixels stood where the face's own do. The level begins as many
 -- bytes below as levels 1 to this one take.

@@ -1,5 +1,5 @@
 -- The rules of textures, U2 to U9, over four set-up words and the bytes of the buffer.
-use Rattle.std.specs.Prelude.{◌≤◌, ◌<◌, ℕ, ◌+◌, ◌==◌, ◌&&◌, ◌||◌, nat_lt, nat_le, Bool, List, [], ◌∷◌, Option, Some, None, Result, Ok, Err, slice_index}
+use Rattle.std.specs.Prelude.{◌≤◌, ◌<◌, ℕ, ◌+◌, ◌==◌, ◌&&◌, ◌||◌, nat_lt, nat_le, Bool, List, [], ◌∷◌, Result, Ok, Err, slice_index}
 use Rattle.std.specs.List.{list_any, range_with_len}
 use Rattle.field_words.specs.{Questions.Question, Questions.Ask, Least.Stands, Least.IsLeast}
 use Rattle.texture_layouts.specs.declared.rule.TextureRule.TheVariants.{BaseOutside, BoundOutside, TwoStrides, NoStride, UnlistedType, FaceOutside, LevelBelow, ChildImage}
@@ -16,10 +16,6 @@ number_of UnlistedType = 6
 number_of FaceOutside = 7
 number_of LevelBelow = 8
 number_of ChildImage = 9
-
-abbrev pub numbered : Option TextureRule → Option ℕ
-numbered None = None
-numbered (Some rule) = Some (number_of rule)
 
 -- U4: cube mode, and both words have a cube stride
 unfoldable pub has_two_strides : ℕ → ℕ → ℕ → Bool

@@ -1,8 +1,7 @@
 -- The levels of a texture: level 0 is the texture itself, and each further level has half the
 -- sides, rounded up to a power of two before they are halved.
 use Rattle.std.specs.Prelude.{ℕ, zero, suc, ◌+◌, ◌/◌, ◌^◌, ◌==◌, max, Bool, nat_le, if◌then◌else◌}
-use Rattle.texture_layouts.specs.{declared.surface.Tiling.Tiling, declared.surface.Tiling.TheVariants.Raster}
-use Rattle.texture_layouts.specs.Surface.{tiling_for, size_for}
+use Rattle.texture_layouts.specs.{declared.surface.Tiling.Tiling, declared.surface.Tiling.TheVariants.Raster, Surface.tiling_for, Surface.size_for}
 
 -- the first of 2^k, 2^(k + 1) and so on that is at least n, or the last of them
 unfoldable pub power_from : ℕ → ℕ → ℕ → ℕ

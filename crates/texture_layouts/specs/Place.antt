@@ -1,9 +1,8 @@
 -- Where microtiles and pixels of a surface lie, counted from its first byte.
 use Rattle.std.specs.Prelude.{◌≡◌, ◌≤◌, ◌<◌, ℕ, ◌+◌, ◌*◌, ◌/◌, ◌%◌}
 use Rattle.field_words.specs.Words.{rounded_up}
-use Rattle.texture_layouts.specs.declared.surface.Tiling.TheVariants.{Raster, T, Lt}
+use Rattle.texture_layouts.specs.{declared.surface.Tiling.TheVariants.Raster, declared.surface.Tiling.TheVariants.T, declared.surface.Tiling.Tiling}
 use Rattle.texture_layouts.specs.Surface.{microtile_width_of, microtile_height_of, unit_across, unit_down, size_for}
-use Rattle.texture_layouts.specs.declared.surface.Tiling.{Tiling}
 
 -- the aligned sides, in pixels
 abbrev pub aligned_across : Tiling → ℕ → ℕ → ℕ
@@ -22,9 +21,8 @@ microtiles_down tiling height cpp = aligned_down tiling height cpp / microtile_h
 -- The number of the microtile mx across and my down, with so many in a row: by rows in Lt; in T by
 -- rows of tiles of 8x8 microtiles, and inside a tile by rows.
 unfoldable pub microtile_number : Tiling → ℕ → ℕ → ℕ → ℕ
-microtile_number Raster across mx my = my * across + mx
 microtile_number T across mx my = (my / 8 * (across / 8) + mx / 8) * 64 + (my % 8 * 8 + mx % 8)
-microtile_number Lt across mx my = my * across + mx
+microtile_number other across mx my = my * across + mx
 
 unfoldable pub microtile_place_of : Tiling → ℕ → ℕ → ℕ → ℕ → ℕ
 microtile_place_of tiling width cpp mx my = 64 * microtile_number tiling (microtiles_across tiling width cpp) mx my
@@ -42,8 +40,7 @@ tiled_place tiling width cpp x y =
 
 abbrev pub pixel_place_of : Tiling → ℕ → ℕ → ℕ → ℕ → ℕ
 pixel_place_of Raster width cpp x y = raster_place width cpp x y
-pixel_place_of T width cpp x y = tiled_place T width cpp x y
-pixel_place_of Lt width cpp x y = tiled_place Lt width cpp x y
+pixel_place_of tiling width cpp x y = tiled_place tiling width cpp x y
 
 -- the microtile's 64 bytes, of those of a surface of this height, lie inside the surface
 abbrev pub IsMicrotileInside : Tiling → ℕ → ℕ → ℕ → ℕ → ℕ → Type 0

@@ -6,8 +6,7 @@
 use Rattle.std.specs.Prelude.{◌≡◌, ◌≤◌, ◌⊎◌, ℕ, zero, suc, ◌+◌, ◌*◌, ◌-◌, ◌==◌, ◌||◌, Bool, if◌then◌else◌, List, slice_index}
 use Rattle.std.specs.Int.{div_ceil}
 use Rattle.field_words.specs.{Sizes.page_size, Words.bits_of}
-use Rattle.texture_layouts.specs.{declared.surface.Tiling.Tiling, Surface.IsPixelSize}
-use Rattle.texture_layouts.specs.Level.{level_side_of, level_tiling_of, level_size_of}
+use Rattle.texture_layouts.specs.{declared.surface.Tiling.Tiling, Surface.IsPixelSize, Level.level_side_of, Level.level_tiling_of, Level.level_size_of}
 
 -- What contracts see of a Texture. Sides count pixels, or with type 8 blocks of 4x4 pixels; a pixel
 -- (or block) takes cpp bytes, and cpp is 0 where the type is no listed one.
@@ -45,18 +44,11 @@ unfoldable pub cube_stride_of : ℕ → ℕ → ℕ
 cube_stride_of p2 p3 = if kind_of p2 == 1 then stride_of p2 else (if kind_of p3 == 1 then stride_of p3 else 0)
 
 -- bytes by type: 4, 2 or 1 a pixel, and 8 a block of ETC1
-abbrev pub takes_four : ℕ → Bool
-takes_four kind = kind == 0 || (kind == 1 || kind == 16)
-
-abbrev pub takes_two : ℕ → Bool
-takes_two kind = kind == 2 || (kind == 3 || (kind == 4 || (kind == 7 || (kind == 9 || kind == 11))))
-
-abbrev pub takes_one : ℕ → Bool
-takes_one kind = kind == 5 || (kind == 6 || kind == 10)
-
 unfoldable pub pixel_bytes_of : ℕ → ℕ
 pixel_bytes_of kind =
-    if takes_four kind then 4 else (if takes_two kind then 2 else (if takes_one kind then 1 else (if kind == 8 then 8 else 0)))
+    if kind == 0 || (kind == 1 || kind == 16) then 4
+    else (if kind == 2 || (kind == 3 || (kind == 4 || (kind == 7 || (kind == 9 || kind == 11)))) then 2
+    else (if kind == 5 || (kind == 6 || kind == 10) then 1 else (if kind == 8 then 8 else 0)))
 
 -- a side's field, of which 0 means 2,048 pixels
 unfoldable pub pixels_of : ℕ → ℕ

@@ -1,8 +1,7 @@
 -- How many bytes a surface takes. A microtile is 64 bytes of pixels in any tiling but raster.
 use Rattle.std.specs.Prelude.{◌≡◌, ℕ, ◌*◌, ◌==◌, ◌||◌, if◌then◌else◌, nat_le, ◌⊎◌}
 use Rattle.field_words.specs.Words.{rounded_up}
-use Rattle.texture_layouts.specs.declared.surface.Tiling.TheVariants.{Raster, T, Lt}
-use Rattle.texture_layouts.specs.declared.surface.Tiling.{Tiling}
+use Rattle.texture_layouts.specs.{declared.surface.Tiling.TheVariants.Raster, declared.surface.Tiling.TheVariants.T, declared.surface.Tiling.TheVariants.Lt, declared.surface.Tiling.Tiling}
 
 -- the bytes that a pixel can take
 abbrev pub IsPixelSize : ℕ → Type 0
@@ -21,9 +20,8 @@ tiling_for width height cpp = if nat_le width (4 * microtile_width_of cpp) || na
 
 -- what a width is aligned to, in pixels: T to whole tiles of 8x8 microtiles, the others to a microtile
 abbrev pub unit_across : Tiling → ℕ → ℕ
-unit_across Raster cpp = microtile_width_of cpp
 unit_across T cpp = 8 * microtile_width_of cpp
-unit_across Lt cpp = microtile_width_of cpp
+unit_across other cpp = microtile_width_of cpp
 
 -- and a height, of which raster aligns none
 abbrev pub unit_down : Tiling → ℕ → ℕ

@@ -1,7 +1,7 @@
 //! The rules of textures, U2 to U9.
-ghost use Rattle.std.specs.Prelude.{◌≡◌, OnOk, false, slice_index};
+ghost use Rattle.std.specs.Prelude.{◌≡◌, OnOk, false, slice_index, option_map};
 ghost use Rattle.field_words.specs.Questions.{GoesOn, first_of};
-ghost use Rattle.texture_layouts.specs.Fits.{has_two_strides, lacks_stride, is_unlisted, has_face_past, has_level_below, has_child_image, numbered, texture_rules, direct_questions, AnswersLeast, IsInBuffer};
+ghost use Rattle.texture_layouts.specs.Fits.{has_two_strides, lacks_stride, is_unlisted, has_face_past, has_level_below, has_child_image, number_of, texture_rules, direct_questions, AnswersLeast, IsInBuffer};
 ghost use Rattle.texture_layouts.specs.Fetch.{AreFetchesIn};
 ghost use Rattle.texture_layouts.specs.Setup.{texture_in};
 
@@ -59,7 +59,7 @@ pub fn has_child_image(words: &[u32; 4]) -> bool
 /// The first of U4 to U9 that stands.
 #[tactic(auto, unfolding(crate::specs::Fits::texture_questions))]
 pub fn texture_fault(words: &[u32; 4], size: u32) -> Option<TextureRule>
-    ensures { numbered result ≡ first_of (texture_rules words.now size) }
+    ensures { option_map number_of result ≡ first_of (texture_rules words.now size) }
 {
     if has_two_strides(words) {
         return Some(TextureRule::TwoStrides);
@@ -104,7 +104,7 @@ pub fn texture_fits(p: [u32; 4], size: u32) -> Result<(), u8>
 #[inline(always)]
 #[tactic(auto, unfolding(crate::specs::Fits::direct_questions))]
 pub fn direct_fault(base: u32, bound: u32, size: u32) -> Option<TextureRule>
-    ensures { numbered result ≡ first_of (direct_questions base bound size) }
+    ensures { option_map number_of result ≡ first_of (direct_questions base bound size) }
 {
     if u64::from(base) + 4 > u64::from(size) {
         return Some(TextureRule::BaseOutside);

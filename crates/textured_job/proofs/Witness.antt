@@ -11,7 +11,8 @@ use Rattle.buffer_table.specs.declared.buffer.Kind.{Kind, TheVariants.Plain, The
 use Rattle.job_format.proofs.Laws.{read_again}
 use Rattle.job_check.specs.{Faults.file_stages, Jobs.job_of, Whole.format_refused, Whole.refusal_of, Whole.questions_within}
 use Rattle.shader_records.specs.Sources.{shader_used}
-use Rattle.textured_job.specs.Job.{code_bytes, fragment_words, vertex_words, fragment_told, page, absent, colour_write, frame, bin_list, records, uniforms, job, textured, two_clients, one_client}
+use Rattle.render_list.specs.Frame.{no_surface}
+use Rattle.textured_job.specs.Job.{code_bytes, fragment_words, vertex_words, fragment_told, page, colour_write, frame, bin_list, records, uniforms, job, textured, two_clients, one_client}
 use Rattle.textured_job.specs.Laws.{UsesAll, HasAll, IsAccepted, IsWitness, IsWitnessOfTwo, textured_bytes, two_clients_bytes, one_client_bytes}
 use Rattle.textured_job.proofs.Cases.{Case, Alone, First, Second, file_in, number_in}
 use Rattle.textured_job.proofs.{Lists.bin_there, Records.drawn_is}
@@ -53,7 +54,7 @@ unfolding code_bytes
 vertex_bytes = bytes_of (code_bytes vertex_words) refl
 
 -- the numbers fit their fields
-absent_fits : SurfaceFits absent
+absent_fits : SurfaceFits no_surface
 absent_fits = record { hindex = lit< tt; offset = lit< tt; bits = lit< tt; flags = lit< tt }
 
 written_fits : SurfaceFits colour_write

@@ -1,12 +1,13 @@
 -- A job that uses what the machine has: a triangle whose fragment shader has two threads, takes a texture, and reads a table
 -- directly, by the texel that it got. It stands alone in a file, and there are two such jobs in another, of two clients.
-use Rattle.std.specs.Prelude.{ℕ, ◌+◌, ◌^◌, ◌-◌, true, false, List, [], ◌∷◌, ◌++◌, map, Some, None}
+use Rattle.std.specs.Prelude.{ℕ, ◌+◌, true, false, List, [], ◌∷◌, ◌++◌, map, Some, None}
 use Rattle.std.specs.Int.{to_le_bytes, w64}
 use Rattle.field_words.specs.Pieces.{joined}
-use Rattle.buffer_table.specs.{declared.buffer.Buffer.Buffer, declared.buffer.Kind.Kind, declared.buffer.Regions.Regions}
-use Rattle.buffer_table.specs.declared.buffer.Kind.TheVariants.{Plain, Code}
+use Rattle.buffer_table.specs.{declared.buffer.Buffer.Buffer, declared.buffer.Kind.Kind, declared.buffer.Regions.Regions, declared.buffer.Kind.TheVariants.Plain, declared.buffer.Kind.TheVariants.Code}
 use Rattle.job_format.specs.{declared.file.Frame.Frame, declared.file.Surface.Surface, Model.JobModel, Model.FileModel}
 use Rattle.qpu_isa.specs.Shader.{ShaderModel}
+use Rattle.render_list.specs.Frame.{no_surface}
+use Rattle.job_check.specs.Jobs.{no_frame}
 
 -- the words of the fragment shader, each with its text
 abbrev pub fragment_words : List ℕ
@@ -92,27 +93,17 @@ records =
 abbrev pub uniforms : List ℕ
 uniforms = 3 ∷ 0 ∷ 0 ∷ 0 ∷ 3 ∷ 0 ∷ 0 ∷ 0 ∷ 0 ∷ 0 ∷ 0 ∷ 0 ∷ 0 ∷ 8 ∷ 128 ∷ 0 ∷ 60 ∷ 0 ∷ 0 ∷ 0 ∷ 0 ∷ 4 ∷ 0 ∷ 0 ∷ []
 
-abbrev pub absent : Surface
-absent = record { hindex = 2 ^ 32 - 1; offset = 0; bits = 0; flags = 0 }
-
 -- colour write, the one surface: four bytes a pixel in Lt tiles
 abbrev pub colour_write : Surface
 colour_write = record { hindex = 2; offset = 0; bits = 0x84; flags = 0 }
 
 -- one tile, of 16 by 16 pixels
 abbrev pub frame : Frame
-frame = record {
+frame = record no_frame {
   width = 16;
   height = 16;
-  min_x = 0;
-  min_y = 0;
-  max_x = 0;
-  max_y = 0;
-  surfaces = absent ∷ colour_write ∷ absent ∷ absent ∷ absent ∷ absent ∷ [];
-  clear = false;
+  surfaces = no_surface ∷ colour_write ∷ no_surface ∷ no_surface ∷ no_surface ∷ no_surface ∷ [];
   clear_color = 0 ∷ 0 ∷ [];
-  clear_z = 0;
-  clear_s = 0;
 }
 
 -- the job of a client, with its four buffers

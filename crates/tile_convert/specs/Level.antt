@@ -26,7 +26,3 @@ pub record IsLevelPicture (t : TextureModel) (face level : ℕ) (bytes raster : 
   pub pixels : (x y b : ℕ) → x < level_width_of t level → y < level_height_of t level → b < t.cpp
       → slice_index raster (place_in Rows (level_width_of t level) t.cpp x y + b)
       ≡ slice_index bytes (level_place_of t face level + pixel_place_of (tiling_at t level) (level_width_of t level) t.cpp x y + b)
-
--- that of the texture of these setup words
-abbrev pub IsLevelOf : List ℕ → ℕ → ℕ → List ℕ → List ℕ → Type 0
-IsLevelOf p face level bytes raster = IsLevelPicture (texture_of (slice_index p 0) (slice_index p 1) (slice_index p 2) (slice_index p 3)) face level bytes raster

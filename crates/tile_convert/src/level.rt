@@ -2,8 +2,8 @@
 ghost use Rattle.std.specs.Prelude.{◌≡◌, ◌<◌, ◌≤◌, ◌+◌, ◌^◌, false, Some, None, length, take, drop, IfOk};
 ghost use Rattle.field_words.specs.Questions.{first_of, Answers, NeverHidesFault};
 ghost use Rattle.texture_layouts.specs.Fits.{is_unlisted, IsInBuffer};
-ghost use Rattle.texture_layouts.specs.Setup.{faces_of, size_at, level_place_of};
-ghost use Rattle.tile_convert.specs.Level.{part_questions, level_rules, IsLevelPicture, IsLevelOf};
+ghost use Rattle.texture_layouts.specs.Setup.{texture_in, faces_of, size_at, level_place_of};
+ghost use Rattle.tile_convert.specs.Level.{part_questions, level_rules, IsLevelPicture};
 
 use crate::copy::copied;
 use crate::order::Order;
@@ -103,7 +103,8 @@ pub fn extract(
     level: u32,
 ) -> Result<Vec<u8>, Stop<LevelFault>>
     requires { length bytes.now < 2 ^ 32 }
-    ensures picture { Answers (level_rules p (length bytes.now) face level) (λ rows. IsLevelOf p face level bytes.now rows.items) result }
+    ensures picture { Answers (level_rules p (length bytes.now) face level)
+        (λ rows. IsLevelPicture (texture_in p) face level bytes.now rows.items) result }
     ensures honest { NeverHidesFault (level_rules p (length bytes.now) face level) result }
 {
     let texture = Texture::of(&p);

@@ -1,8 +1,7 @@
 -- Where the uniform stream stands, and what is written to its address.
-use Rattle.std.specs.Prelude.{◌≡◌, ◌≤◌, ◌<◌, ℕ, ◌+◌, ◌==◌, Bool, false, not, ◌&&◌, ◌||◌, List, [], ◌∷◌, ◌++◌, map, length, slice_index, slice_index_or, nat_lt, if◌then◌else◌}
+use Rattle.std.specs.Prelude.{◌≡◌, ◌<◌, ℕ, ◌+◌, ◌==◌, Bool, false, not, ◌&&◌, ◌||◌, List, [], ◌∷◌, ◌++◌, map, length, slice_index, slice_index_or, nat_lt, if◌then◌else◌}
 use Rattle.qpu_isa.specs.Terms.{is_address_write, is_backward}
-use Rattle.shader_flow.specs.{Bounded.some_below, Bounded.some_in, Bounded.is_back, Bounded.indexes, Pending.count_of, Pending.pending_of}
-use Rattle.shader_flow.specs.Flow.{word, checked_of, is_target}
+use Rattle.shader_flow.specs.{Bounded.some_below, Bounded.some_in, Bounded.is_back, Bounded.indexes, Pending.count_of, Pending.pending_of, Flow.word, Flow.checked_of, Flow.is_target}
 use Rattle.uniform_stream.specs.declared.state.Stream.{Stream}
 
 -- a checked instruction writes the address of the uniforms
@@ -35,15 +34,19 @@ address_words_of code =
 unfoldable pub uniforms_of : List ℕ → ℕ
 uniforms_of code = count_of code (length code) + (if is_open code then 1 else 0)
 
--- What `stream` keeps: the uniforms taken and the setup words pending before each instruction, from 0 to the number of words,
--- the address words, and whether the position is known at each instruction.
-pub record IsStream (code : List ℕ) (stream : Stream) : Type 0 where
-  pub counts_size : length stream.counts.items ≡ length code + 1
-  pub counts_are : (i : ℕ) → i ≤ length code → slice_index stream.counts.items i ≡ count_of code i
-  pub pending0_size : length stream.pending0.items ≡ length code + 1
-  pub pending0_are : (i : ℕ) → i ≤ length code → slice_index stream.pending0.items i ≡ pending_of code 0 i
-  pub pending1_size : length stream.pending1.items ≡ length code + 1
-  pub pending1_are : (i : ℕ) → i ≤ length code → slice_index stream.pending1.items i ≡ pending_of code 1 i
-  pub address_words_are : stream.address_words.items ≡ address_words_of code
-  pub known_size : length stream.known.items ≡ length code
-  pub known_are : (i : ℕ) → i < length code → slice_index_or stream.known.items i false ≡ is_known code i
+-- The uniforms taken and the setup words pending before so many instructions, these address words, and whether the position is known at
+-- so many.
+pub record IsFilled (code : List ℕ) (counted known : ℕ) (words : List ℕ) (stream : Stream) : Type 0 where
+  pub counts_size : length stream.counts.items ≡ counted
+  pub counts_are : (i : ℕ) → i < counted → slice_index stream.counts.items i ≡ count_of code i
+  pub pending0_size : length stream.pending0.items ≡ counted
+  pub pending0_are : (i : ℕ) → i < counted → slice_index stream.pending0.items i ≡ pending_of code 0 i
+  pub pending1_size : length stream.pending1.items ≡ counted
+  pub pending1_are : (i : ℕ) → i < counted → slice_index stream.pending1.items i ≡ pending_of code 1 i
+  pub address_words_are : stream.address_words.items ≡ words
+  pub known_size : length stream.known.items ≡ known
+  pub known_are : (i : ℕ) → i < known → slice_index_or stream.known.items i false ≡ is_known code i
+
+-- what `stream` keeps: the counts from 0 to the number of words, the address words, and what is known at each instruction
+abbrev pub IsStream : List ℕ → Stream → Type 0
+IsStream code stream = IsFilled code (length code + 1) (length code) (address_words_of code) stream

@@ -1,13 +1,12 @@
 //! The walk that counts uniforms and setup words.
-ghost use Rattle.std.specs.Prelude.{◌≡◌, ◌<◌, ◌≤◌, ◌+◌, ◌*◌, ◌++◌, ◌∷◌, [], ℕ, List, true, length, map, nat_lt, ◌&&◌, if◌then◌else◌, IfOk, OnOk};
+ghost use Rattle.std.specs.Prelude.{◌≡◌, ◌<◌, ◌≤◌, ◌+◌, ◌*◌, ◌++◌, ◌∷◌, [], ℕ, List, true, length, nat_lt, ◌&&◌, if◌then◌else◌, IfOk, OnOk};
 ghost use Rattle.field_words.specs.Sizes.{most_words};
-ghost use Rattle.shader_flow.specs.Bounded.{indexes};
 ghost use Rattle.qpu_isa.specs.Terms.{reads_uniform_of};
 ghost use Rattle.shader_flow.specs.Flow.{word, checked_of, EndsAt, IsFlow};
 ghost use Rattle.shader_flow.specs.Pending.{pending_of, count_of};
-ghost use Rattle.uniform_stream.specs.Stream.{writes_address, leaves_open, is_open, IsStream};
+ghost use Rattle.uniform_stream.specs.Stream.{writes_address, leaves_open, is_open, IsFilled, IsStream};
 ghost use Rattle.uniform_stream.specs.Quiet.{writes_registers};
-ghost use Rattle.uniform_stream.specs.Walk.{IsRunning, IsFilled, IsAddressEnd, words_before};
+ghost use Rattle.uniform_stream.specs.Walk.{IsRunning, IsAddressEnd, words_before};
 
 use crate::position::{known_after, writes_address};
 use crate::quiet::writes_registers;
@@ -138,9 +137,10 @@ fn add_address(site: &Site, count: u32, words: &mut Vec<u32>) -> Result<(), NoMe
 fn fill(site: &Site, flow: &Flow, now: &Running, made: &mut Stream) -> Result<Running, NoMemory>
     requires made { IsFlow site.now.code flow.now }
     requires before { IsRunning site.now.code site.now.at now.now }
-    requires filled { IsFilled site.now.code site.now.at made.old }
+    requires filled { IsFilled site.now.code site.now.at site.now.at (words_before site.now.code site.now.at) made.old }
     ensures next { IfOk result (IsRunning site.now.code (site.now.at + 1)) }
-    ensures filled { OnOk result (IsFilled site.now.code (site.now.at + 1) made.new) }
+    ensures filled { let next = site.now.at + 1 in
+        OnOk result (IsFilled site.now.code next next (words_before site.now.code next) made.new) }
 {
     let next = after(site, flow, now);
     made.counts.push(now.count)?;
@@ -197,7 +197,7 @@ pub fn is_open(code: &[u64], flow: &Flow) -> bool
 // A stream that nothing is filled in, with room for this many words.
 fn blank(alloc: Global, words: usize) -> Result<Stream, NoMemory>
     requires { words ≤ most_words }
-    ensures { IfOk result (λ made. (code : List ℕ) → IsFilled code 0 made) }
+    ensures { IfOk result (λ made. (code : List ℕ) → IsFilled code 0 0 (words_before code 0) made) }
 {
     Ok(Stream {
         counts: Vec::with_capacity(alloc, words + 1)?,
@@ -222,7 +222,8 @@ fn add_last(words: &mut Vec<u32>, opened: bool, count: u32) -> Result<(), NoMemo
 fn close(code: &[u64], flow: &Flow, now: &Running, made: &mut Stream) -> Result<(), NoMemory>
     requires made { IsFlow code.now flow.now }
     requires before { IsRunning code.now (length code.now) now.now }
-    requires filled { IsFilled code.now (length code.now) made.old }
+    requires filled { let n = length code.now in
+        IsFilled code.now n n (words_before code.now n) made.old }
     ensures { OnOk result (IsStream code.now made.new) }
 {
     made.counts.push(now.count)?;

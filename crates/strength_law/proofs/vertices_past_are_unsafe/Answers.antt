@@ -1,5 +1,5 @@
 -- The laws.
-use Rattle.strength_law.proofs.Vertices.{indexes_past_law, attributes_past_law, extensions_past_law, data_past_law}
+use Rattle.strength_law.proofs.Vertices.{indexes_past_law, attributes_past_law}
 use Rattle.strength_law.proofs.vertices_past_are_unsafe.Goals as goal
 
 pub returns-clause-indexes : goal.returns-clause-indexes
@@ -7,9 +7,3 @@ returns-clause-indexes c = indexes_past_law
 
 pub returns-clause-attributes : goal.returns-clause-attributes
 returns-clause-attributes c = attributes_past_law
-
-pub returns-clause-extensions : goal.returns-clause-extensions
-returns-clause-extensions c = extensions_past_law
-
-pub returns-clause-vertex_data : goal.returns-clause-vertex_data
-returns-clause-vertex_data c = data_past_law
