@@ -4,11 +4,10 @@ use Rattle.std.specs.List.{flat_map, range_with_len}
 use Rattle.job_format.specs.declared.file.Frame.{Frame}
 use Rattle.packets.specs.declared.packet.Packet.TheVariants.{LoadFullResolution, LoadTileBuffer, StoreTileColor, StoreTileColorAndEnd, TileCoordinates, StoreTileBuffer, WaitOnSemaphore}
 use Rattle.packets.specs.{declared.packet.Packet.Packet, Packet.packet_text, Packet.slots_text}
-use Rattle.packets.proofs.Slots.{slots_append}
 use Rattle.render_list.specs.Frame.{place_at, surface_at, is_full, full_place, is_first_tile, is_last_tile, tiles_across, tiles_down, IsTileSet, ArePlacesOf, IsSetupFor}
 use Rattle.render_list.specs.Text.{number_where, packet_where, idle_store, head_packet, clear_packet, clear_slots, front_slots, load_packet, load_slot, wait_slot, list_slot, full_store, full_store_slot, zs_store, zs_store_slot, color_store, color_store_slot, is_there, some_before_zs, some_before_color, more_after_multisample_zs, more_after_multisample_color, load_slots, list_slots, write_slots, tile_slots, span_slots, row_slots, all_tile_slots, render_text}
 use Rattle.render_list.specs.Length.{load_size, loads_size, write_size, writes_size, frame_loads, frame_writes, tile_size, render_length}
-use Rattle.render_list.proofs.Rows.{length_parts}
+use Rattle.render_list.proofs.{Puts.length_two, Rows.length_parts}
 
 -- How long the packet of a slot is; together they are as long as the text.
 abbrev slot_size : Option Packet → ℕ
@@ -171,9 +170,6 @@ writes_of : (frame : Frame) (places : List (Option ℕ)) (x y : ℕ) → ArePlac
     → slots_size (write_slots frame places x y) ≡ frame_writes frame
 writes_of frame places x y agree =
     rw (sym (agree 4 (lit< tt)), sym (agree 5 (lit< tt)), sym (agree 3 (lit< tt)), sym (agree 1 (lit< tt))) (size_writes frame places x y)
-
-length_two : (front rest : List (Option Packet)) → length (slots_text (front ++ rest)) ≡ length (slots_text front) + length (slots_text rest)
-length_two front rest = ap length (slots_append front rest) ∙ length-append (slots_text front) (slots_text rest)
 
 length_tile : (frame : Frame) (places : List (Option ℕ)) (grid : Option (ℕ × ℕ)) (slot y x : ℕ) → ArePlacesOf frame places
     → length (slots_text (tile_slots frame places grid slot y x)) ≡ tile_size frame (is_some grid) + number_where (is_some grid && is_first_tile frame x y) 1

@@ -215,6 +215,8 @@ pub record Puts (slots : List (Option Packet)) (before : List ℕ) (at : ℕ) (a
 pub record IsScene (scene : Scene) : Type 0 where
   pub setup : IsSetupFor scene.frame scene.setup.places
   pub slot : IsSome scene.tiles → scene.slot ≤ most_place
+  pub loads : scene.some_loads ≡ (is_there scene.setup.places color_read || is_there scene.setup.places zs_read)
+  pub writes : scene.some_before_color ≡ some_before_color scene.setup.places
 
 abbrev pub tile_in : Scene → Tile → List (Option Packet)
 tile_in scene tile = tile_slots scene.frame scene.setup.places scene.tiles scene.slot tile.y tile.x

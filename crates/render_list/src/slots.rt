@@ -1,11 +1,11 @@
 //! The packets of a renderer list. One that stands only sometimes has a slot, which is `None` where it
 //! doesn't stand.
-ghost use Rattle.std.specs.Prelude.{◌≡◌, ◌&&◌, ◌||◌, ◌⊎◌, ◌≤◌, ◌<◌, ◌^◌, ◌+◌, ◌*◌, ◌∷◌, [], IsSome, true, false};
+ghost use Rattle.std.specs.Prelude.{◌≡◌, ◌&&◌, ◌||◌, ◌⊎◌, ◌≤◌, ◌<◌, ◌+◌, ◌*◌, IsSome, take, drop};
 ghost use Rattle.buffer_table.specs.Table.{most_place};
 ghost use Rattle.tile_memory.specs.Slots.{alloc_offset};
-ghost use Rattle.render_list.specs.Frame.{place_at, FitsAt, TileFits, full_place};
+ghost use Rattle.render_list.specs.Frame.{place_at, TileFits, full_place};
 ghost use Rattle.packets.specs.declared.packet.Packet.TheVariants.{TileCoordinates};
-ghost use Rattle.render_list.specs.Text.{number_where, packet_where, head_packet, clear_packet, clear_slots, load_slot, wait_slot, list_place, list_slot, full_store_slot, zs_store_slot, color_store_slot, is_there, more_after_multisample_zs, more_after_multisample_color, some_before_zs, some_before_color, coordinates_slot, tile_in, IsScene};
+ghost use Rattle.render_list.specs.Text.{number_where, packet_where, head_packet, clear_packet, clear_slots, load_slot, wait_slot, list_place, list_slot, full_store_slot, zs_store_slot, color_store_slot, is_there, more_after_multisample_zs, more_after_multisample_color, some_before_zs, some_before_color, coordinates_slot, load_slots, list_slots, write_slots, IsScene};
 
 use crate::frame::{
     COLOR_READ, COLOR_WRITE, MULTISAMPLE_COLOR, MULTISAMPLE_ZS, ZS_READ, ZS_WRITE, full_place,
@@ -17,13 +17,15 @@ use packets::Packet;
 use tile_memory::alloc_offset;
 
 /// What all tiles are written by: the frame, its surfaces' places, and where there is a binner list its grid, across and down,
-/// and the place of the tile slot.
+/// and the place of the tile slot; and whether there is a load, and a write before the one of colour.
 #[derive(Clone, Copy)]
 pub struct Scene {
     pub frame: Frame,
     pub setup: Setup,
     pub tiles: Option<(u8, u8)>,
     pub slot: u32,
+    pub some_loads: bool,
+    pub some_before_color: bool,
 }
 
 /// The low bits of a full-resolution load's or store's address: colour is left out, depth and stencil
@@ -127,7 +129,7 @@ fn load_slot(scene: &Scene, k: usize, left_out: u32, tile: Tile) -> Option<Packe
 
 /// The wait for the binner, on the first tile where there is a binner list.
 #[inline(always)]
-pub fn wait_slot(scene: &Scene, tile: Tile) -> Option<Packet>
+fn wait_slot(scene: &Scene, tile: Tile) -> Option<Packet>
     ensures { result ≡ wait_slot scene.now.frame scene.now.tiles tile.x tile.y }
 {
     let _grid = scene.tiles?;
@@ -168,7 +170,7 @@ fn tile_count(grid: (u8, u8)) -> u32
 
 /// The branch to the tile's own list, where there is a binner list.
 #[inline(always)]
-pub fn list_slot(scene: &Scene, tile: Tile) -> Option<Packet>
+fn list_slot(scene: &Scene, tile: Tile) -> Option<Packet>
     requires { IsSome scene.now.tiles → scene.now.slot ≤ most_place }
     ensures { result ≡ list_slot scene.now.tiles scene.now.slot tile.x tile.y }
 {
@@ -212,19 +214,17 @@ fn some_before_zs(setup: &Setup) -> bool
 
 /// Whether a write comes before the one of colour.
 #[tactic(auto, unfolding(crate::specs::Text::some_before_color))]
-fn some_before_color(setup: &Setup) -> bool
+pub fn some_before_color(setup: &Setup) -> bool
     ensures { result ≡ some_before_color setup.now.places }
 {
     some_before_zs(setup) || is_there(setup, ZS_WRITE)
 }
 
-/// Whether nothing is loaded, and nothing written but colour.
-pub fn is_plain(setup: &Setup) -> bool
-    ensures loads { result ≡ true → (is_there setup.now.places 0 || is_there setup.now.places 2) ≡ false }
-    ensures writes { result ≡ true → some_before_color setup.now.places ≡ false }
+/// Whether there is a load.
+pub fn some_loads(setup: &Setup) -> bool
+    ensures { result ≡ is_there setup.now.places 0 || is_there setup.now.places 2 }
 {
-    let some_loads = is_there(setup, COLOR_READ) || is_there(setup, ZS_READ);
-    !(some_loads || some_before_color(setup))
+    is_there(setup, COLOR_READ) || is_there(setup, ZS_READ)
 }
 
 /// The coordinates, where write `k` is there and another came before it.
@@ -282,7 +282,7 @@ pub fn color_store_slot(scene: &Scene, tile: Tile) -> Option<Packet>
 
 /// The tile's coordinates.
 #[inline(always)]
-pub fn coordinates(tile: Tile) -> Packet
+fn coordinates(tile: Tile) -> Packet
     ensures { result ≡ TileCoordinates tile.x tile.y }
 {
     Packet::TileCoordinates {
@@ -291,37 +291,61 @@ pub fn coordinates(tile: Tile) -> Packet
     }
 }
 
-/// The slots of a tile: its loads, its list, and its writes.
-#[tactic(auto, unfolding(crate::specs::Text::tile_slots, crate::specs::Text::load_slots, crate::specs::Text::list_slots, crate::specs::Text::write_slots))]
-pub fn tile_slots(scene: &Scene, tile: Tile) -> [Option<Packet>; 14]
+/// The slots of a tile's loads.
+#[tactic(auto, unfolding(crate::specs::Text::load_slots))]
+pub fn load_slots(scene: &Scene, tile: Tile) -> [Option<Packet>; 4]
     requires fits { TileFits scene.now.frame scene.now.setup.places tile.x tile.y }
-    requires scene { IsScene scene.now }
-    ensures { result ≡ tile_in scene.now tile }
+    ensures { result ≡ load_slots scene.now.frame scene.now.setup.places tile.x tile.y }
 {
-    let setup = &scene.setup;
-    let has_two = is_there(setup, COLOR_READ) && is_there(setup, ZS_READ);
+    let has_two = is_there(&scene.setup, COLOR_READ) && is_there(&scene.setup, ZS_READ);
     let idle = Packet::StoreTileBuffer {
         bits: KEEPS_ALL,
         address: 0,
     };
-    let more = more_after_multisample_color(setup);
-    let more_zs = more_after_multisample_zs(setup);
     [
         load_slot(scene, COLOR_READ, WITHOUT_ZS, tile),
         packet_where(has_two, coordinates(tile)),
         packet_where(has_two, idle),
         load_slot(scene, ZS_READ, WITHOUT_COLOR, tile),
-        Some(coordinates(tile)),
-        wait_slot(scene, tile),
-        list_slot(scene, tile),
+    ]
+}
+
+/// The slots of its coordinates and its list.
+#[inline(always)]
+#[tactic(auto, unfolding(crate::specs::Text::list_slots))]
+pub fn list_slots(scene: &Scene, tile: Tile) -> [Option<Packet>; 3]
+    requires scene { IsScene scene.now }
+    ensures { result ≡ list_slots scene.now.frame scene.now.tiles scene.now.slot tile.x tile.y }
+{
+    let coordinates = Some(coordinates(tile));
+    [coordinates, wait_slot(scene, tile), list_slot(scene, tile)]
+}
+
+/// The slots of its writes in full resolution, which are the first.
+#[inline(always)]
+#[tactic(auto, unfolding(crate::specs::Text::write_slots))]
+pub fn full_store_slots(scene: &Scene, tile: Tile) -> [Option<Packet>; 3]
+    requires fits { TileFits scene.now.frame scene.now.setup.places tile.x tile.y }
+    ensures { result ≡ take 3 (write_slots scene.now.frame scene.now.setup.places tile.x tile.y) }
+{
+    let more = more_after_multisample_color(&scene.setup);
+    let more_zs = more_after_multisample_zs(&scene.setup);
+    let has_color = is_there(&scene.setup, MULTISAMPLE_COLOR);
+    [
         full_store_slot(scene, MULTISAMPLE_COLOR, WITHOUT_ZS, more, tile),
-        coordinates_slot(
-            setup,
-            MULTISAMPLE_ZS,
-            is_there(setup, MULTISAMPLE_COLOR),
-            tile,
-        ),
+        coordinates_slot(&scene.setup, MULTISAMPLE_ZS, has_color, tile),
         full_store_slot(scene, MULTISAMPLE_ZS, WITHOUT_COLOR, more_zs, tile),
+    ]
+}
+
+/// The slots of its other writes.
+#[inline(always)]
+#[tactic(auto, unfolding(crate::specs::Text::write_slots))]
+pub fn store_slots(scene: &Scene, tile: Tile) -> [Option<Packet>; 4]
+    ensures { result ≡ drop 3 (write_slots scene.now.frame scene.now.setup.places tile.x tile.y) }
+{
+    let setup = &scene.setup;
+    [
         coordinates_slot(setup, ZS_WRITE, some_before_zs(setup), tile),
         zs_store_slot(scene, tile),
         coordinates_slot(setup, COLOR_WRITE, some_before_color(setup), tile),

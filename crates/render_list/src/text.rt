@@ -8,7 +8,7 @@ ghost use Rattle.render_list.specs.Length.{render_length};
 ghost use Rattle.render_list.specs.Text.{head_packet, clear_slots, front_slots, row_in, tiles_in, render_slots, render_text, HasRoom, Puts, IsScene};
 
 use crate::setup::Setup;
-use crate::slots::{Scene, Tile, clear_slots, head_packet};
+use crate::slots::{Scene, Tile, clear_slots, head_packet, some_before_color, some_loads};
 use crate::tile::put_tile;
 use job_format::Frame;
 use packets::put_present;
@@ -79,6 +79,8 @@ pub fn build(frame: &Frame, setup: &Setup, tiles: Option<(u8, u8)>, layout: &Lay
         setup: *setup,
         tiles,
         slot: layout.slot,
+        some_loads: some_loads(setup),
+        some_before_color: some_before_color(setup),
     };
     let _end = put_list(out, layout.render as usize, &scene);
 }
