@@ -9,8 +9,7 @@ use Rattle.field_words.specs.{declared.access.Access.Access, declared.access.Act
 use Rattle.relocation.specs.declared.layout.Layout.{Layout}
 use Rattle.replay.specs.declared.logged.Logged.{Logged}
 use Rattle.pictures.specs.Grid.{overlaps}
-use Rattle.run_text.specs.declared.spot.Spot.TheVariants.{Slot, InBuffer, Nowhere}
-use Rattle.run_text.specs.{declared.spot.Spot.Spot as TheSpot, Spot.spot_of}
+use Rattle.run_text.specs.{declared.spot.Spot.TheVariants.Slot, declared.spot.Spot.TheVariants.InBuffer, declared.spot.Spot.TheVariants.Nowhere, declared.spot.Spot.Spot as TheSpot, Spot.spot_of}
 
 abbrev pub is_way : Way → Way → Bool
 is_way Read Read = true

@@ -34,15 +34,11 @@ numbered name number = record { name = name; value = decimal number }
 unfoldable pub attribute_text : Attribute → List ℕ
 attribute_text attribute = codes " " ++ (attribute.name ++ (codes "=\"" ++ (escaped attribute.value ++ codes "\"")))
 
-abbrev pub attributes_text : List Attribute → List ℕ
-attributes_text [] = []
-attributes_text (attribute ∷ attributes) = attribute_text attribute ++ attributes_text attributes
-
 -- An element stands between its name with its attributes and its name again, and each ends a line.
 abbrev pub forest_text : Forest → List ℕ
 forest_text Nothing = []
 forest_text (Words words) = escaped words
-forest_text (Leaf name attributes) = codes "<" ++ (name ++ (attributes_text attributes ++ codes "/>\n"))
+forest_text (Leaf name attributes) = codes "<" ++ (name ++ (flat_map attribute_text attributes ++ codes "/>\n"))
 forest_text (Element name attributes inside) =
-    codes "<" ++ (name ++ (attributes_text attributes ++ (codes ">" ++ (forest_text inside ++ (codes "</" ++ (name ++ codes ">\n"))))))
+    codes "<" ++ (name ++ (flat_map attribute_text attributes ++ (codes ">" ++ (forest_text inside ++ (codes "</" ++ (name ++ codes ">\n"))))))
 forest_text (Beside first second) = forest_text first ++ forest_text second

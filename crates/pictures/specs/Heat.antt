@@ -1,7 +1,6 @@
 -- The heat: a strip of boxes for reads and one for writes, which shows how many accesses touch each box; over the memory's strip, paled.
 use Rattle.std.specs.Prelude.{ℕ, ◌+◌, ◌-◌, ◌*◌, ◌/◌, ◌%◌, ◌^◌, ◌==◌, min, List, [], ◌∷◌, ◌++◌, length, slice_index_or, codes, if◌then◌else◌, decimal}
-use Rattle.pictures.specs.Forest.{Forest, Nothing, Leaf, Beside, worded, numbered}
-use Rattle.pictures.specs.Parts.{rect, label, each}
+use Rattle.pictures.specs.{Forest.Forest, Forest.Nothing, Forest.Leaf, Forest.Beside, Forest.worded, Forest.numbered, Parts.rect, Parts.label, Parts.each}
 
 -- the row of the drawing at which the two strips begin
 abbrev pub heat_top : ℕ

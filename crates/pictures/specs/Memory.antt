@@ -2,8 +2,7 @@
 use Rattle.std.specs.Prelude.{ℕ, ◌+◌, ◌-◌, ◌*◌, ◌/◌, ◌%◌, min, nat_lt, List, [], ◌∷◌, ◌++◌, length, codes, if◌then◌else◌, decimal}
 use Rattle.buffer_table.specs.{declared.buffer.Buffer.Buffer, declared.buffer.Kind.Kind, declared.buffer.Regions.Regions, Table.buffer_at}
 use Rattle.buffer_table.specs.declared.buffer.Kind.TheVariants.{Plain, Code}
-use Rattle.pictures.specs.Forest.{Forest, Nothing, Element, Beside, worded}
-use Rattle.pictures.specs.Grid.{box_size, box_count, shade_of, shade_in, class_of}
+use Rattle.pictures.specs.{Forest.Forest, Forest.Nothing, Forest.Element, Forest.Beside, Forest.worded, Grid.box_size, Grid.box_count, Grid.shade_of, Grid.shade_in, Grid.class_of}
 use Rattle.pictures.specs.Parts.{rect, label, hex, each, drawing}
 
 -- the box of this number

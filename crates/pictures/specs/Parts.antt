@@ -1,7 +1,7 @@
 -- Parts of a drawing.
-use Rattle.std.specs.Prelude.{ℕ, zero, suc, false, List, [], ◌∷◌, ◌++◌, codes}
+use Rattle.std.specs.Prelude.{ℕ, zero, suc, false, List, [], ◌∷◌, ◌++◌, codes, flat_map}
 use Rattle.std.specs.Fmt.{decimal, digits}
-use Rattle.pictures.specs.Forest.{Forest, Attribute, Nothing, Words, Leaf, Element, Beside, worded, numbered, attributes_text, forest_text}
+use Rattle.pictures.specs.Forest.{Forest, Attribute, Nothing, Words, Leaf, Element, Beside, worded, numbered, attribute_text, forest_text}
 use Rattle.pictures.specs.declared.parts.TheConstants.{STYLE, NAMESPACE}
 
 abbrev pub rect : (x y width height : ℕ) → (class : List ℕ) → Forest
@@ -38,5 +38,5 @@ drawing height title inside =
 -- what stands before what is in a drawing
 abbrev pub opening : (height : ℕ) → (title : List ℕ) → List ℕ
 opening height title =
-    codes "<" ++ (codes "svg" ++ (attributes_text (root_attributes height) ++ (codes ">" ++ (forest_text (told (codes "title") title)
+    codes "<" ++ (codes "svg" ++ (flat_map attribute_text (root_attributes height) ++ (codes ">" ++ (forest_text (told (codes "title") title)
     ++ (forest_text (told (codes "style") STYLE.now) ++ forest_text (rect 0 0 960 height (codes "paper")))))))

@@ -5,8 +5,7 @@ use Rattle.field_words.specs.declared.access.Way.TheVariants.{Read, Write}
 use Rattle.relocation.specs.declared.layout.Layout.{Layout}
 use Rattle.replay.specs.declared.logged.Log.{Log}
 use Rattle.dumper.specs.Trace.{ending_name}
-use Rattle.pictures.specs.Forest.{Forest, Beside}
-use Rattle.pictures.specs.{Grid.box_size, Grid.box_count, Parts.label, Parts.drawing, Memory.places, Memory.memory_parts}
+use Rattle.pictures.specs.{Forest.Forest, Forest.Beside, Grid.box_size, Grid.box_count, Parts.label, Parts.drawing, Memory.places, Memory.memory_parts}
 use Rattle.pictures.specs.{Counts.box_counts, Counts.cell_counts, Heat.heat_top, Heat.heat, Table.unit_table}
 
 -- how many steps and accesses the run had, and how it ended

@@ -1,7 +1,6 @@
 -- The table of a run: how many reads and writes each kind of unit makes to each kind of region.
 use Rattle.std.specs.Prelude.{ℕ, ◌+◌, ◌*◌, ◌==◌, List, ◌++◌, slice_index_or, codes, if◌then◌else◌, decimal}
-use Rattle.pictures.specs.Forest.{Forest, Beside}
-use Rattle.pictures.specs.Parts.{rect, label, each}
+use Rattle.pictures.specs.{Forest.Forest, Forest.Beside, Parts.rect, Parts.label, Parts.each}
 
 -- a kind of region, above its columns
 unfoldable pub column_head : (column : ℕ) → (class name : List ℕ) → Forest

@@ -1,7 +1,7 @@
 //! Parts of a drawing.
-ghost use Rattle.std.specs.Prelude.{◌≡◌, ◌++◌, [], codes, OnOk, IfOk};
+ghost use Rattle.std.specs.Prelude.{◌≡◌, ◌++◌, [], codes, flat_map, OnOk, IfOk};
 ghost use Rattle.std.specs.Fmt.{decimal};
-ghost use Rattle.pictures.specs.Forest.{forest_text, attributes_text};
+ghost use Rattle.pictures.specs.Forest.{forest_text, attribute_text};
 ghost use Rattle.pictures.specs.Parts.{rect, label, hex, told, root_attributes, opening};
 ghost use Rattle.pictures.specs.Grid.{class_of};
 
@@ -112,7 +112,7 @@ fn push_told(out: &mut Vec<u8>, name: &str, words: &str) -> Drawn
 
 // The root's attributes.
 fn push_root(alloc: Global, out: &mut Vec<u8>, height: u64) -> Drawn
-    ensures { OnOk result (out.new.items ≡ out.old.items ++ attributes_text (root_attributes height)) }
+    ensures { OnOk result (out.new.items ≡ out.old.items ++ flat_map attribute_text (root_attributes height)) }
 {
     let view = format!(in alloc; "0 0 960 {height}")?;
     worded(out, "xmlns", NAMESPACE)?;

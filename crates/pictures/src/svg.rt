@@ -97,26 +97,3 @@ pub fn close(out: &mut Vec<u8>, name: &str) -> Drawn
     out.extend_from_slice(name.as_bytes())?;
     out.extend_from_slice(b">\n")
 }
-
-#[cfg(test)]
-mod tests {
-    use super::*;
-
-    #[test]
-    fn writes_an_element(rt: HostRuntime) -> Result<(), AllocError> {
-        let mut out = Vec::new(rt.alloc());
-        begin(&mut out, "text")?;
-        numbered(&mut out, "x", 12)?;
-        worded(&mut out, "class", "a\"b")?;
-        end_tag(&mut out)?;
-        push_words(&mut out, b"1 < 2 & 3 > 2")?;
-        close(&mut out, "text")?;
-        begin(&mut out, "rect")?;
-        end_leaf(&mut out)?;
-        assert_eq!(rt;
-            out.as_slice(),
-            b"<text x=\"12\" class=\"a&quot;b\">1 &lt; 2 &amp; 3 &gt; 2</text>\n<rect/>\n".as_slice()
-        );
-        Ok(())
-    }
-}
