@@ -1,12 +1,12 @@
 -- Where no shader of a file has a loop, each that a job starts is short.
-use Rattle.std.proofs.Common.{◌≡◌, ◌≤◌, ◌<◌, inl, inr, ℕ, zero, suc, false, List, length, Some, sym, ◌∙◌, ap, arith}
+use Rattle.std.proofs.Common.{◌≡◌, ◌≤◌, ◌<◌, inl, inr, ℕ, zero, suc, Bool, false, List, length, Option, Some, sym, ◌∙◌, ap, arith}
 use Rattle.std.proofs.lemmas.Bool.{cases_lt}
 use Rattle.buffer_table.proofs.Named.{code_is}
-use Rattle.shader_flow.proofs.Bounded.{some_below_not}
+use Rattle.shader_flow.{specs.Bounded.some_below, proofs.Bounded.some_below_not}
 use Rattle.job_format.specs.Model.{FileModel}
 use Rattle.job_check.specs.{Shaders.table_of, Jobs.job_of}
 use Rattle.accepted_law.specs.{Ends.IsShaderOf, Ends.DrawShaders, Holdings.plain_of, Holdings.file_rights}
-use Rattle.ends_law.specs.{Ends.DrawShort, Loops.IsShort, Loops.has_loop, Loops.program_steps}
+use Rattle.ends_law.specs.{Ends.DrawShort, Loops.IsShort, Loops.program_steps}
 use Rattle.accepted_ends.specs.Bound.{shader_in, shader_named, loops, steps, job_loops, file_loops, greatest_below, job_longest, longest_of}
 
 pub upto_greatest : (n k : ℕ) (number : ℕ → ℕ) → k < n → number k ≤ greatest_below n number
@@ -22,13 +22,12 @@ pub named_is : (f : FileModel) (j : ℕ) (code : List ℕ) → (is : IsShaderOf 
 unfolding shader_named
 named_is f j code is = ap (shader_in f) is.named ∙ ap (λ words. Some words) (sym is.is)
 
-no_loop : (f : FileModel) (j : ℕ) (code : List ℕ) → file_loops f ≡ false → j < length f.jobs → IsShaderOf f j code → has_loop code ≡ false
-unfolding file_loops job_loops
-no_loop f j code none inside is =
+-- What a test says of no shader that a handle names, it says not of this one.
+pub named_off : (test : Option (List ℕ) → Bool) (f : FileModel) (j : ℕ) (code : List ℕ) → some_below (length f.jobs) (λ k. some_below (length (job_of f k).handles) (λ i. test (shader_named f k i))) ≡ false → j < length f.jobs → IsShaderOf f j code → test (Some code) ≡ false
+named_off test f j code none inside is =
     let handle_in = (code_is (table_of f) (job_of f j).handles is.handle is.number is.named).handle_in in
-    let of_job : job_loops f j ≡ false = some_below_not (length f.jobs) j (λ k. job_loops f k) none inside in
-    let of_handle : loops (shader_named f j is.handle) ≡ false = some_below_not (length (job_of f j).handles) is.handle (λ i. loops (shader_named f j i)) of_job handle_in in
-    sym (ap loops (named_is f j code is)) ∙ of_handle
+    let of_job = some_below_not (length f.jobs) j (λ k. some_below (length (job_of f k).handles) (λ i. test (shader_named f k i))) none inside in
+    sym (ap test (named_is f j code is)) ∙ some_below_not (length (job_of f j).handles) is.handle (λ i. test (shader_named f j i)) of_job handle_in
 
 few_steps : (f : FileModel) (j : ℕ) (code : List ℕ) → j < length f.jobs → IsShaderOf f j code → program_steps code ≤ longest_of f
 unfolding longest_of job_longest
@@ -40,7 +39,8 @@ few_steps f j code inside is =
     omega (arith, of_job, of_handle, same)
 
 is_short : (f : FileModel) (j : ℕ) (code : List ℕ) → file_loops f ≡ false → j < length f.jobs → IsShaderOf f j code → IsShort (longest_of f) code
-is_short f j code none inside is = record { no_loop = no_loop f j code none inside is; short = few_steps f j code inside is }
+unfolding file_loops job_loops
+is_short f j code none inside is = record { no_loop = named_off loops f j code none inside is; short = few_steps f j code inside is }
 
 pub draws_short : (f : FileModel) (j : ℕ) (m : List ℕ) (word : ℕ) (packet : List ℕ) → file_loops f ≡ false → j < length f.jobs → DrawShaders f j m word packet → DrawShort (file_rights f) (plain_of f) m (longest_of f) j word packet
 draws_short f j m word packet none inside draws = record {

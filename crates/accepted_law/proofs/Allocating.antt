@@ -1,5 +1,5 @@
 -- The configuration of the job's grid is the job's to write.
-use Rattle.std.proofs.Common.{◌≡◌, inl, ℕ, ◌+◌, ◌-◌, ◌*◌, ◌≤◌, Bool, true, false, not, ◌==◌, List, [], ◌∷◌, None, length, refl, arith, lit≤}
+use Rattle.std.proofs.Common.{◌≡◌, inl, ℕ, ◌+◌, ◌-◌, ◌*◌, ◌≤◌, Bool, true, false, not, ◌==◌, List, None, length, refl, arith, lit≤, rules}
 use Rattle.std.proofs.lemmas.{Bool.leb-true, Bool.eqb-true, Bool.not-false, Bool.Decides.nat_tests, Grind.common_steps}
 use Rattle.field_words.specs.{Sizes.page_size, Sizes.slot_size, Words.rounded_up, Questions.first_of}
 use Rattle.field_words.proofs.{Numbers.rounded, Nones.front_none, Nones.rest_none, Nones.none_answered}
@@ -26,8 +26,7 @@ nothing_fits = refl
 
 empty_room : (list : List ℕ) → length list ≡ 0 → slot_fits ((seen_before (passed list)).tiles_x * (seen_before (passed list)).tiles_y) ≡ true
 unfolding passed packets seen_before
-empty_room [] none = nothing_fits
-empty_room (o ∷ body) none = absurd (omega (arith, none))
+empty_room list none = search (rules, arith, nothing_fits)
 
 not_some : (n : ℕ) → not (n == 0) ≡ false → n ≡ 0
 not_some n is = eqb-true n 0 (not-false (n == 0) is)
@@ -35,8 +34,7 @@ not_some n is = eqb-true n 0 (not-false (n == 0) is)
 room_by : (f : FileModel) (j : ℕ) (b : Bool) → not (length (job_of f j).bin == 0) ≡ b
     → (b ≡ true → first_of (bin_questions (job_of f j).bin (job_of f j).declared (table_of f) (job_of f j).handles) ≡ None)
     → slot_fits (across_of f j * down_of f j) ≡ true
-room_by f j true is none = grind (arith, common_steps, nat_tests, grid_room)
-room_by f j false is none = empty_room (job_of f j).bin (not_some (length (job_of f j).bin) is)
+room_by f j b is none = search (rules, arith, grid_room, empty_room, not_some)
 
 room_of : (f : FileModel) (j : ℕ) → Settled f j → slot_fits (across_of f j * down_of f j) ≡ true
 unfolding has_bin

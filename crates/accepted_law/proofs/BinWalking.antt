@@ -1,5 +1,5 @@
 -- The emitted binner list walks, and each primitive of it may be drawn.
-use Rattle.std.proofs.Common.{◌≡◌, ◌≤◌, ◌<◌, ℕ, ◌+◌, ◌-◌, ◌%◌, ◌==◌, Bool, true, false, List, slice_index, length, Some, if◌then◌else◌, refl, ◌∙◌, ap, subst, arith, []}
+use Rattle.std.proofs.Common.{◌≡◌, ◌≤◌, ◌<◌, ℕ, ◌+◌, ◌-◌, ◌%◌, ◌==◌, Bool, true, false, List, slice_index, length, Some, if◌then◌else◌, refl, ◌∙◌, ap, subst, arith, [], rules}
 use Rattle.std.proofs.lemmas.{Bool.eqb-true, Bool.Decides.nat_tests, Grind.common_steps}
 use Rattle.field_words.specs.Words.{u32_at}
 use Rattle.packets.specs.Opcode.{indexed_primitive_list, array_primitive_list}
@@ -35,8 +35,7 @@ unfolding draws_to
 draws_array packet is = ap (λ o. if o == indexed_primitive_list then u32_at packet 10 else (if o == array_primitive_list then last_index (u32_at packet 6) (u32_at packet 2) else 0)) is
 
 last_if : (b : Bool) (first count : ℕ) → (count == 0) ≡ b → 0 < count → (if b then 0 else first + count - 1) ≡ first + count - 1
-last_if true first count none some = let zero_is = eqb-true count 0 none in absurd (omega (arith, zero_is, some))
-last_if false first count is some = refl
+last_if b first count none some = search (rules, arith, eqb-true)
 
 last_below : (first count most : ℕ) → last_index first count ≤ most → 0 < count → first + count ≤ most + 1
 last_below first count most upto some = let last = last_if (count == 0) first count refl some in omega (arith, last, upto, some)
@@ -44,24 +43,11 @@ last_below first count most upto some = let last = last_if (count == 0) first co
 indexed_inside : (table : TableModel) (handles : List ℕ) (IsNamed : ℕ → ℕ → Type 0) (packet : List ℕ) (most : ℕ) → ((place size : ℕ) → IsDataIn table handles place size → IsNamed place size)
     → AreIndexesInside table handles packet → u32_at packet 10 ≤ most → IsIndexedPrimitive IsNamed packet most
 unfolding index_size
-indexed_inside table handles IsNamed packet most named indexes greatest =
-    let buffer = buffer_at table.buffers (slice_index handles indexes.handle) in
-    record {
-      place = buffer.place;
-      size = buffer.size;
-      named = named buffer.place buffer.size (data_in table handles indexes.handle indexes.buffer);
-      from = indexes.from;
-      upto = indexes.upto;
-      greatest = greatest;
-    }
+indexed_inside table handles IsNamed packet most named indexes greatest = search (rules, arith, data_in)
 
 primitive_of : (f : FileModel) (j : ℕ) (m : List ℕ) (word : ℕ) (packet : List ℕ) → Grounds f j m → (drawn : IsDrawn (table_of f) (job_of f j).handles (layout_of f j) (states_in f j) word packet)
     → IsPrimitive (Inside (rights_at f j).region) packet drawn.state.max_index
-primitive_of f j m word packet grounds drawn = record {
-  indexed = λ is. indexed_inside (table_of f) (job_of f j).handles (Inside (rights_at f j).region) packet drawn.state.max_index (data_inside f j m grounds) (drawn.indexes is)
-      (let draws = draws_indexed packet is in omega (arith, draws, drawn.most));
-  array = λ is. record { greatest = let draws = draws_array packet is in last_below (u32_at packet 6) (u32_at packet 2) drawn.state.max_index (subst (λ n. n ≤ drawn.state.max_index) draws drawn.most) };
-}
+primitive_of f j m word packet grounds drawn = search (rules, arith, indexed_inside, data_inside, draws_indexed, draws_array, last_below)
 
 found_in : (f : FileModel) (j word : ℕ) (state : State) → IsStateAt (layout_of f j) 0 (states_in f j) word state → StateFound (input_for f j) (layout_of f j) word state
 unfolding input_for
@@ -119,11 +105,7 @@ unfolding bin_list_of
 nothing_is f j none = ap (λ b. if b then bin_text (job_of f j).bin (job_of f j).declared (table_of f) (job_of f j).handles (layout_of f j) else []) none
 
 pub layout_is_low : (f : FileModel) (j : ℕ) (m : List ℕ) → Grounds f j m → IsLow (layout_of f j)
-layout_is_low f j m grounds =
-    let s = grounds.settled in
-    let numbers = layout_numbers f j (layout_of f j) refl in
-    let limits = layout_low f j s.sound (enough_slots f s.well_formed s.sound) (omega (arith, numbers.0, s.lists)) s.inside s.limits in
-    record { place = limits.0; records = limits.1; slot = limits.3 }
+layout_is_low f j m grounds = search (rules, arith, layout_numbers, layout_low, enough_slots)
 
 walked : (f : FileModel) (j : ℕ) (m : List ℕ) → Grounds f j m → has_bin f j ≡ true → IsWalked (job_of f j).bin (job_of f j).declared (table_of f) (job_of f j).handles (layout_of f j)
 walked f j m grounds has =
@@ -152,8 +134,7 @@ none_walks : (f : FileModel) (j : ℕ) (m : List ℕ) → has_bin f j ≡ false 
 none_walks f j m none = record { packets = []; text = nothing_is f j none; walks = tt }
 
 walks_by : (f : FileModel) (j : ℕ) (m : List ℕ) → Grounds f j m → (b : Bool) → has_bin f j ≡ b → BinWalks f j m
-walks_by f j m grounds true has = some_walk f j m grounds has
-walks_by f j m grounds false none = none_walks f j m none
+walks_by f j m grounds b has = search (rules, arith, some_walk, none_walks)
 
 pub bins_walk_law : BinsWalk
 bins_walk_law f j m grounds = walks_by f j m grounds (has_bin f j) refl

@@ -1,5 +1,5 @@
 -- Lists with an item for each job: the rights of all jobs, and what no job may write.
-use Rattle.std.proofs.Common.{◌≡◌, inl, inr, ℕ, zero, suc, ◌+◌, ◌<◌, ◌≤◌, [], ◌++◌, length, map, sym, subst, arith, zero-add}
+use Rattle.std.proofs.Common.{◌≡◌, inl, inr, ℕ, zero, suc, ◌+◌, ◌<◌, ◌≤◌, [], ◌++◌, length, map, sym, subst, arith, zero-add, rules}
 use Rattle.std.proofs.lemmas.{Bool.cases_lt, List.get_or_past, List.FromFn.length-map-range_with_len, List.FromFn.get_or-map-range_with_len}
 use Rattle.std.specs.List.{range_with_len}
 use Rattle.job_format.specs.Model.{FileModel}
@@ -48,9 +48,7 @@ in_one_from rights (suc n) j p lies =
 
 pub in_some_job : (f : FileModel) (p : ℕ) → Inside (joined (file_rights f)) p 1 → LiesInJob (job_rights f) (length f.jobs) p
 unfolding file_rights
-in_some_job f p lies =
-    let found = in_one_from (job_rights f) (length f.jobs) 0 p lies in
-    record { number = found.number; below = omega (arith, found.below); lies = found.lies }
+in_some_job f p lies = search (rules, arith, in_one_from)
 
 -- The lists and the code of a job are among those of all.
 fixed_there : (f : FileModel) (n j p : ℕ) → j < n → Inside (lists_of f j ++ codes_of f j) p 1 → Inside (fixed_below f n) p 1

@@ -1,5 +1,5 @@
 -- What is emitted is bytes.
-use Rattle.std.proofs.Common.{ℕ, zero, suc, ◌+◌, ◌-◌, ◌*◌, ◌/◌, ◌%◌, ◌^◌, ◌<◌, Bool, true, false, if◌then◌else◌, ◌==◌, List, [], ◌∷◌, ◌++◌, Option, Some, None, length, drop, replicate, slice_index, arith, lit<}
+use Rattle.std.proofs.Common.{ℕ, zero, suc, ◌+◌, ◌-◌, ◌*◌, ◌/◌, ◌%◌, ◌^◌, ◌<◌, Bool, if◌then◌else◌, ◌==◌, List, [], ◌∷◌, ◌++◌, Option, Some, None, length, drop, replicate, slice_index, arith, lit<, rules}
 use Rattle.std.proofs.Math.Nat.{mod-lt}
 use Rattle.std.specs.{Int.to_le_bytes, Int.bytes_low_first, Int.byte_at, Int.w16, Int.w32, List.AllByRecursion}
 use Rattle.field_words.specs.{Words.IsBytes, WordBytes.word_bytes, Writes.Part, Writes.placed, Writes.with_bytes, Writes.zeros}
@@ -14,7 +14,7 @@ use Rattle.bin_list.specs.{declared.seen.Seen.Seen, Rules.GivenModel, Seen.lates
 use Rattle.bin_list.specs.Packets.{opcode, front_packet, behind, cut, packets, onto, passed}
 use Rattle.bin_list.specs.Emitted.{index_text, state_text, config_text, packet_text, texts}
 use Rattle.qpu_isa.specs.Shader.{ShaderModel}
-use Rattle.shader_records.specs.Emission.{emitted_word, stream_place, record_text, records_text, stream_word_of, stream_text, streams_text, uniforms_text}
+use Rattle.shader_records.specs.Emission.{emitted_word, stream_place, record_text, records_text, stream_text, streams_text, uniforms_text}
 use Rattle.shader_records.specs.Inputs.{InputModel}
 use Rattle.render_walks.specs.Walks.{AllFit}
 
@@ -22,16 +22,14 @@ pub bytes_none : IsBytes []
 bytes_none = λ i. lit< tt
 
 pub bytes_cons : (x : ℕ) (xs : List ℕ) → x < 256 → IsBytes xs → (i : ℕ) → slice_index (x ∷ xs) i < 256
-bytes_cons x xs small rest zero = small
-bytes_cons x xs small rest (suc i) = rest i
+bytes_cons x xs small rest i = search (rules, arith)
 
 pub bytes_append : (xs ys : List ℕ) → IsBytes xs → IsBytes ys → IsBytes (xs ++ ys)
 bytes_append [] ys one two = two
 bytes_append (x ∷ xs) ys one two = bytes_cons x (xs ++ ys) (one 0) (bytes_append xs ys (λ i. one (suc i)) two)
 
 pub bytes_if : (b : Bool) (xs ys : List ℕ) → IsBytes xs → IsBytes ys → IsBytes (if b then xs else ys)
-bytes_if true xs ys one two = one
-bytes_if false xs ys one two = two
+bytes_if b xs ys one two = search (rules, arith)
 
 -- Bytes that are written into bytes leave bytes.
 pub bytes_with : (old : List ℕ) (at : ℕ) (new : List ℕ) → IsBytes old → IsBytes new → IsBytes (with_bytes old at new)
@@ -131,8 +129,7 @@ bytes_texts given layout (packet ∷ earlier) each = search (arith, bytes_append
 
 -- A byte that the last packet of a kind holds is below 256.
 byte_if : (b : Bool) (packet : List ℕ) (other : Option (List ℕ)) (at : ℕ) → IsBytes packet → byte_of at other < 256 → byte_of at (if b then Some packet else other) < 256
-byte_if true packet other at all rest = all at
-byte_if false packet other at all rest = rest
+byte_if b packet other at all rest = search (rules, arith)
 
 pub byte_of_latest : (o at : ℕ) (all : List (List ℕ)) → AllByRecursion IsBytes all → byte_of at (latest o all) < 256
 byte_of_latest o at [] each = lit< tt
@@ -150,8 +147,7 @@ bytes_records input first (suc k) = search (arith, bytes_append, bytes_records i
 
 bytes_stream : (input : InputModel) (from stream : ℕ) (shader : Option ShaderModel) → IsBytes (stream_text input from stream shader)
 unfolding stream_text
-bytes_stream input from stream None = bytes_none
-bytes_stream input from stream (Some shader) = bytes_words (stream_word_of input from shader stream) shader.uniforms
+bytes_stream input from stream shader = search (rules, arith, bytes_none, bytes_words)
 
 bytes_streams : (input : InputModel) (at from first s : ℕ) → IsBytes (streams_text input at from first s)
 unfolding streams_text

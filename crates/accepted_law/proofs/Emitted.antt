@@ -1,12 +1,12 @@
 -- The memory of an accepted file byte by byte. So two neighbours whose jobs of a client hold the same are emitted alike to it.
-use Rattle.std.proofs.Common.{◌≡◌, inl, inr, ℕ, suc, ◌+◌, ◌-◌, ◌<◌, ◌≤◌, Bool, true, false, if◌then◌else◌, List, [], ◌∷◌, ◌++◌, length, slice_index, refl, sym, ap, subst, arith, ◌∙◌}
+use Rattle.std.proofs.Common.{◌≡◌, inl, inr, ℕ, suc, ◌+◌, ◌-◌, ◌<◌, ◌≤◌, Bool, true, if◌then◌else◌, List, [], ◌∷◌, ◌++◌, length, slice_index, refl, sym, ap, subst, arith, ◌∙◌, rules}
 use Rattle.std.proofs.lemmas.{Bool.cases_lt, List.get_or_past, List.get_or-replicate, Grind.common_steps, Bool.Decides.nat_tests}
 use Rattle.field_words.specs.{Sizes.slot_size, Writes.zeros}
 use Rattle.buffer_table.specs.{Table.buffer_at, Handles.data_of, Handles.code_of}
 use Rattle.buffer_table.proofs.Named.{data_is, code_is}
 use Rattle.job_format.specs.Model.{FileModel}
 use Rattle.job_check.specs.Jobs.{job_of, slot_of, layout_of, bin_list_of, records_of, streams_of, render_list_of}
-use Rattle.job_check.specs.{Shaders.table_of, Shaders.content_of, Emit.content_parts, Emit.lengths_of, Emit.memory_of, Emit.PartsFit}
+use Rattle.job_check.specs.{Shaders.table_of, Shaders.content_of, Emit.lengths_of, Emit.memory_of}
 use Rattle.job_check.proofs.{Codes.content_long, Emission.length_zeros}
 use Rattle.machine_plan.proofs.Words.{byte_read}
 use Rattle.machine_plan.specs.{Memory.bytes_at, Regions.Interval, Regions.LiesIn, Regions.Inside, Regions.Rights, Regions.rights_of}
@@ -34,13 +34,7 @@ untouched : (f : FileModel) (j q : ℕ) → Settled f j → AreSettled f
     → ((k : ℕ) → k < length f.buffers → IsClear q (buffer_at f.buffers k).place (length (content_of f k)))
     → ((k : ℕ) → k < length f.jobs → Misses q (four_parts f k)) → slice_index (memory_of f) q ≡ 0
 unfolding content_of buffer_at all_parts
-untouched f j q s all contents lists =
-    let parts = content_parts f.buffers f.contents ++ all_parts f in
-    let fit : PartsFit f.mem_size parts = fit_append f.mem_size (content_parts f.buffers f.contents) (all_parts f) (contents_in f j s) (all_in f all) in
-    ap (λ m. slice_index m q) (memory_is f)
-    ∙ placed_kept (zeros f.mem_size) parts q (zeros_fit f.mem_size parts fit)
-    (misses_contents q f.buffers f.contents (all_parts f) (λ k there some. contents k there) (jobs_miss f q (length f.jobs) lists))
-    ∙ zero_byte f.mem_size q
+untouched f j q s all contents lists = search (rules, arith, all_parts, fit_append, contents_in, all_in, memory_is, placed_kept, zeros_fit, misses_contents, jobs_miss, zero_byte)
 
 content_inside : (f : FileModel) (j : ℕ) → Settled f j → (k : ℕ) → k < length f.buffers → length (content_of f k) ≤ (buffer_at f.buffers k).size
 content_inside f j s k there = let own = buffer_sound f.mem_size f.regions f.buffers s.sound k there in omega (arith, content_long f k s.well_formed there, own.content)
@@ -110,12 +104,7 @@ record IsAtHandle (f : FileModel) (j place size : ℕ) : Type 0 where
 
 at_handle : (f : FileModel) (j place size handle number : ℕ) → handle < length (job_of f j).handles → slice_index (job_of f j).handles handle ≡ number
     → place ≡ (buffer_at f.buffers number).place → size ≡ (buffer_at f.buffers number).size → IsAtHandle f j place size
-at_handle f j place size handle number inside is place_is size_is = record {
-  handle = handle;
-  handle_in = inside;
-  place_is = place_is ∙ sym (ap (λ n. (buffer_at f.buffers n).place) is);
-  size_is = size_is ∙ sym (ap (λ n. (buffer_at f.buffers n).size) is);
-}
+at_handle f j place size handle number inside is place_is size_is = search (rules, arith)
 
 plain_handle : (f : FileModel) (j place size : ℕ) → IsOneOf (plain_of f j) place size → IsAtHandle f j place size
 unfolding plain_of
@@ -182,9 +171,7 @@ list_same f g j p has found =
 -- So are all that the job may reach.
 named_same : (f g : FileModel) (j p : ℕ) → HoldsAlike f g j → (named : List Interval) → ((place size : ℕ) → IsOneOf named place size → IsAtHandle f j place size)
     → Inside named p 1 → slice_index (memory_of f) p ≡ slice_index (memory_of g) p
-named_same f g j p has named at lies =
-    let found = in_one named p 1 lies in
-    buffer_same f g j p found.place found.size has (at found.place found.size found.one) found.from found.upto
+named_same f g j p has named at lies = search (rules, arith, in_one, buffer_same)
 
 behind_same : (f g : FileModel) (j p : ℕ) → HoldsAlike f g j → Inside (lists_of f j ++ codes_of f j) p 1 → slice_index (memory_of f) p ≡ slice_index (memory_of g) p
 behind_same f g j p has lies =
@@ -194,18 +181,12 @@ behind_same f g j p has lies =
     ]
 
 region_same : (f g : FileModel) (j p : ℕ) → HoldsAlike f g j → Inside (job_rights f j).region p 1 → slice_index (memory_of f) p ≡ slice_index (memory_of g) p
-region_same f g j p has (inl slot) = slot_same f g j p has slot
-region_same f g j p has (inr others) =
-    elim (inside_either (plain_of f j) (lists_of f j ++ codes_of f j) p 1 others) [
-      | inl plain ↦ named_same f g j p has (plain_of f j) (plain_handle f j) plain
-      | inr later ↦ behind_same f g j p has later
-    ]
+region_same f g j p has h5 = search (rules, arith, slot_same, inside_either, named_same, plain_handle, behind_same)
 
 -- What is so of each byte of each region of the client's jobs is so of all.
 of_first : (own : Bool) (P : ℕ → Type 0) (first rest : List Interval) (p : ℕ) → (own ≡ true → Inside first p 1 → P p) → (Inside rest p 1 → P p)
     → Inside (if own then first ++ rest else rest) p 1 → P p
-of_first true P first rest p here later lies = elim (inside_either first rest p 1 lies) [ inl one ↦ here refl one | inr others ↦ later others ]
-of_first false P first rest p here later lies = later lies
+of_first own P first rest p here later lies = search (rules, arith, inside_either)
 
 of_all : (mine : Client) (P : ℕ → Type 0) (n : ℕ) (rights : List Rights) (p : ℕ) → ((j : ℕ) → mine (n + j) ≡ true → Inside (rights_of rights j).region p 1 → P p)
     → Inside (regions_of mine n rights) p 1 → P p
@@ -218,10 +199,7 @@ of_all mine P n (one ∷ others) p each lies =
 
 holds_alike : (c : ℕ) (f g : FileModel) → AreSettled f → AreSettled g → AreNeighbourFiles c f g → ((j : ℕ) → jobs_of c f j ≡ true → FilledAlike f g j)
     → (j : ℕ) → jobs_of c f j ≡ true → HoldsAlike f g j
-holds_alike c f g all others near filled j mine =
-    let own = job_is_of c f j mine in
-    let its = job_is_of c g j (sym (near.jobs j) ∙ mine) in
-    record { one = all j own.inside; all = all; other = others j its.inside; others = others; places = near.places j mine; filled = filled j mine }
+holds_alike c f g all others near filled j mine = search (rules, arith, job_is_of)
 
 reach_same : (c : ℕ) (f g : FileModel) → ((j : ℕ) → jobs_of c f j ≡ true → HoldsAlike f g j) → (p : ℕ) → Inside (reach_of c f) p 1
     → slice_index (memory_of f) p ≡ slice_index (memory_of g) p

@@ -1,5 +1,5 @@
 -- A byte of a job's lists and code is no job's to write.
-use Rattle.std.proofs.Common.{◌≤◌, ◌⊎◌, inl, inr, ℕ, ◌+◌, ◌-◌, List, [], ◌∷◌, ◌++◌, refl, subst, arith}
+use Rattle.std.proofs.Common.{◌≤◌, ◌⊎◌, inl, inr, ℕ, ◌+◌, ◌-◌, List, [], ◌∷◌, ◌++◌, refl, subst, arith, rules}
 use Rattle.job_format.specs.Model.{FileModel}
 use Rattle.machine_plan.specs.Regions.{Interval, Inside, IsOutside}
 use Rattle.qpu_law.specs.Asks.{IsOneOf}
@@ -18,13 +18,10 @@ pub record LiesInOne (intervals : List Interval) (p n : ℕ) : Type 0 where
 pub in_one : (intervals : List Interval) (p n : ℕ) → Inside intervals p n → LiesInOne intervals p n
 in_one [] p n inside = absurd inside
 in_one (first ∷ others) p n (inl lies) = record { place = first.place; size = first.size; one = inl refl; from = lies.from; upto = lies.upto }
-in_one (first ∷ others) p n (inr there) =
-    let found = in_one others p n there in
-    record { place = found.place; size = found.size; one = inr found.one; from = found.from; upto = found.upto }
+in_one (first ∷ others) p n (inr there) = search (rules, arith, in_one others p n there)
 
 fixed_at : (f : FileModel) (j place size : ℕ) → AreFixed f j → IsOneOf (lists_of f j) place size ⊎ IsOneOf (codes_of f j) place size → IsFixed (file_rights f) place size
-fixed_at f j place size fixed (inl list) = fixed.lists place size list
-fixed_at f j place size fixed (inr code) = fixed.code place size (code_held f j place size code)
+fixed_at f j place size fixed h5 = search (rules, arith, code_held)
 
 pub fixed_byte : (f : FileModel) (j p : ℕ) → AreFixed f j → Inside (lists_of f j ++ codes_of f j) p 1 → IsOutside (file_rights f) p
 fixed_byte f j p fixed lies =

@@ -1,5 +1,5 @@
 -- What the rules of a frame promise of each of its surfaces: where it lies, and how its pixels do.
-use Rattle.std.proofs.Common.{◌≡◌, ◌≤◌, ◌<◌, ℕ, ◌+◌, ◌*◌, ◌-◌, ◌/◌, ◌%◌, ◌^◌, ◌==◌, ◌&&◌, ◌||◌, not, Bool, true, false, List, Option, Some, None, if◌then◌else◌, refl, sym, ap, subst, arith, ◌∙◌, bit_or}
+use Rattle.std.proofs.Common.{◌≡◌, ◌≤◌, ◌<◌, ℕ, ◌+◌, ◌*◌, ◌-◌, ◌/◌, ◌%◌, ◌^◌, ◌==◌, ◌&&◌, ◌||◌, not, Bool, true, false, List, Option, Some, None, if◌then◌else◌, refl, sym, ap, subst, arith, ◌∙◌, bit_or, rules}
 use Rattle.std.proofs.lemmas.Nat.{or_shifted, or_shr, or_mod}
 use Rattle.std.specs.{Prelude.is_some, Prelude.IfSome, Int.Bits.or_zero_r}
 use Rattle.field_words.specs.{Words.bits_of, Questions.first_of}
@@ -65,9 +65,7 @@ unfolding is_unaligned
 offset_whole surface whole = grind (arith, whole)
 
 both_false : (a b c : Bool) → a ≡ true → (b && (a || c)) ≡ false → b ≡ false
-both_false true false c here none = refl
-both_false true true c here none = none
-both_false false b c here none = cc
+both_false a b c here none = search (rules, arith)
 
 never_full : (k : ℕ) (surface : Surface) → is_full_with_bits k surface ≡ false → (k == 3) ≡ true → is_full k surface ≡ false
 unfolding is_full_with_bits
@@ -81,9 +79,7 @@ record IsFoundIn (table : TableModel) (present : Bool) (offset : ℕ) (found : O
   place_is : (buffer_at table.buffers number).place + offset ≡ base
 
 found_by : (table : TableModel) (present : Bool) (offset : ℕ) (found : Option ℕ) (base : ℕ) → (if present then place_behind table offset found else None) ≡ Some base → IsFoundIn table present offset found base
-found_by table false offset found base is = cc
-found_by table true offset None base is = cc
-found_by table true offset (Some number) base is = record { number = number; here = refl; named = refl; place_is = cc }
+found_by table present offset found base is = search (rules, arith)
 
 found_in : (table : TableModel) (handles : List ℕ) (surface : Surface) (base : ℕ) → place_in table handles surface ≡ Some base
     → IsFoundIn table (is_present surface) surface.offset (data_of table handles surface.hindex) base
@@ -92,14 +88,11 @@ found_in table handles surface base is = found_by table (is_present surface) sur
 
 -- Where tiling and pixel are listed, so is the style, and its pixels are short.
 some_style : (tiling : Option Tiling) (pixel : Option ℕ) → is_some tiling ≡ true → is_some pixel ≡ true → is_some (styled tiling pixel) ≡ true
-some_style None pixel tiled listed = tiled
-some_style (Some tiling) None tiled listed = listed
-some_style (Some tiling) (Some cpp) tiled listed = refl
+some_style tiling pixel tiled listed = search (rules, arith)
 
 short_by : (color : Bool) (bits : ℕ)
     → IfSome (styled (if color then frame_tiling bits else general_tiling bits) (if color then frame_pixel bits else general_pixel bits)) (λ s. IsShort s.cpp)
-short_by true bits = frame_short bits
-short_by false bits = general_short bits
+short_by color bits = search (rules, arith, frame_short, general_short)
 
 surface_short : (k : ℕ) (surface : Surface) → IfSome (surface_style k surface) (λ s. IsShort s.cpp)
 unfolding surface_tiling surface_pixel
@@ -107,14 +100,12 @@ surface_short k surface = short_by (k == 1) surface.bits
 
 plain_by : (r : Rights) (frame : JobFrame) (k : ℕ) (surface : Surface) (base : ℕ) (found : Option Style) → surface_style k surface ≡ found → is_some found ≡ true
     → IfSome found (λ s. IsShort s.cpp) → MayWrite r base (styled_size frame found) → IsPlainAt r frame k surface base
-plain_by r frame k surface base None is some short writes = cc
-plain_by r frame k surface base (Some style) is some short writes = record { style = style; is = is; short = short; writes = writes }
+plain_by r frame k surface base found is some short writes = search (rules, arith)
 
 plain_at : (r : Rights) (frame : JobFrame) (k : ℕ) (surface : Surface) (table : TableModel) (handles : List ℕ) (place base : ℕ)
     → IsRoom r place (buffer_size table handles surface) → place + surface.offset ≡ base
     → IsChecked frame k surface table handles → is_full k surface ≡ false → IsPlainAt r frame k surface base
-plain_at r frame k surface table handles place base room is listed plain =
-    search (arith, plain_inside, plain_by, some_style, listed_tiling, listed_pixel, surface_short)
+plain_at r frame k surface table handles place base room is listed plain = search (rules, arith, plain_inside, plain_by, some_style, listed_tiling, listed_pixel, surface_short)
 
 full_at : (r : Rights) (frame : JobFrame) (k : ℕ) (surface : Surface) (table : TableModel) (handles : List ℕ) (place base : ℕ)
     → IsRoom r place (buffer_size table handles surface) → place + surface.offset ≡ base

@@ -1,5 +1,5 @@
 -- What the rights of a job have, and what no job may write.
-use Rattle.std.proofs.Common.{◌≡◌, ◌⊎◌, inl, inr, ℕ, ◌+◌, ◌*◌, ◌%◌, ◌<◌, ◌≤◌, ◌++◌, Some, length, refl, sym, ap, subst, arith, ◌∙◌}
+use Rattle.std.proofs.Common.{◌≡◌, ◌⊎◌, inl, inr, ℕ, ◌+◌, ◌*◌, ◌%◌, ◌<◌, ◌≤◌, ◌++◌, Some, length, refl, sym, ap, subst, arith, ◌∙◌, rules}
 use Rattle.std.proofs.lemmas.{Bool.cases_lt, Bool.Decides.nat_tests, Grind.common_steps}
 use Rattle.field_words.specs.Sizes.{page_size, slot_size}
 use Rattle.buffer_table.specs.declared.buffer.Kind.TheVariants.{Plain, Code}
@@ -55,8 +55,7 @@ code_there f j handle number named =
 
 -- A byte that is neither in the tile slot nor in a Plain buffer is no job's to write.
 not_clear : (p place n : ℕ) → IsClear p place n → place ≤ p → p + 1 ≤ place + n → ⊥
-not_clear p place n (inl before) from upto = omega (arith, before, from)
-not_clear p place n (inr behind) from upto = omega (arith, behind, upto)
+not_clear p place n h3 from upto = search (rules, arith)
 
 plain_clear : (f : FileModel) (j p : ℕ) → ((number : ℕ) → number < length f.buffers → (buffer_at f.buffers number).kind ≡ Plain → IsClear p (buffer_at f.buffers number).place (buffer_at f.buffers number).size)
     → LiesInOne (plain_of f j) p 1 → ⊥
@@ -66,8 +65,7 @@ not_written : (f : FileModel) (j p : ℕ) → IsClear p (slot_of f j) slot_size
     → ((number : ℕ) → number < length f.buffers → (buffer_at f.buffers number).kind ≡ Plain → IsClear p (buffer_at f.buffers number).place (buffer_at f.buffers number).size)
     → Inside (job_rights f j).writable p 1 → ⊥
 unfolding slot_in
-not_written f j p slot clear (inl lies) = not_clear p (slot_of f j) slot_size slot lies.from lies.upto
-not_written f j p slot clear (inr inside) = plain_clear f j p clear (in_one (plain_of f j) p 1 inside)
+not_written f j p slot clear h5 = search (rules, arith, not_clear, plain_clear, in_one)
 
 -- It is no byte of any job's slot, and of no Plain buffer of the file, whoever names it.
 outside_all : (f : FileModel) (p : ℕ) → OfEachJob f (λ j. IsClear p (slot_of f j) slot_size)
@@ -77,18 +75,15 @@ outside_all f p slots clear j written = search (arith, cases_lt, not_written, ri
 
 -- A byte of an interval that is apart from another is clear of it.
 clear_in : (place size q n i : ℕ) → (q + n ≤ place) ⊎ (place + size ≤ q) → i < size → IsClear (place + i) q n
-clear_in place size q n i (inl before) below = inr (omega (arith, before))
-clear_in place size q n i (inr behind) below = inl (omega (arith, behind, below))
+clear_in place size q n i h5 below = search (rules, arith)
 
 turned : (p n q m : ℕ) → (p + n ≤ q) ⊎ (q + m ≤ p) → (q + m ≤ p) ⊎ (p + n ≤ q)
-turned p n q m (inl before) = inr before
-turned p n q m (inr behind) = inl behind
+turned p n q m h4 = search (rules, arith)
 
 -- The slots of all jobs lie in the tile region.
 pub slot_apart : (f : FileModel) (j k place size : ℕ) → Settled f j → k < length f.jobs → (f.regions.tile_place + slot_size * f.regions.tile_slots ≤ place) ⊎ (place + size ≤ f.regions.tile_place)
     → (slot_of f k + slot_size ≤ place) ⊎ (place + size ≤ slot_of f k)
-slot_apart f j k place size s there (inl before) = let slot = slot_inside f k s.well_formed s.sound there in inl (omega (arith, before, slot.upto))
-slot_apart f j k place size s there (inr behind) = let slot = slot_inside f k s.well_formed s.sound there in inr (omega (arith, behind, slot.from))
+slot_apart f j k place size s there h7 = search (rules, arith, slot_inside)
 
 other_kind : (f : FileModel) (one other : ℕ) → (buffer_at f.buffers one).kind ≡ Code → (buffer_at f.buffers other).kind ≡ Plain → one ≡ other → ⊥
 other_kind f one other code plain same = cc
@@ -109,17 +104,11 @@ two_apart f j s one other inside there differ =
 
 code_outside : (f : FileModel) (j : ℕ) → Settled f j → (number : ℕ) → number < length f.buffers → (buffer_at f.buffers number).kind ≡ Code
     → IsFixed (file_rights f) (buffer_at f.buffers number).place (buffer_at f.buffers number).size
-code_outside f j s number inside code = λ i below.
-    outside_all f ((buffer_at f.buffers number).place + i)
-    (λ k job. clear_in (buffer_at f.buffers number).place (buffer_at f.buffers number).size (slot_of f k) slot_size i
-    (slot_apart f j k (buffer_at f.buffers number).place (buffer_at f.buffers number).size s job (tiles_apart f.mem_size f.regions f.buffers s.sound number inside)) below)
-    (λ other there plain. clear_in (buffer_at f.buffers number).place (buffer_at f.buffers number).size (buffer_at f.buffers other).place (buffer_at f.buffers other).size i
-    (two_apart f j s number other inside there (other_kind f number other code plain)) below)
+code_outside f j s number inside code = search (rules, arith, outside_all, clear_in, slot_apart, tiles_apart, two_apart, other_kind)
 
 -- The lists' region is no job's to write.
 region_clear : (place size q n p : ℕ) → (place + size ≤ q) ⊎ (q + n ≤ place) → place ≤ p → p < place + size → IsClear p q n
-region_clear place size q n p (inl before) from upto = inl (omega (arith, before, upto))
-region_clear place size q n p (inr behind) from upto = inr (omega (arith, behind, from))
+region_clear place size q n p h5 from upto = search (rules, arith)
 
 region_outside : (f : FileModel) (j : ℕ) → Settled f j → (p : ℕ) → f.regions.lists_place ≤ p → p < region_end f.regions → IsOutside (file_rights f) p
 region_outside f j s p from upto = search (arith, outside_all, region_clear, turned, slot_apart, regions_apart, lists_apart)
@@ -131,14 +120,7 @@ pub record IsInLists (f : FileModel) (j place size : ℕ) : Type 0 where
 
 lies_by : (f : FileModel) (j offset n place size : ℕ) → ListsEnd f j → f.regions.lists_place ≤ (layout_of f j).place → offset + n ≤ (layout_of f j).end
     → interval ((layout_of f j).place + offset) n ≡ interval place size → IsInLists f j place size
-lies_by f j offset n place size ends at upto is =
-    let place_is : (layout_of f j).place + offset ≡ place = ap (λ i. i.place) is in
-    let size_is : n ≡ size = ap (λ i. i.size) is in
-    record {
-      from = omega (arith, place_is, at);
-      within = omega (arith, place_is, size_is, upto);
-      upto = omega (arith, place_is, size_is, at, upto, ends.region);
-    }
+lies_by f j offset n place size ends at upto is = search (rules, arith)
 
 -- each of the four lists lies in that region
 pub four_lie : (f : FileModel) (j : ℕ) → ListsEnd f j → (place size : ℕ) → IsOneOf (lists_of f j) place size → IsInLists f j place size

@@ -1,5 +1,5 @@
 -- The memory that a settled file is emitted as holds its contents and its lists.
-use Rattle.std.proofs.Common.{◌≡◌, ◌⊎◌, inl, inr, ℕ, zero, suc, ◌+◌, ◌<◌, ◌≤◌, Bool, true, false, List, [], ◌∷◌, ◌++◌, None, length, slice_index, refl, sym, ap, subst, arith, ◌∙◌}
+use Rattle.std.proofs.Common.{◌≡◌, ◌⊎◌, inl, inr, ℕ, zero, suc, ◌+◌, ◌<◌, ◌≤◌, Bool, true, false, List, [], ◌∷◌, ◌++◌, None, length, slice_index, refl, sym, ap, subst, arith, ◌∙◌, rules}
 use Rattle.std.proofs.lemmas.{Bool.cases_lt, List.append_assoc, Grind.common_steps, Bool.Decides.nat_tests}
 use Rattle.std.specs.List.{AllByRecursion}
 use Rattle.field_words.specs.{Questions.first_of, Words.IsBytes, Writes.Part, Writes.placed, Writes.zeros}
@@ -34,32 +34,20 @@ unfolding bin_list_of
 bin_is f j some = rw some refl
 
 bin_by : (f : FileModel) (j : ℕ) (b : Bool) → has_bin f j ≡ b → Settled f j → length (bin_list_of f j) ≤ length (job_of f j).bin
-bin_by f j true some s = grind (arith, common_steps, nat_tests, bin_is, list_within, rules_of_list)
-bin_by f j false none s = omega (arith, ap length (no_bin_list f j none))
+bin_by f j b some s = search (rules, arith, bin_is, list_within, rules_of_list, no_bin_list)
 
 records_by : (f : FileModel) (j : ℕ) (b : Bool) → has_bin f j ≡ b → Settled f j → length (records_of f j) ≤ length (job_of f j).records
-records_by f j true some s = records_within f j some (s.records some)
-records_by f j false none s = omega (arith, ap length (no_records f j none))
+records_by f j b some s = search (rules, arith, records_within, no_records)
 
 streams_by : (f : FileModel) (j : ℕ) (b : Bool) → has_bin f j ≡ b → Settled f j → length (streams_of f j) ≤ length (job_of f j).uniforms
-streams_by f j true some s = streams_within f j some (s.records some)
-streams_by f j false none s = omega (arith, ap length (no_streams f j none))
+streams_by f j b some s = search (rules, arith, streams_within, no_streams)
 
 pub lists_end : (f : FileModel) (j : ℕ) → Settled f j → ListsEnd f j
-lists_end f j s =
-    let apart = layout_apart f j in
-    record {
-      bin = omega (arith, apart.first, bin_by f j (has_bin f j) refl s);
-      records = omega (arith, apart.second, records_by f j (has_bin f j) refl s);
-      uniforms = omega (arith, apart.third, streams_by f j (has_bin f j) refl s);
-      render = omega (arith, list_length f j (places_in f j) refl (frame_setup f j s));
-      region = s.lists;
-    }
+lists_end f j s = search (rules, arith, layout_apart, bin_by, records_by, streams_by, list_length, frame_setup)
 
 -- They are bytes.
 bin_bytes : (f : FileModel) (j : ℕ) (b : Bool) → has_bin f j ≡ b → Settled f j → IsBytes (bin_list_of f j)
-bin_bytes f j true some s = search (arith, bin_is, bytes_texts, bytes_passed)
-bin_bytes f j false none s = subst IsBytes (sym (no_bin_list f j none)) bytes_none
+bin_bytes f j b some s = search (rules, arith, bin_is, bytes_texts, bytes_passed, no_bin_list, bytes_none)
 
 records_bytes : (f : FileModel) (j : ℕ) (b : Bool) → has_bin f j ≡ b → IsBytes (records_of f j)
 records_bytes f j true some = subst IsBytes (records_are f j some) (bytes_records (input_for f j) (streams_place (layout_of f j)) (length (input_for f j).states))
@@ -114,15 +102,7 @@ pub contents_in : (f : FileModel) (j : ℕ) → Settled f j → PartsFit f.mem_s
 contents_in f j s = contents_parts_fit f.mem_size f.buffers f.contents (contents_fit f s.sound s.well_formed.contents)
 
 four_in : (f : FileModel) (j : ℕ) → Settled f j → PartsFit f.mem_size (four_parts f j)
-four_in f j s =
-    let ends = lists_end f j s in
-    let last : (layout_of f j).place + (layout_of f j).end ≤ f.mem_size = omega (arith, ends.region, lists_inside f s.sound) in
-    let render : (layout_of f j).render ≤ (layout_of f j).end = omega (arith, ends.render) in
-    let uniforms : (layout_of f j).uniforms ≤ (layout_of f j).render = omega (arith, ends.uniforms) in
-    let records : (layout_of f j).records ≤ (layout_of f j).uniforms = omega (arith, ends.records) in (
-      omega (arith, ends.bin, records, uniforms, render, last),
-      (omega (arith, ends.records, uniforms, render, last), (omega (arith, ends.uniforms, render, last), (omega (arith, ends.render, last), tt))),
-    )
+four_in f j s = search (rules, arith, lists_end, lists_inside)
 
 pub all_in : (f : FileModel) → AreSettled f → PartsFit f.mem_size (all_parts f)
 unfolding all_parts
@@ -161,9 +141,7 @@ record Split (f : FileModel) (j n : ℕ) : Type 0 where
   misses : (q : ℕ) → q < (layout_of f j).place + (layout_of f j).end → Misses q rest
 
 later_miss : (f : FileModel) (j k q : ℕ) → j < k → q < (layout_of f j).place + (layout_of f j).end → Misses q (four_parts f k)
-later_miss f j k q before below =
-    let apart = jobs_apart f j k before in
-    (inl (omega (arith, below, apart)), (inl (omega (arith, below, apart)), (inl (omega (arith, below, apart)), (inl (omega (arith, below, apart)), tt))))
+later_miss f j k q before below = search (rules, arith, jobs_apart)
 
 split : (f : FileModel) (j n : ℕ) → j < n → Split f j n
 unfolding jobs_parts memory_parts list_parts later_parts
@@ -230,8 +208,7 @@ lists_stand f j s all =
 -- The contents of a buffer stand: buffers are apart from each other and from the lists.
 -- a byte of one of two that are apart is clear of a front of the other
 pub clear_of : (p n q size i : ℕ) → (p + n ≤ q) ⊎ (q + size ≤ p) → (m : ℕ) → m ≤ size → i < n → IsClear (p + i) q m
-clear_of p n q size i (inl before) m front below = inl (omega (arith, before, below))
-clear_of p n q size i (inr behind) m front below = inr (omega (arith, behind, front))
+clear_of p n q size i h5 m front below = search (rules, arith)
 
 clear_later : (f : FileModel) (j : ℕ) → Settled f j → (number i : ℕ) → number < length f.buffers → i < (buffer_at f.buffers number).size
     → (k : ℕ) → number < k → k < length f.buffers → IsClear ((buffer_at f.buffers number).place + i) (buffer_at f.buffers k).place (length (content_of f k))

@@ -1,5 +1,5 @@
 -- The homes of a record's three programs.
-use Rattle.std.proofs.Common.{◌≡◌, ◌≤◌, ◌<◌, ℕ, ◌+◌, ◌*◌, ◌/◌, List, length, slice_index, Some, refl, sym, arith, inl, inr, ◌∙◌}
+use Rattle.std.proofs.Common.{◌≡◌, ◌≤◌, ◌<◌, ℕ, ◌+◌, ◌*◌, List, length, slice_index, Some, refl, sym, arith, inl, inr, ◌∙◌, rules}
 use Rattle.std.proofs.lemmas.{List.FromFn.get_or-map-range_with_len, Grind.common_steps, Bool.Decides.nat_tests}
 use Rattle.field_words.specs.Words.{u32_at, u64_at}
 use Rattle.buffer_table.specs.{declared.buffer.Kind.TheVariants.Code, Table.buffer_at, Table.most_place, Handles.code_of}
@@ -49,15 +49,7 @@ record IsCodeLow (f : FileModel) (number : ℕ) : Type 0 where
   upto : (buffer_at f.buffers number).place + (buffer_at f.buffers number).size ≤ most_place
 
 code_low : (f : FileModel) (j number : ℕ) → Settled f j → number < length f.buffers → (buffer_at f.buffers number).kind ≡ Code → IsCodeLow f number
-code_low f j number settled below code =
-    let long = length_words (content_of f number) (length (content_of f number) / 8) in
-    let buffer = buffer_inside f number settled.sound below in
-    record {
-      words = omega (arith, long);
-      few = omega (arith, long, shader_short f number settled.well_formed below code);
-      inside = omega (arith, content_long f number settled.well_formed below, buffer.1);
-      upto = omega (arith, buffer.0, settled.sound.limit);
-    }
+code_low f j number settled below code = search (rules, arith, length_words, buffer_inside, shader_short, content_long)
 
 -- word i is the number of its eight bytes
 word_is : (content : List ℕ) (i : ℕ) → i < length (words_of content) → u64_at content (8 * i) ≡ word (words_of content) i
@@ -66,15 +58,7 @@ word_is content i below = grind (arith, common_steps, nat_tests, length_words, g
 
 -- Where data have one name they have another, in a stream's samples.
 other_sample : (A B : ℕ → ℕ → Type 0) → ((place size : ℕ) → A place size → B place size) → (shader : ShaderModel) (words : ℕ → ℕ) (i : ℕ) → IsSampleIn A words (sample_at shader i) → IsSampleIn B words (sample_at shader i)
-other_sample A B names shader words i is = record {
-  place = is.place;
-  size = is.size;
-  source = is.source;
-  named = names is.place is.size is.named;
-  base = is.base;
-  texture = is.texture;
-  direct = is.direct;
-}
+other_sample A B names shader words i is = search (rules, arith)
 
 other_stream : (A B : ℕ → ℕ → Type 0) → ((place size : ℕ) → A place size → B place size) → (shader : ShaderModel) (stream : ℕ) (words : ℕ → ℕ) → IsStream A shader stream words → IsStream B shader stream words
 other_stream A B names shader stream words is = record { addresses = is.addresses; samples = λ i below. other_sample A B names shader words i (is.samples i below) }
@@ -126,13 +110,7 @@ home_stands f j m handle number stream grounds started =
 -- its samples are fine
 home_samples : (f : FileModel) (j : ℕ) (m : List ℕ) (handle number stream : ℕ) → Grounds f j m → IsStarted f j m handle number stream → HasSamples (plain_of f j) (home_of f m number stream)
 unfolding home_of
-home_samples f j m handle number stream grounds started =
-    record {
-      samples = (stream_serves f j m handle number stream grounds started).samples;
-      page = grounds.data_page;
-      low = λ place size one. let low = grounds.data_low place size one in omega (arith, low);
-      words = λ k. words_fit m stream (uniforms_of (words_of (content_of f number))) k grounds.holds.bytes;
-    }
+home_samples f j m handle number stream grounds started = search (rules, arith, stream_serves, words_fit)
 
 pub home_begins : (f : FileModel) (j : ℕ) (m : List ℕ) (handle number stream : ℕ) → Grounds f j m → IsStarted f j m handle number stream → HomeBegins (file_rights f) (plain_of f) m j (home_of f m number stream) (plain_of f j)
 unfolding home_of

@@ -1,13 +1,13 @@
 -- Intervals of lists, and those of the buffers that handles name. So the rights of a job are no more than what it holds.
-use Rattle.std.proofs.Common.{◌≡◌, ◌⊎◌, inl, inr, ℕ, zero, suc, ◌<◌, List, [], ◌∷◌, ◌++◌, Option, Some, None, refl, sym, ap, subst, arith, ◌∙◌, length}
+use Rattle.std.proofs.Common.{◌≡◌, ◌⊎◌, inl, inr, ℕ, zero, suc, ◌<◌, List, [], ◌∷◌, ◌++◌, Option, Some, refl, sym, ap, arith, ◌∙◌, rules}
 use Rattle.std.proofs.lemmas.Bool.{cases_lt}
-use Rattle.buffer_table.specs.{declared.buffer.Buffer.Buffer, Table.buffer_at, Handles.data_of, Handles.code_of}
+use Rattle.buffer_table.specs.{declared.buffer.Buffer.Buffer, Table.buffer_at}
 use Rattle.machine_plan.specs.Regions.{Interval}
 use Rattle.qpu_law.specs.Asks.{IsOneOf}
 use Rattle.shader_records.specs.Named.{IsDataIn}
 use Rattle.job_format.specs.Model.{FileModel}
 use Rattle.job_check.specs.{Jobs.job_of, Shaders.table_of}
-use Rattle.accepted_law.specs.Holdings.{buffer_interval, interval_where, named_buffers, plain_of, codes_of, lists_of, slot_in}
+use Rattle.accepted_law.specs.Holdings.{interval_where, named_buffers, plain_of, codes_of, lists_of, slot_in}
 use Rattle.accepted_law.specs.Held.{IsSlot, IsNamedCode, IsToWrite, IsToReach, RightsAreHeld}
 use Rattle.accepted_law.proofs.ByJob.{rights_are}
 
@@ -24,14 +24,12 @@ one_right (first ∷ front) rest place size one = inr (one_right front rest plac
 pub both_lists : (front rest : List Interval) (place size : ℕ) → IsOneOf (front ++ rest) place size → IsOneOf front place size ⊎ IsOneOf rest place size
 both_lists [] rest place size one = inr one
 both_lists (first ∷ front) rest place size (inl is) = inl (inl is)
-both_lists (first ∷ front) rest place size (inr other) =
-    elim (both_lists front rest place size other) [ inl here ↦ inl (inr here) | inr there ↦ inr there ]
+both_lists (first ∷ front) rest place size (inr other) = search (rules, arith, both_lists front rest place size other)
 
 -- The buffer that a handle names is among those of all handles, and each of those is named by one.
 where_some : (buffers : List Buffer) (found : Option ℕ) (number : ℕ) → found ≡ Some number
     → IsOneOf (interval_where buffers found) (buffer_at buffers number).place (buffer_at buffers number).size
-where_some buffers None number is = absurd (cc)
-where_some buffers (Some n) number is = inl (ap (buffer_interval buffers) cc)
+where_some buffers found number is = search (rules, arith)
 
 pub named_there : (names : ℕ → Option ℕ) (buffers : List Buffer) (n handle number : ℕ) → handle < n → names handle ≡ Some number
     → IsOneOf (named_buffers names buffers n) (buffer_at buffers number).place (buffer_at buffers number).size
@@ -57,10 +55,7 @@ pub record IsNamedBy (names : ℕ → Option ℕ) (buffers : List Buffer) (place
 
 where_named : (names : ℕ → Option ℕ) (buffers : List Buffer) (handle : ℕ) (found : Option ℕ) (place size : ℕ) → names handle ≡ found
     → IsOneOf (interval_where buffers found) place size → IsNamedBy names buffers place size
-where_named names buffers handle None place size is one = absurd one
-where_named names buffers handle (Some number) place size is (inl same) =
-    record { handle = handle; number = number; named = is; place_is = sym (ap (λ i. i.place) same); size_is = sym (ap (λ i. i.size) same) }
-where_named names buffers handle (Some number) place size is (inr none) = absurd none
+where_named names buffers handle found place size is one = search (rules, arith)
 
 pub named_by : (names : ℕ → Option ℕ) (buffers : List Buffer) (n place size : ℕ) → IsOneOf (named_buffers names buffers n) place size → IsNamedBy names buffers place size
 unfolding named_buffers
@@ -73,15 +68,11 @@ named_by names buffers (suc n) place size one =
 
 plain_held : (f : FileModel) (j place size : ℕ) → IsOneOf (plain_of f j) place size → IsDataIn (table_of f) (job_of f j).handles place size
 unfolding plain_of
-plain_held f j place size one =
-    let by = named_by (data_of (table_of f) (job_of f j).handles) f.buffers (length (job_of f j).handles) place size one in
-    record { handle = by.handle; number = by.number; named = by.named; place_is = by.place_is; size_is = by.size_is }
+plain_held f j place size one = search (rules, arith, named_by)
 
 pub code_held : (f : FileModel) (j place size : ℕ) → IsOneOf (codes_of f j) place size → IsNamedCode f j place size
 unfolding codes_of
-code_held f j place size one =
-    let by = named_by (code_of (table_of f) (job_of f j).handles) f.buffers (length (job_of f j).handles) place size one in
-    record { handle = by.handle; number = by.number; named = by.named; place_is = by.place_is; size_is = by.size_is }
+code_held f j place size one = search (rules, arith, named_by)
 
 slot_held : (f : FileModel) (j place size : ℕ) → slot_in f j ≡ record { place = place; size = size } → IsSlot f j place size
 unfolding slot_in
@@ -92,19 +83,14 @@ written f j place size (inl slot) = inl (slot_held f j place size slot)
 written f j place size (inr plain) = inr (plain_held f j place size plain)
 
 listed : (f : FileModel) (j place size : ℕ) → IsOneOf (lists_of f j) place size ⊎ IsOneOf (codes_of f j) place size → IsToReach f j place size
-listed f j place size (inl list) = inr (inl list)
-listed f j place size (inr code) = inr (inr (code_held f j place size code))
+listed f j place size h4 = search (rules, arith, code_held)
 
 behind : (f : FileModel) (j place size : ℕ) → IsOneOf (plain_of f j) place size ⊎ IsOneOf (lists_of f j ++ codes_of f j) place size → IsToReach f j place size
-behind f j place size (inl plain) = inl (inr (plain_held f j place size plain))
-behind f j place size (inr others) = listed f j place size (both_lists (lists_of f j) (codes_of f j) place size others)
+behind f j place size h4 = search (rules, arith, plain_held, listed, both_lists)
 
 reached : (f : FileModel) (j place size : ℕ) → IsOneOf (slot_in f j ∷ (plain_of f j ++ (lists_of f j ++ codes_of f j))) place size → IsToReach f j place size
 reached f j place size (inl slot) = inl (inl (slot_held f j place size slot))
 reached f j place size (inr others) = behind f j place size (both_lists (plain_of f j) (lists_of f j ++ codes_of f j) place size others)
 
 pub rights_are_held_law : RightsAreHeld
-rights_are_held_law f j inside = record {
-  region = λ place size one. reached f j place size (subst (λ r. IsOneOf r.region place size) (rights_are f j inside) one);
-  writable = λ place size one. written f j place size (subst (λ r. IsOneOf r.writable place size) (rights_are f j inside) one);
-}
+rights_are_held_law f j inside = search (rules, arith, reached, rights_are, written)

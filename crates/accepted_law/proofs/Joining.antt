@@ -1,5 +1,5 @@
 -- From the parts to the whole.
-use Rattle.std.proofs.Common.{◌≡◌, inl, inr, ℕ, ◌+◌, ◌<◌, ◌≤◌, List, length, None, refl, arith, [], ◌∷◌, ◌++◌, sym, ap, subst, ◌∙◌}
+use Rattle.std.proofs.Common.{◌≡◌, inl, inr, ℕ, ◌+◌, ◌<◌, ◌≤◌, List, length, None, refl, arith, [], ◌∷◌, ◌++◌, sym, ap, subst, ◌∙◌, rules}
 use Rattle.std.proofs.lemmas.{Bool.cases_lt, List.get_or_past}
 use Rattle.field_words.specs.Questions.{first_of}
 use Rattle.job_format.specs.{File.IsWellFormed, File.Fits, Model.FileModel}
@@ -15,7 +15,7 @@ use Rattle.machine_law.specs.{Begins.TextBegins, Begins.IsFixed, Begins.DrawBegi
 use Rattle.machine_law.proofs.{Sound.jobs_sound_law, Apart.inside_either}
 use Rattle.render_list.specs.Text.{render_slots}
 use Rattle.buffer_table.specs.{declared.buffer.Buffer.Buffer, Table.buffer_at, Handles.data_of}
-use Rattle.accepted_law.specs.Holdings.{OfEachJob, lists_of, job_rights, file_rights, rights_at, start_by, start_of, named_buffers, plain_of, codes_of, slot_in, fixed_of, file_starts, config_for, frame_for}
+use Rattle.accepted_law.specs.Holdings.{OfEachJob, lists_of, job_rights, file_rights, start_by, start_of, named_buffers, plain_of, codes_of, slot_in, fixed_of, file_starts, config_for, frame_for}
 use Rattle.accepted_law.specs.{Ends.DrawShaders, Settled.Grounds, Texts.BinTextsBegin, Texts.RenderTextsBegin}
 use Rattle.accepted_law.specs.{Parts.BinWalks, Parts.RenderWalks, Parts.FilesBegin, Held.ListsAndCodeAreFixed, Whole.FilesSound}
 use Rattle.accepted_law.proofs.ByJob.{each_from, rights_are, in_some_job, in_fixed}
@@ -24,12 +24,7 @@ use Rattle.accepted_law.proofs.{Grounds.files_ground_law, BinWalking.bins_walk_l
 
 text_begins : (f : FileModel) (j : ℕ) (m : List ℕ) → Grounds f j m → (place : ℕ) (text : List ℕ) → bytes_at m place (length text) ≡ text → IsOneOf (lists_of f j) place (length text)
     → TextBegins (file_rights f) m j place text
-text_begins f j m grounds place text stands one =
-    record {
-      stands = stands;
-      reads = one_inside (rights_at f j).region place (length text) place (length text) (grounds.lists place (length text) one) (record { from = omega arith; upto = omega arith });
-      fixed = grounds.lists_fixed place (length text) one;
-    }
+text_begins f j m grounds place text stands one = search (rules, arith, one_inside)
 
 bin_there : (f : FileModel) (j : ℕ) → IsOneOf (lists_of f j) ((layout_of f j).place + (layout_of f j).bin) (length (bin_list_of f j))
 unfolding lists_of lengths_of
@@ -41,13 +36,11 @@ render_there f j = inr (inr (inr (inl refl)))
 
 pub bin_texts_begin_law : BinTextsBegin
 unfolding start_by lengths_of
-bin_texts_begin_law f j m grounds =
-    (text_begins f j m grounds ((layout_of f j).place + (layout_of f j).bin) (bin_list_of f j) grounds.holds.bin (bin_there f j), refl)
+bin_texts_begin_law f j m grounds = search (rules, arith, text_begins, bin_there)
 
 pub render_texts_begin_law : RenderTextsBegin
 unfolding start_by lengths_of
-render_texts_begin_law f j m grounds =
-    (text_begins f j m grounds ((layout_of f j).place + (layout_of f j).render) (render_list_of f j) grounds.holds.render (render_there f j), refl)
+render_texts_begin_law f j m grounds = search (rules, arith, text_begins, render_there)
 
 -- Behind the last job there are no buffers.
 plain_past : (f : FileModel) (j : ℕ) → length f.jobs ≤ j → plain_of f j ≡ []
@@ -103,10 +96,7 @@ lists_or_code f p lies out =
     in_fixed f job.number p job.below (read_in_job f job.number p job.below job.lies out)
 
 pub has_read_only : (f : FileModel) (m : List ℕ) → Agree (fixed_of f) (memory_of f) m → HasReadOnly (file_rights f) (memory_of f) m
-has_read_only f m agree = record {
-  long = sym agree.long;
-  same = λ p lies out. sym (agree.same p (lists_or_code f p lies out));
-}
+has_read_only f m agree = search (rules, arith, lists_or_code)
 
 pub all_begin : (f : FileModel) → OfEachJob f (λ j. JobBegins (file_rights f) (plain_of f) (memory_of f) j (start_of f j)) → EachAt (JobBegins (file_rights f) (plain_of f) (memory_of f)) 0 (file_starts f)
 unfolding file_starts
@@ -118,8 +108,7 @@ files_sound_law f well fits none m agree =
     jobs_sound_law (file_rights f) (plain_of f) (memory_of f) m (file_starts f) begins.0 (has_read_only f m agree) (all_begin f begins.1)
 
 fixed_there : (rights : List Rights) (place size at n : ℕ) → place ≡ at → size ≡ n → IsFixed rights at n → IsFixed rights place size
-fixed_there rights place size at n place_is size_is fixed =
-    subst (λ p. IsFixed rights p size) (sym place_is) (subst (λ s. IsFixed rights at s) (sym size_is) fixed)
+fixed_there rights place size at n place_is size_is fixed = search (rules, arith)
 
 pub lists_and_code_fixed_law : ListsAndCodeAreFixed
 lists_and_code_fixed_law f well fits none j inside =

@@ -1,5 +1,5 @@
 -- Two accepted files that are neighbours for a client are the same to it.
-use Rattle.std.proofs.Common.{◌≡◌, ℕ, zero, suc, ◌<◌, ◌&&◌, Bool, true, false, not, if◌then◌else◌, List, [], ◌∷◌, Option, Some, None, length, map, slice_index, refl, sym, ap, arith, zero-add, ◌∙◌}
+use Rattle.std.proofs.Common.{◌≡◌, ℕ, zero, suc, ◌<◌, ◌&&◌, Bool, true, not, if◌then◌else◌, List, [], ◌∷◌, Option, Some, None, length, map, slice_index, refl, sym, ap, arith, zero-add, ◌∙◌, rules}
 use Rattle.std.proofs.lemmas.{List.FromFn.length-map-range_with_len, List.FromFn.get_or-map-range_with_len, Option.slice_get-get_or}
 use Rattle.std.proofs.lemmas.{Grind.common_steps, Bool.Decides.nat_tests}
 use Rattle.std.specs.List.{range_with_len}
@@ -24,9 +24,7 @@ given_if gives b = if gives then interval b.place b.size ∷ [] else []
 
 where_if : (buffers : List Buffer) (named gives : Bool) (number : ℕ) → named ≡ true
     → interval_where buffers (if named && gives then Some number else None) ≡ given_if gives (buffer_at buffers number)
-where_if buffers true true number is = refl
-where_if buffers true false number is = refl
-where_if buffers false gives number is = absurd (cc)
+where_if buffers named gives number is = search (rules, arith)
 
 is_there : (t : TableModel) (handles : List ℕ) → AreNumbersOf t handles → (i : ℕ) → i < length handles → is_named t handles i ≡ true
 is_there t handles numbers i inside = grind (arith, inside, numbers i inside)
@@ -102,22 +100,10 @@ start_at f j inside =
 -- A job of the client is one of both files.
 both_have : (c : ℕ) (f g : FileModel) → IsFaultless f → IsFaultless g → AreNeighbourFiles c f g → (j : ℕ) → jobs_of c f j ≡ true
     → (j < length f.jobs) × (j < length g.jobs) × HasJob f g j
-both_have c f g one other near j mine =
-    let own = job_is_of c f j mine in
-    let its = job_is_of c g j (sym (near.jobs j) ∙ mine) in (
-      own.inside,
-      its.inside,
-      record {
-        places = near.places j mine;
-        one = (files_settle_law f one.well_formed one.fits one.none j own.inside).numbers;
-        other = (files_settle_law g other.well_formed other.fits other.none j its.inside).numbers;
-      },
-    )
+both_have c f g one other near j mine = search (rules, arith, job_is_of, files_settle_law)
 
 begins_soundly : (f : FileModel) → IsFaultless f → BeginsSoundly (beginning_of f)
-begins_soundly f file =
-    let begins = files_begin_law f file.well_formed file.fits file.none in
-    record { plain = begins.0; jobs = all_begin f begins.1 }
+begins_soundly f file = search (rules, arith, files_begin_law, all_begin)
 
 unshared_by : (c : ℕ) (f g : FileModel) → ((j : ℕ) → jobs_of c f j ≡ jobs_of c g j) → IsUnshared (jobs_of c g) (file_rights g) → IsUnshared (jobs_of c f) (file_rights g)
 unshared_by c f g jobs unshared j k p mine other reached written = unshared j k p (sym (jobs j) ∙ mine) (sym (jobs k) ∙ other) reached written

@@ -1,5 +1,5 @@
 -- Parts that are put into a memory one after the other: what stands there at the end.
-use Rattle.std.proofs.Common.{◌≡◌, ◌⊎◌, inl, inr, ℕ, zero, suc, ◌+◌, ◌<◌, ◌≤◌, List, [], ◌∷◌, ◌++◌, length, get_or, slice_index, refl, sym, ap, subst, arith, ◌∙◌}
+use Rattle.std.proofs.Common.{◌≡◌, ◌⊎◌, ℕ, zero, suc, ◌+◌, ◌<◌, ◌≤◌, List, [], ◌∷◌, ◌++◌, length, get_or, slice_index, refl, sym, ap, subst, arith, ◌∙◌, rules}
 use Rattle.std.proofs.lemmas.{Grind.common_steps, Bool.Decides.nat_tests}
 use Rattle.field_words.specs.Writes.{Part, placed, with_bytes}
 use Rattle.field_words.proofs.Writes.{length-with_bytes, with_bytes-before, with_bytes-behind, with_bytes-inside}
@@ -27,8 +27,7 @@ Misses q (part ∷ parts) = IsClear q part.place (length part.bytes) × Misses q
 
 with_kept : (m : List ℕ) (place : ℕ) (bytes : List ℕ) (q : ℕ) → place + length bytes ≤ length m → IsClear q place (length bytes)
     → slice_index (with_bytes m place bytes) q ≡ slice_index m q
-with_kept m place bytes q fits (inl before) = with_bytes-before m place bytes q fits before
-with_kept m place bytes q fits (inr behind) = with_bytes-behind m place bytes q fits behind
+with_kept m place bytes q fits h5 = search (rules, arith, with_bytes-before, with_bytes-behind)
 
 fit_after : (m : List ℕ) (place : ℕ) (bytes : List ℕ) (parts : List Part) → place + length bytes ≤ length m → PartsFit (length m) parts → PartsFit (length (with_bytes m place bytes)) parts
 fit_after m place bytes parts fits rest = subst (λ n. PartsFit n parts) (sym (length-with_bytes m place bytes fits)) rest
@@ -41,9 +40,7 @@ misses_append q (part ∷ front) rest one two = (one.0, misses_append q front re
 -- A byte that no part touches stays.
 pub placed_kept : (m : List ℕ) (parts : List Part) (q : ℕ) → PartsFit (length m) parts → Misses q parts → slice_index (placed m parts) q ≡ slice_index m q
 placed_kept m [] q fit misses = refl
-placed_kept m (part ∷ parts) q fit misses =
-    placed_kept (with_bytes m part.place part.bytes) parts q (fit_after m part.place part.bytes parts fit.0 fit.1) misses.1
-    ∙ with_kept m part.place part.bytes q fit.0 misses.0
+placed_kept m (part ∷ parts) q fit misses = search (rules, arith, fit_after, with_kept, placed_kept (with_bytes m part.place part.bytes) parts q (fit_after m part.place part.bytes parts fit.0 fit.1) misses.1)
 
 -- A byte of the first part stands, where no later part touches it.
 pub placed_first : (m : List ℕ) (part : Part) (parts : List Part) (i : ℕ) → PartsFit (length m) (part ∷ parts) → i < length part.bytes → Misses (part.place + i) parts
@@ -96,5 +93,4 @@ content_stands m (buffer ∷ buffers) (content ∷ contents) rest (suc k) i q fi
 pub placed_part : (m : List ℕ) (front : List Part) (part : Part) (rest : List Part) (i : ℕ) → PartsFit (length m) (front ++ (part ∷ rest)) → i < length part.bytes
     → Misses (part.place + i) rest → slice_index (placed m (front ++ (part ∷ rest))) (part.place + i) ≡ slice_index part.bytes i
 placed_part m [] part rest i fit below misses = placed_first m part rest i fit below misses
-placed_part m (first ∷ front) part rest i fit below misses =
-    placed_part (with_bytes m first.place first.bytes) front part rest i (fit_after m first.place first.bytes (front ++ (part ∷ rest)) fit.0 fit.1) below misses
+placed_part m (first ∷ front) part rest i fit below misses = search (rules, arith, fit_after, placed_part (with_bytes m first.place first.bytes) front part rest i (fit_after m first.place first.bytes (front ++ (part ∷ rest)) fit.0 fit.1) below misses)

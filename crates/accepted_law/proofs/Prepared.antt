@@ -1,5 +1,5 @@
 -- A memory that is prepared for the jobs of an accepted file has their lists and their code as the emitted one.
-use Rattle.std.proofs.Common.{◌≡◌, inl, inr, ℕ, zero, suc, ◌+◌, ◌-◌, ◌<◌, ◌≤◌, List, ◌++◌, length, slice_index, refl, sym, ap, arith, ◌∙◌}
+use Rattle.std.proofs.Common.{◌≡◌, inl, inr, ℕ, zero, suc, ◌+◌, ◌-◌, ◌<◌, ◌≤◌, List, ◌++◌, length, slice_index, refl, sym, ap, arith, ◌∙◌, rules}
 use Rattle.std.proofs.lemmas.{Bool.cases_lt, List.places, List.get_or_past, Grind.common_steps, Bool.Decides.nat_tests}
 use Rattle.field_words.proofs.Writes.{with_bytes-inside}
 use Rattle.phys_mem.specs.Window.{window_of}
@@ -45,13 +45,11 @@ region_long f all = grind (arith, common_steps, nat_tests, length_placed, zeros_
 last_end : (f : FileModel) (n j : ℕ) → j < n → f.regions.lists_place ≤ (layout_of f j).place + (layout_of f j).end
     → (layout_of f j).place + (layout_of f j).end ≤ f.regions.lists_place + region_size f n
 unfolding region_size
-last_end f zero j below from = absurd (omega (arith, below))
-last_end f (suc n) j below from = grind (arith, common_steps, nat_tests, cases_lt, jobs_apart)
+last_end f n j below from = search (rules, arith, cases_lt, jobs_apart)
 
 region_upto : (f : FileModel) → AreSettled f → (n : ℕ) → n ≤ length f.jobs → f.regions.lists_place ≤ region_end f.regions → f.regions.lists_place + region_size f n ≤ region_end f.regions
 unfolding region_size
-region_upto f all zero upto begins = omega (arith, begins)
-region_upto f all (suc n) upto begins = let ends = (all n (omega (arith, upto))).lists in omega (arith, ends, begins)
+region_upto f all n upto begins = search (rules, arith)
 
 -- It ends in the lists' region.
 pub region_within : (f : FileModel) → IsFaultless f → f.regions.lists_place + length (region_of f) ≤ region_end f.regions

@@ -1,5 +1,5 @@
 -- The renderer list of a file in which no rule stands walks: its places are a setup for its frame, and its numbers fit their fields.
-use Rattle.std.proofs.Common.{◌≡◌, ℕ, zero, suc, ◌+◌, ◌<◌, ◌≤◌, ◌^◌, Bool, true, false, if◌then◌else◌, List, Option, Some, None, refl, arith, lit<, inl}
+use Rattle.std.proofs.Common.{◌≡◌, ℕ, zero, suc, ◌+◌, ◌<◌, ◌≤◌, ◌^◌, Bool, true, false, if◌then◌else◌, List, Option, Some, None, refl, arith, lit<, inl, rules}
 use Rattle.std.proofs.lemmas.{Grind.common_steps, Bool.Decides.nat_tests}
 use Rattle.field_words.specs.{Questions.first_of, Questions.each, Words.IsBytes}
 use Rattle.field_words.proofs.{Questions.none_stands, Nones.front_none}
@@ -15,7 +15,7 @@ use Rattle.render_walks.specs.Walks.{AllFit, PlacesFit, GridFits, WalksTo, OwesF
 use Rattle.render_walks.proofs.{Numbers.render_fits, Walking.render_walks}
 use Rattle.job_check.specs.Shaders.{table_of}
 use Rattle.job_check.specs.Jobs.{job_of, has_bin, grid_from, grid_of, slot_of, places_in, render_list_of}
-use Rattle.machine_plan.specs.Regions.{Rights, LiesIn}
+use Rattle.machine_plan.specs.Regions.{Rights}
 use Rattle.qpu_law.specs.Asks.{IsOneOf}
 use Rattle.qpu_law.proofs.Reading.{one_inside}
 use Rattle.list_law.specs.{May.MayWrite, Start.frame_of, Rendering.MayDo, Rendering.NoMatter, Rendering.AllSet}
@@ -34,14 +34,12 @@ AreLow table = (number : ℕ) → (buffer_at table.buffers number).place + (buff
 fits_named : (frame : Frame) (table : TableModel) (handles : List ℕ) (k : ℕ) (found : Option ℕ) → AreLow table → is_present (surface_at frame k) ≡ true
     → first_of (surface_questions frame table handles k) ≡ None → data_of table handles (surface_at frame k).hindex ≡ found
     → FitsAt frame k (place_behind table (surface_at frame k).offset found) frame.max_x frame.max_y
-fits_named frame table handles k None low present none named = tt
-fits_named frame table handles k (Some number) low present none named = tiles_inside frame table handles k number present none named (low number)
+fits_named frame table handles k found low present none named = search (rules, arith, tiles_inside)
 
 fits_by : (b : Bool) (frame : Frame) (table : TableModel) (handles : List ℕ) (k : ℕ) → AreLow table → is_present (surface_at frame k) ≡ b
     → first_of (surface_questions frame table handles k) ≡ None
     → FitsAt frame k (if b then place_behind table (surface_at frame k).offset (data_of table handles (surface_at frame k).hindex) else None) frame.max_x frame.max_y
-fits_by true frame table handles k low present none = fits_named frame table handles k (data_of table handles (surface_at frame k).hindex) low present none refl
-fits_by false frame table handles k low present none = tt
+fits_by b frame table handles k low present none = search (rules, arith, fits_named)
 
 fits_in : (frame : Frame) (table : TableModel) (handles : List ℕ) (k : ℕ) → AreLow table → first_of (surface_questions frame table handles k) ≡ None
     → FitsAt frame k (place_in table handles (surface_at frame k)) frame.max_x frame.max_y
@@ -61,14 +59,12 @@ setup_of frame grid table handles low none =
 small_named : (frame : Frame) (table : TableModel) (handles : List ℕ) (k : ℕ) (found : Option ℕ) (place : ℕ) → AreLow table → is_present (surface_at frame k) ≡ true
     → first_of (surface_questions frame table handles k) ≡ None → data_of table handles (surface_at frame k).hindex ≡ found
     → place_behind table (surface_at frame k).offset found ≡ Some place → place < 2 ^ 32
-small_named frame table handles k None place low present none named is = cc
-small_named frame table handles k (Some number) place low present none named is = grind (arith, common_steps, nat_tests, offset_inside)
+small_named frame table handles k found place low present none named is = search (rules, arith, offset_inside)
 
 small_by : (b : Bool) (frame : Frame) (table : TableModel) (handles : List ℕ) (k place : ℕ) → AreLow table → is_present (surface_at frame k) ≡ b
     → first_of (surface_questions frame table handles k) ≡ None
     → (if b then place_behind table (surface_at frame k).offset (data_of table handles (surface_at frame k).hindex) else None) ≡ Some place → place < 2 ^ 32
-small_by true frame table handles k place low present none is = small_named frame table handles k (data_of table handles (surface_at frame k).hindex) place low present none refl is
-small_by false frame table handles k place low present none is = cc
+small_by b frame table handles k place low present none is = search (rules, arith, small_named)
 
 small_in : (frame : Frame) (table : TableModel) (handles : List ℕ) (k place : ℕ) → AreLow table → first_of (surface_questions frame table handles k) ≡ None
     → place_in table handles (surface_at frame k) ≡ Some place → place < 2 ^ 32
@@ -93,8 +89,7 @@ places_small frame table handles low each = places_are (λ k place. place < 2 ^ 
 
 -- So is the binner's grid of one.
 grid_if : (b : Bool) (grid : ℕ × ℕ) → (grid.0 < 256) × (grid.1 < 256) → GridFits (if b then Some grid else None)
-grid_if true grid small = small
-grid_if false grid small = tt
+grid_if b grid small = search (rules, arith)
 
 pub sides_small : (list : List ℕ) → IsBytes list → ((seen_before (passed list)).tiles_x < 256) × ((seen_before (passed list)).tiles_y < 256)
 unfolding seen_before
@@ -125,12 +120,7 @@ frame_fits f j s = search (arith, render_fits, frame_setup, frame_places, grid_s
 
 -- The job may write each part of a Plain buffer that its handles name.
 may_write : (f : FileModel) (j : ℕ) (m : List ℕ) (place size p n : ℕ) → Grounds f j m → IsOneOf (plain_of f j) place size → place ≤ p → p + n ≤ place + size → MayWrite (rights_at f j) p n
-may_write f j m place size p n grounds one from upto =
-    let lies : LiesIn p n (record { place = place; size = size }) = record { from = from; upto = upto } in
-    record {
-      region = one_inside (rights_at f j).region place size p n (grounds.data_reads place size one) lies;
-      writable = one_inside (rights_at f j).writable place size p n (grounds.data_writes place size one) lies;
-    }
+may_write f j m place size p n grounds one from upto = search (rules, arith, one_inside)
 
 has_room : (f : FileModel) (j : ℕ) (m : List ℕ) → Grounds f j m → HasRoom (rights_at f j) (table_of f) (job_of f j).handles
 has_room f j m grounds place size named =
@@ -154,15 +144,11 @@ tiles_below frame across down none = (grind (arith, none), grind (arith, none))
 has_grid : (b : Bool) (f : FileModel) (j : ℕ) (frame : Frame) → is_outside_grid frame (if b then Some (across_of f j, down_of f j) else None) ≡ false
     → HasGridFor (config_for f j) frame (slot_of f j) (if b then Some (across_of f j, down_of f j) else None)
 unfolding config_for
-has_grid false f j frame none = tt
-has_grid true f j frame none =
-    let below = tiles_below frame (across_of f j) (down_of f j) none in
-    record { address = refl; tiles = refl; across = below.0; down = below.1 }
+has_grid b f j frame none = search (rules, arith, tiles_below)
 
 has_grid_for : (f : FileModel) (j : ℕ) → Settled f j → HasGridFor (config_for f j) (job_of f j).frame (slot_of f j) (grid_of f j)
 unfolding grid_of
-has_grid_for f j settled =
-    has_grid (has_bin f j) f j (job_of f j).frame (in_grid (job_of f j).frame (grid_of f j) (table_of f) (job_of f j).handles settled.surfaces)
+has_grid_for f j settled = search (rules, arith, has_grid, in_grid)
 
 -- Each tile is fine, and so is the store that clears.
 owes_fine : (r : Rights) (c : Config) (frame : Frame) (places : List (Option ℕ)) (grid : Option (ℕ × ℕ)) (slot : ℕ) → AreSurfacesAt r frame places → HasGridFor c frame slot grid

@@ -1,11 +1,11 @@
 -- A file in which no rule stands settles.
-use Rattle.std.proofs.Common.{◌≡◌, ℕ, zero, suc, ◌+◌, ◌%◌, ◌==◌, ◌<◌, ◌≤◌, inl, inr, Bool, true, false, not, if◌then◌else◌, List, [], ◌∷◌, ◌++◌, Some, None, is_some, length, get_or, sym, ap, arith, ◌∙◌}
+use Rattle.std.proofs.Common.{◌≡◌, ℕ, zero, suc, ◌+◌, ◌%◌, ◌==◌, ◌<◌, ◌≤◌, inl, inr, Bool, true, not, if◌then◌else◌, List, [], ◌∷◌, ◌++◌, Some, None, is_some, length, get_or, sym, ap, arith, ◌∙◌, rules}
 use Rattle.std.proofs.lemmas.{Bool.ltb-false, Bool.cases_lt, List.get_or_past, Grind.common_steps, Bool.Decides.nat_tests}
 use Rattle.std.specs.List.{AllByRecursion}
 use Rattle.field_words.specs.Questions.{Question, Ask, first_of, each}
 use Rattle.field_words.proofs.{Questions.none_stands, Nones.front_none, Nones.rest_none, Nones.each_none, Nones.none_answered}
-use Rattle.buffer_table.specs.declared.buffer.Kind.{Kind, TheVariants.Plain, TheVariants.Code}
-use Rattle.buffer_table.specs.Table.{most_place, buffer_at, table_within}
+use Rattle.buffer_table.specs.declared.buffer.Kind.{Kind, TheVariants.Code}
+use Rattle.buffer_table.specs.Table.{most_place, buffer_at}
 use Rattle.buffer_table.specs.{Handles.AreNumbersOf, Handles.handles_questions, Sound.IsSound}
 use Rattle.buffer_table.proofs.{Sounds.sound_within, Named.are_numbers}
 use Rattle.bin_list.specs.Rules.{bin_questions}
@@ -19,15 +19,14 @@ use Rattle.render_list.specs.Surfaces.{surface_faults}
 use Rattle.job_format.specs.{File.Fits, File.JobFits, Model.FileModel, Model.JobModel}
 use Rattle.relocation.specs.Layout.{region_end}
 use Rattle.job_check.specs.Shaders.{table_of, words_of, code_questions, told_of, content_of, shader_for, shaders_of}
-use Rattle.job_check.specs.Faults.{table_refused, table_stage_within, shader_refused, shader_questions_in, shader_stage, shaders_stage, handle_refused, handles_stage, bin_stage, records_stage, surface_refused, surfaces_stage, layout_stage, lists_stages, job_stages, stages_within, place_stages}
+use Rattle.job_check.specs.Faults.{table_stage_within, shader_refused, shader_questions_in, shader_stage, shaders_stage, handle_refused, handles_stage, bin_stage, records_stage, surface_refused, surfaces_stage, layout_stage, lists_stages, job_stages, stages_within, place_stages}
 use Rattle.job_check.specs.Jobs.{no_job, job_of, has_bin, grid_of, input_for, layout_of}
 use Rattle.job_check.proofs.{Codes.is_code, Codes.shader_at, Codes.shader_count, Jobs.job_limits}
 use Rattle.accepted_law.specs.Parts.{FilesSettle}
 
 -- no rule of a stage that is asked where a test is true
 asked_if : {F : Type 0} (b : Bool) (rules : List (Question F)) → b ≡ true → first_of (if b then rules else []) ≡ None → first_of rules ≡ None
-asked_if true rules is none = none
-asked_if false rules is none = absurd (cc)
+asked_if b rules is none = search (rules, arith)
 
 -- the stages of a file, and of its job j
 record NoneStands (f : FileModel) (j : ℕ) : Type 0 where
@@ -62,13 +61,11 @@ none_in f j inside none =
 -- M
 table_sound : (f : FileModel) → first_of (table_stage_within most_place f) ≡ None → IsSound f.mem_size f.regions f.buffers
 unfolding table_stage_within
-table_sound f none =
-    sound_within most_place f.mem_size f.regions f.buffers (omega arith) (none_answered table_refused (table_within most_place f.mem_size f.regions f.buffers) none)
+table_sound f none = search (rules, arith, sound_within, none_answered)
 
 -- S
 code_none : (kind : Kind) (content : List ℕ) → kind ≡ Code → first_of (shader_questions_in kind content) ≡ None → first_of (code_questions content) ≡ None
-code_none Plain content is none = absurd (cc)
-code_none Code content is none = none
+code_none kind content is none = search (rules, arith)
 
 code_at : (f : FileModel) → first_of (shaders_stage f) ≡ None → (number : ℕ) → number < length f.buffers → (buffer_at f.buffers number).kind ≡ Code → first_of (code_questions (content_of f number)) ≡ None
 unfolding shaders_stage shader_stage
@@ -87,8 +84,7 @@ unfolding told_of
 told_sound code none = sound_shader (uniforms_of code) (samples_of code) (address_words_of code) (is_threaded code) (info_sound code (clean code none))
 
 sound_for : (kind : Kind) (content : List ℕ) (shader : ShaderModel) → (kind ≡ Code → first_of (code_questions content) ≡ None) → shader_for kind content ≡ Some shader → IsSoundShader shader
-sound_for Plain content shader none is = cc
-sound_for Code content shader none is = search (arith, told_sound, code_rules)
+sound_for kind content shader none is = search (rules, arith, told_sound, code_rules)
 
 sound_at : (f : FileModel) → first_of (shaders_stage f) ≡ None → (number : ℕ) (shader : ShaderModel) → shader_in (shaders_of f) number ≡ Some shader → IsSoundShader shader
 sound_at f none number shader is =

@@ -1,5 +1,5 @@
 -- The state that a word in the emitted binner list points to, and where its record stands.
-use Rattle.std.proofs.Common.{◌≡◌, ◌≤◌, ◌<◌, ℕ, zero, suc, ◌+◌, ◌-◌, ◌*◌, ◌%◌, true, List, [], ◌∷◌, length, drop, get_or, refl, sym, ◌∙◌, ap, subst, arith, inl, inr, length-drop}
+use Rattle.std.proofs.Common.{◌≡◌, ◌≤◌, ◌<◌, ℕ, zero, suc, ◌+◌, ◌-◌, ◌*◌, ◌%◌, true, List, [], ◌∷◌, length, drop, get_or, refl, sym, ◌∙◌, ap, subst, arith, inl, inr, length-drop, rules}
 use Rattle.std.proofs.{Math.Seq.drop-cons, lemmas.Bool.cases_lt, lemmas.Grind.common_steps, lemmas.Bool.Decides.nat_tests}
 use Rattle.field_words.specs.Words.{u32_at}
 use Rattle.emitted_facts.specs.Facts.{IsAttributeIn, IsRecord}
@@ -40,15 +40,7 @@ found_from : (input : InputModel) (layout : Layout) (word : ℕ) (state : State)
     → IsStateAt layout at rest word state → StateFound input layout word state
 unfolding record_offset
 found_from input layout word state i at [] rest offset none = absurd none
-found_from input layout word state i at (first ∷ later) rest offset (inl here) =
-    let below = some_left input.states i first later rest in
-    let one : first ≡ state_at input i = ap (λ states. get_or states 0 no_state) (rest ∙ drop-cons input.states i no_state below) in
-    record {
-      number = i;
-      below = below;
-      points = here.0 ∙ (λ j. layout.place + layout.records + offset j + (one j).word % 16);
-      same = here.1 ∙ one;
-    }
+found_from input layout word state i at (first ∷ later) rest offset (inl here) = search (rules, arith, some_left, drop-cons)
 found_from input layout word state i at (first ∷ later) rest offset (inr other) =
     let below = some_left input.states i first later rest in
     let cut : first ∷ later ≡ state_at input i ∷ drop (suc i) input.states = rest ∙ drop-cons input.states i no_state below in
@@ -146,8 +138,7 @@ data_inside f j m grounds place size named =
 
 attribute_inside : (IsNamed : ℕ → ℕ → Type 0) (region : List Interval) (state : ℕ) (word : ℕ → ℕ) (most t : ℕ) → ((place size : ℕ) → IsNamed place size → Inside region place size)
     → IsAttributeIn IsNamed state word most t → IsAttributeIn (Inside region) state word most t
-attribute_inside IsNamed region state word most t inside one =
-    record { place = one.place; size = one.size; named = inside one.place one.size one.named; from = one.from; upto = one.upto }
+attribute_inside IsNamed region state word most t inside one = search (rules, arith)
 
 pub attributes_of : (f : FileModel) (j : ℕ) (m : List ℕ) (k word : ℕ) → Grounds f j m → has_bin f j ≡ true → k < length (input_for f j).states → record_place word ≡ place_for f j k
     → (t : ℕ) → t < attribute_count (state_at (input_for f j) k).word

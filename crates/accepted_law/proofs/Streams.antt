@@ -1,5 +1,5 @@
 -- Texts and words that stand in memory, and the words of a stream as a list.
-use Rattle.std.proofs.Common.{◌≡◌, ◌≤◌, ◌<◌, ℕ, zero, suc, ◌+◌, ◌*◌, ◌^◌, List, ◌∷◌, map, length, take, drop, slice_index, refl, sym, ap, arith, ◌∙◌}
+use Rattle.std.proofs.Common.{◌≡◌, ◌≤◌, ◌<◌, ℕ, zero, suc, ◌+◌, ◌*◌, ◌^◌, List, map, length, take, drop, slice_index, refl, sym, ap, arith, ◌∙◌, rules}
 use Rattle.std.proofs.lemmas.List.{drop_more, get_or-drop, get_or_past, FromFn.length-map-range_with_len, FromFn.get_or-map-range_with_len}
 use Rattle.std.proofs.lemmas.{Bool.cases_lt, Bool.Decides.nat_tests, Grind.common_steps}
 use Rattle.std.specs.{Int.from_le_bytes, Int.w64, List.range_with_len}
@@ -12,11 +12,7 @@ use Rattle.machine_plan.proofs.Words.{byte_read}
 bytes_are : (m : List ℕ) (p n : ℕ) → p + n ≤ length m → bytes_at m p n ≡ take n (drop p m)
 unfolding bytes_at
 bytes_are m p zero inside = refl
-bytes_are m p (suc n) inside =
-    let next : suc p ≡ p + 1 = omega arith in
-    ap (λ rest. slice_index m p ∷ rest) (bytes_are m (suc p) n (omega (arith, inside)))
-    ∙ ap (λ q. slice_index m p ∷ take n (drop q m)) next
-    ∙ sym (ap (λ l. take (suc n) l) (drop_more m p 0 (omega (arith, inside))))
+bytes_are m p (suc n) inside = search (rules, arith, drop_more, bytes_are m (suc p) n (omega (arith, inside)))
 
 -- a text that stands in a memory
 pub piece_at : (m : List ℕ) (p : ℕ) (text : List ℕ) → bytes_at m p (length text) ≡ text → p + length text ≤ length m → IsPiece m p (length text) text
@@ -24,18 +20,7 @@ piece_at m p text stands inside = record { size = refl; inside = inside; same = 
 
 -- numbers of the same eight bytes
 same_number : (xs ys : List ℕ) → ((i : ℕ) → i < 8 → slice_index xs i ≡ slice_index ys i) → from_le_bytes w64 xs ≡ from_le_bytes w64 ys
-same_number xs ys same =
-    omega (
-      arith,
-      same 0 (omega arith),
-      same 1 (omega arith),
-      same 2 (omega arith),
-      same 3 (omega arith),
-      same 4 (omega arith),
-      same 5 (omega arith),
-      same 6 (omega arith),
-      same 7 (omega arith),
-    )
+same_number xs ys same = search (rules, arith)
 
 -- a word of eight bytes of a text that stands in a memory
 pub number_at : (m text : List ℕ) (p i : ℕ) → bytes_at m p (length text) ≡ text → 8 * i + 8 ≤ length text → from_le_bytes w64 (bytes_at m (p + 8 * i) 8) ≡ u64_at text (8 * i)

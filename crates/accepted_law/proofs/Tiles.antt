@@ -1,16 +1,16 @@
 -- Each packet of a tile may be done, where each surface lies in its buffer and the tile is one of the binner's grid.
-use Rattle.std.proofs.Common.{◌≡◌, ◌≤◌, ◌<◌, inl, ℕ, ◌+◌, ◌*◌, ◌%◌, ◌==◌, ◌&&◌, Bool, true, false, List, Option, Some, None, if◌then◌else◌, refl, sym, ap, arith, ◌∙◌, bit_or, lit<}
+use Rattle.std.proofs.Common.{◌≡◌, ◌≤◌, ◌<◌, inl, ℕ, ◌+◌, ◌*◌, ◌%◌, ◌==◌, ◌&&◌, Bool, true, false, List, Option, Some, None, if◌then◌else◌, refl, sym, ap, arith, ◌∙◌, bit_or, lit<, rules}
 use Rattle.std.proofs.{Math.Nat.mul-le-mul_right, lemmas.Grind.common_steps, lemmas.Bool.Decides.nat_tests}
 use Rattle.std.specs.Int.Bits.{or_zero_r}
 use Rattle.job_format.specs.declared.file.{Frame.Frame as JobFrame, Surface.Surface}
-use Rattle.packets.specs.declared.packet.Packet.TheVariants.{WaitOnSemaphore, StoreTileColor, StoreTileColorAndEnd, LoadFullResolution, LoadTileBuffer, TileCoordinates}
+use Rattle.packets.specs.declared.packet.Packet.TheVariants.{StoreTileColor, StoreTileColorAndEnd, LoadFullResolution, LoadTileBuffer, TileCoordinates}
 use Rattle.packets.specs.declared.{packet.Packet.Packet, config.Config.Config}
 use Rattle.field_words.specs.Words.{bits_of}
-use Rattle.texture_layouts.specs.{declared.format.Style.Style, Format.styled, Format.frame_style, Format.general_style}
+use Rattle.texture_layouts.specs.{declared.format.Style.Style, Format.frame_style, Format.general_style}
 use Rattle.tile_memory.specs.Slots.{alloc_offset}
 use Rattle.machine_plan.specs.Regions.{Rights}
 use Rattle.render_list.specs.Text.{number_where, packet_where, idle_store, color_place, color_bits, load_packet, load_slot, wait_slot, list_place, list_slot, full_store, full_store_slot, zs_store, zs_store_slot, color_store, color_store_slot, is_there, more_after_multisample_color, more_after_multisample_zs, some_before_zs, some_before_color, load_slots, list_slots, write_slots, tile_slots}
-use Rattle.render_list.specs.Frame.{place_at, surface_at, is_full, full_place, is_first_tile, is_last_tile}
+use Rattle.render_list.specs.Frame.{place_at, surface_at, is_full, full_place, is_last_tile}
 use Rattle.render_list.specs.Surfaces.{surface_tiling, surface_pixel, surface_style}
 use Rattle.render_walks.specs.Walks.{IsSlotFine, AreFine}
 use Rattle.render_walks.proofs.Numbers.{small_where}
@@ -54,23 +54,19 @@ full_whole frame base x y whole = omega (arith, whole)
 
 -- A packet that stands only sometimes.
 fine_where : (Fine : Packet → ℕ → ℕ → Type 0) (x y : ℕ) (test : Bool) (packet : Packet) → Fine packet x y → IsSlotFine Fine x y (packet_where test packet)
-fine_where Fine x y true packet fine = fine
-fine_where Fine x y false packet fine = tt
+fine_where Fine x y test packet fine = search (rules, arith)
 
 -- The loads.
 load_by : (r : Rights) (c : Config) (frame : JobFrame) (color : Option ℕ) (k left_out base x y : ℕ) (full : Bool) → is_full k (surface_at frame k) ≡ full → (k == 1) ≡ false → left_out < 16
     → x ≤ frame.max_x → y ≤ frame.max_y → IsSurfaceAt r frame k base
     → MayDo r c (head frame color) (if full then LoadFullResolution (bit_or (full_place frame base x y) left_out) else LoadTileBuffer (surface_at frame k).bits base) x y
-load_by r c frame color k left_out base x y true is other small right down here = search (arith, aligned_or, full_whole)
-load_by r c frame color k left_out base x y false is other small right down here = search (arith, aligned_same, loads, general_at)
+load_by r c frame color k left_out base x y full is other small right down here = search (rules, arith, aligned_or, full_whole, aligned_same, loads, general_at)
 
 fine_load : (r : Rights) (c : Config) (frame : JobFrame) (color : Option ℕ) (k left_out : ℕ) (place : Option ℕ) (x y : ℕ) → (k == 1) ≡ false → left_out < 16
     → x ≤ frame.max_x → y ≤ frame.max_y → ((base : ℕ) → place ≡ Some base → IsSurfaceAt r frame k base)
     → IsSlotFine (MayDo r c (head frame color)) x y (load_slot frame k left_out place x y)
 unfolding load_packet
-fine_load r c frame color k left_out None x y other small right down surfaces = tt
-fine_load r c frame color k left_out (Some base) x y other small right down surfaces =
-    load_by r c frame color k left_out base x y (is_full k (surface_at frame k)) refl other small right down (surfaces base refl)
+fine_load r c frame color k left_out place x y other small right down surfaces = search (rules, arith, load_by)
 
 -- The sub-list.
 tile_below : (across down x y : ℕ) → x < across → y < down → y * across + x < across * down
@@ -87,17 +83,14 @@ fine_list r c f frame (Some grid) slot x y is right down = record {
 }
 
 fine_wait : (r : Rights) (c : Config) (f : Frame) (frame : JobFrame) (grid : Option (ℕ × ℕ)) (x y : ℕ) → IsSlotFine (MayDo r c f) x y (wait_slot frame grid x y)
-fine_wait r c f frame None x y = tt
-fine_wait r c f frame (Some grid) x y = fine_where (MayDo r c f) x y (is_first_tile frame x y) WaitOnSemaphore tt
+fine_wait r c f frame grid x y = search (rules, arith, fine_where)
 
 -- The stores in full resolution, of surfaces that are always so.
 fine_full : (r : Rights) (c : Config) (f : Frame) (frame : JobFrame) (k left_out : ℕ) (place : Option ℕ) (more : Bool) (x y : ℕ) → is_full k (surface_at frame k) ≡ true → left_out ≤ 2
     → x ≤ frame.max_x → y ≤ frame.max_y → ((base : ℕ) → place ≡ Some base → IsSurfaceAt r frame k base)
     → IsSlotFine (MayDo r c f) x y (full_store_slot frame place left_out more x y)
 unfolding full_store
-fine_full r c f frame k left_out None more x y full small right down surfaces = tt
-fine_full r c f frame k left_out (Some base) more x y full small right down surfaces =
-    search (arith, IsSurfaceAt, small_where, aligned_or, full_whole)
+fine_full r c f frame k left_out place more x y full small right down surfaces = search (rules, arith, small_where, aligned_or, full_whole)
 
 -- The store of depth and stencil, by general bits, of which one says that colour stays.
 zs_style : (more : Bool) (bits : ℕ) → general_style (bit_or bits (number_where more 8192)) ≡ general_style bits
@@ -107,13 +100,11 @@ zs_style false bits = ap general_style (or_zero_r bits)
 fine_zs : (r : Rights) (c : Config) (frame : JobFrame) (color place : Option ℕ) (more : Bool) (x y : ℕ) → ((base : ℕ) → place ≡ Some base → IsSurfaceAt r frame 3 base)
     → IsSlotFine (MayDo r c (head frame color)) x y (zs_store_slot frame place more x y)
 unfolding zs_store
-fine_zs r c frame color None more x y surfaces = tt
-fine_zs r c frame color (Some base) more x y surfaces = search (arith, IsSurfaceAt, small_where, stores, general_at, zs_style, aligned_or)
+fine_zs r c frame color place more x y surfaces = search (rules, arith, small_where, stores, general_at, zs_style, aligned_or)
 
 -- The store of colour, by the frame's bits.
 color_by : (r : Rights) (c : Config) (f : Frame) (last : Bool) (x y : ℕ) → StoresSurface r (frame_style f.bits) f f.address → MayDo r c f (if last then StoreTileColorAndEnd else StoreTileColor) x y
-color_by r c f true x y stored = stored
-color_by r c f false x y stored = stored
+color_by r c f last x y stored = search (rules, arith)
 
 fine_color : (r : Rights) (c : Config) (frame : JobFrame) (color : Option ℕ) (x y : ℕ) → ((base : ℕ) → color ≡ Some base → IsSurfaceAt r frame 1 base)
     → IsSlotFine (MayDo r c (head frame color)) x y (color_store_slot frame color x y)

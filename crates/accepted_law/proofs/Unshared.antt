@@ -1,5 +1,5 @@
 -- What a client's jobs may reach is no other client's to write.
-use Rattle.std.proofs.Common.{◌≡◌, ◌⊎◌, inl, inr, ℕ, ◌+◌, ◌-◌, ◌==◌, ◌&&◌, ◌<◌, ◌≤◌, nat_lt, Bool, true, false, not, if◌then◌else◌, List, ◌∷◌, ◌++◌, Some, None, length, slice_index, sym, subst, arith, ◌∙◌}
+use Rattle.std.proofs.Common.{◌≡◌, ◌⊎◌, inl, inr, ℕ, ◌+◌, ◌&&◌, ◌<◌, ◌≤◌, Bool, true, false, not, if◌then◌else◌, List, ◌∷◌, ◌++◌, Some, None, length, slice_index, sym, subst, arith, ◌∙◌, rules}
 use Rattle.std.proofs.lemmas.{Bool.cases_lt, Bool.and_parts, Bool.ltb-true, Bool.eqb-true, Bool.Decides.nat_tests, Grind.common_steps}
 use Rattle.field_words.specs.{Sizes.slot_size, Questions.first_of}
 use Rattle.field_words.proofs.{Questions.none_stands, Nones.each_none}
@@ -27,8 +27,7 @@ of_client t client numbers none i inside =
     grind (arith, (none_stands (handle_questions t client numbers i) here).0)
 
 chosen : (b : Bool) (x number : ℕ) → (if b then Some x else None) ≡ Some number → x ≡ number
-chosen true x number is = cc
-chosen false x number is = absurd (cc)
+chosen b x number is = search (rules, arith)
 
 pub data_number : (t : TableModel) (handles : List ℕ) (handle number : ℕ) → data_of t handles handle ≡ Some number → slice_index handles handle ≡ number
 unfolding data_of
@@ -63,8 +62,7 @@ owned f j none job place size one =
 
 -- No byte lies in both of two intervals that are apart.
 no_both : (p place size q n : ℕ) → (place + size ≤ q) ⊎ (q + n ≤ place) → place ≤ p → p + 1 ≤ place + size → q ≤ p → p + 1 ≤ q + n → ⊥
-no_both p place size q n (inl before) from upto at past = omega (arith, before, upto, at)
-no_both p place size q n (inr behind) from upto at past = omega (arith, behind, from, past)
+no_both p place size q n h5 from upto at past = search (rules, arith)
 
 slots_apart : (f : FileModel) (j k : ℕ) → (j ≡ k → ⊥) → (slot_of f j + slot_size ≤ slot_of f k) ⊎ (slot_of f k + slot_size ≤ slot_of f j)
 unfolding slot_of
@@ -97,18 +95,7 @@ plain_and_slot f j k p two i one l other found slot =
     slot_and_buffer f j p two.settled l other own.number own.inside slot.from slot.upto (omega (arith, from, own.place_is)) (omega (arith, upto, own.place_is, own.size_is))
 
 plain_and_plain : (f : FileModel) (j k p : ℕ) → AreTwo f j k → LiesInOne (plain_of f j) p 1 → LiesInOne (plain_of f k) p 1 → ⊥
-plain_and_plain f j k p two found there =
-    let own = owned f j two.none two.one found.place found.size found.one in
-    let its = owned f k two.none two.other there.place there.size there.one in
-    let from = found.from in
-    let upto = found.upto in
-    let at = there.from in
-    let past = there.upto in
-    let differ : own.number ≡ its.number → ⊥ = λ same.
-    two.clients (sym own.client_is ∙ subst (λ n. (buffer_at f.buffers n).client ≡ (job_of f k).client) (sym same) its.client_is) in
-    no_both p (buffer_at f.buffers its.number).place (buffer_at f.buffers its.number).size (buffer_at f.buffers own.number).place (buffer_at f.buffers own.number).size
-    (two_apart f j two.settled own.number its.number own.inside its.inside differ)
-    (omega (arith, at, its.place_is)) (omega (arith, past, its.place_is, its.size_is)) (omega (arith, from, own.place_is)) (omega (arith, upto, own.place_is, own.size_is))
+plain_and_plain f j k p two found there = search (rules, arith, owned, no_both, two_apart)
 
 slot_and_slot : (f : FileModel) (j k p : ℕ) → AreTwo f j k → LiesIn p 1 (slot_in f j) → LiesIn p 1 (slot_in f k) → ⊥
 unfolding slot_in
@@ -127,9 +114,7 @@ pub record IsJobOf (c : ℕ) (f : FileModel) (j : ℕ) : Type 0 where
 
 pub job_is_of : (c : ℕ) (f : FileModel) (j : ℕ) → jobs_of c f j ≡ true → IsJobOf c f j
 unfolding jobs_of
-job_is_of c f j mine =
-    let two = and_parts (nat_lt j (length f.jobs)) ((job_of f j).client == c) mine in
-    record { inside = ltb-true j (length f.jobs) two.0; client_is = eqb-true (job_of f j).client c two.1 }
+job_is_of c f j mine = search (rules, arith, and_parts, ltb-true, eqb-true)
 
 other_client : (c : ℕ) (f : FileModel) (k : ℕ) → k < length f.jobs → jobs_of c f k ≡ false → (job_of f k).client ≡ c → ⊥
 unfolding jobs_of
@@ -153,5 +138,4 @@ reached_unwritten c f j k p file own there differ reached written =
     ]
 
 pub clients_unshared_law : ClientsUnshared
-clients_unshared_law c f file j k p mine other reached written =
-    search (arith, job_is_of, cases_lt, reached_unwritten, other_client, rights_are, rights_past)
+clients_unshared_law c f file j k p mine other reached written = search (rules, arith, job_is_of, cases_lt, reached_unwritten, other_client, rights_are, rights_past)

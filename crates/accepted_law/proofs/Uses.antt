@@ -1,14 +1,13 @@
 -- Which shader each program of a record is, and where its code and its stream stand.
-use Rattle.std.proofs.Common.{◌≡◌, ◌≤◌, ◌<◌, ℕ, ◌+◌, ◌^◌, true, List, length, Option, Some, None, refl, sym, subst, arith, ◌∙◌}
+use Rattle.std.proofs.Common.{◌≡◌, ◌≤◌, ◌<◌, ℕ, ◌+◌, ◌^◌, true, List, length, Option, Some, arith, ◌∙◌, rules}
 use Rattle.std.proofs.lemmas.{Grind.common_steps, Bool.Decides.nat_tests}
-use Rattle.field_words.specs.Pieces.{IsPiece}
-use Rattle.buffer_table.specs.declared.buffer.Kind.{Kind, TheVariants.Plain, TheVariants.Code}
+use Rattle.buffer_table.specs.declared.buffer.Kind.{Kind, TheVariants.Code}
 use Rattle.buffer_table.specs.{Table.buffer_at, Sound.IsSound}
 use Rattle.job_format.specs.Model.{FileModel}
 use Rattle.qpu_isa.specs.Shader.{ShaderModel}
 use Rattle.shader_records.specs.{Inputs.AreInputs, Inputs.shader_in, Named.AreInMemory, Named.IsEmittedIn}
 use Rattle.job_check.specs.Shaders.{content_of, words_of, told_of, shader_for, shaders_of}
-use Rattle.job_check.specs.Jobs.{has_bin, input_for, layout_of, records_of, streams_of}
+use Rattle.job_check.specs.Jobs.{has_bin, input_for, layout_of}
 use Rattle.job_check.proofs.{Codes.shader_at, Views.records_are, Views.streams_are, Layouts.layout_apart, Layouts.lists_inside}
 use Rattle.accepted_law.specs.Settled.{Settled, ListsEnd, Grounds}
 use Rattle.accepted_law.proofs.{Streams.piece_at, Tables.buffer_sound, Tables.buffer_low}
@@ -25,11 +24,7 @@ buffer_inside f number sound below = let s = buffer_sound f.mem_size f.regions f
 
 pub inputs_low : (f : FileModel) (j : ℕ) → Settled f j → AreInMemory (input_for f j)
 unfolding input_for
-inputs_low f j settled = record {
-  records = settled.job_fits.records;
-  uniforms = settled.job_fits.uniforms;
-  buffers = buffer_low f.mem_size f.regions f.buffers settled.sound;
-}
+inputs_low f j settled = search (rules, arith, buffer_low)
 
 -- The streams begin and end in the memory, so inside the greatest one.
 pub streams_low : (f : FileModel) (j : ℕ) → Settled f j → (layout_of f j).place + (layout_of f j).uniforms + length (input_for f j).uniforms < 2 ^ 32
@@ -43,32 +38,17 @@ lists_low f j settled ends = omega (arith, lists_inside f settled.sound, ends.re
 -- The memory has what was emitted of the records and their streams.
 pub emitted_stand : (f : FileModel) (j : ℕ) (m : List ℕ) → Grounds f j m → has_bin f j ≡ true
     → IsEmittedIn (input_for f j) ((layout_of f j).place + (layout_of f j).records) ((layout_of f j).place + (layout_of f j).uniforms) m
-emitted_stand f j m grounds some =
-    let low = lists_low f j grounds.settled grounds.ends in
-    let long = grounds.holds.long in
-    let uniforms_end = grounds.ends.uniforms in
-    let records_place : ℕ = (layout_of f j).place + (layout_of f j).records in
-    let uniforms_place : ℕ = (layout_of f j).place + (layout_of f j).uniforms in
-    record {
-      records_are =
-          subst (λ text. IsPiece m records_place (length text) text) (sym (records_are f j some))
-          (piece_at m records_place (records_of f j) grounds.holds.records (omega (arith, grounds.ends.records, uniforms_end, low, long)));
-      uniforms_are =
-          subst (λ text. IsPiece m uniforms_place (length text) text) (sym (streams_are f j some))
-          (piece_at m uniforms_place (streams_of f j) grounds.holds.uniforms (omega (arith, uniforms_end, low, long)));
-    }
+emitted_stand f j m grounds some = search (rules, arith, lists_low, records_are, piece_at, streams_are)
 
 -- What is known of the shader there is what the checker told of the words that its contents spell.
 shader_for_code : (kind : Kind) (content : List ℕ) → kind ≡ Code → shader_for kind content ≡ Some (told_of (words_of content))
-shader_for_code Plain content is = cc
-shader_for_code Code content is = refl
+shader_for_code kind content is = search (rules, arith)
 
 told_there : (f : FileModel) (number : ℕ) → number < length f.buffers → (buffer_at f.buffers number).kind ≡ Code → shader_in (shaders_of f) number ≡ Some (told_of (words_of (content_of f number)))
 told_there f number below code = shader_at f number below ∙ shader_for_code (buffer_at f.buffers number).kind (content_of f number) code
 
 same_some : {X : Type 0} (o : Option X) (x y : X) → o ≡ Some x → o ≡ Some y → x ≡ y
-same_some None x y one two = cc
-same_some (Some z) x y one two = cc
+same_some o x y one two = search (rules, arith)
 
 pub told_is : (f : FileModel) (j number : ℕ) (shader : ShaderModel) → number < length f.buffers → (buffer_at f.buffers number).kind ≡ Code → shader_in (input_for f j).shaders number ≡ Some shader
     → shader ≡ told_of (words_of (content_of f number))

@@ -1,7 +1,6 @@
 -- Each job of such a file begins with shaders that are served, and its semaphore is raised as often as it is waited for.
 use Rattle.std.proofs.Common.{◌≡◌, ◌≤◌, ◌<◌, ℕ, Bool, true, false, List, [], length, Some, None, if◌then◌else◌, refl, sym, ◌∙◌, ap, subst, arith}
 use Rattle.std.specs.Prelude.{is_some}
-use Rattle.buffer_table.proofs.Named.{code_is}
 use Rattle.buffer_table.specs.Table.{TableModel}
 use Rattle.relocation.specs.declared.layout.Layout.{Layout}
 use Rattle.bin_list.specs.{Packets.packets, Packets.passed, Rules.given_of, Seen.seen_before, States.states_of}
@@ -9,7 +8,6 @@ use Rattle.bin_walks.specs.{Draws.IsDrawn, Emission.emission, Emission.config_of
 use Rattle.bin_walks.proofs.Law.{emitted_lists_walk_law}
 use Rattle.list_law.proofs.Start.{walks_so}
 use Rattle.render_list.specs.Text.{render_slots}
-use Rattle.shader_flow.proofs.Bounded.{some_below_not}
 use Rattle.job_format.specs.Model.{FileModel}
 use Rattle.job_check.specs.Jobs.{job_of, layout_of, has_bin, bin_list_of, places_in, grid_from, grid_of, slot_of}
 use Rattle.job_check.specs.{Emit.memory_of, Shaders.table_of}
@@ -18,8 +16,7 @@ use Rattle.accepted_law.specs.{Ends.IsShaderOf, Ends.DrawShaders, Parts.BinWalks
 use Rattle.accepted_law.specs.Holdings.{plain_of, file_rights, file_starts, start_of, config_for}
 use Rattle.accepted_law.proofs.{BinWalking.bins_walk_law, BinWalking.layout_is_low, ByJob.each_from, Holding.bin_is, Tables.buffer_low}
 use Rattle.accepted_law.proofs.Joining.{all_ground, job_begins, files_begin_law, has_read_only}
-use Rattle.accepted_ends.specs.Bound.{shader_named}
-use Rattle.accepted_ends.proofs.{Cut.packets_walk, Shaders.named_is, Files.packets_are}
+use Rattle.accepted_ends.proofs.{Cut.packets_walk, Shaders.named_off, Files.packets_are}
 use Rattle.ends_law.specs.Steps.{one_if}
 use Rattle.served_law.specs.{Finish.DrawServed, Finish.JobMayFinish, Raises.waits_in, Raises.raised_by, Waits.may_wait}
 use Rattle.served_law.proofs.Finish.{jobs_finish_law}
@@ -28,11 +25,7 @@ use Rattle.accepted_served.proofs.{Raised.emission_raises, Waited.render_few}
 
 is_served : (f : FileModel) (j : ℕ) (code : List ℕ) → file_waits f ≡ false → j < length f.jobs → IsShaderOf f j code → may_wait code ≡ false
 unfolding file_waits job_waits
-is_served f j code none inside is =
-    let handle_in = (code_is (table_of f) (job_of f j).handles is.handle is.number is.named).handle_in in
-    let of_job : job_waits f j ≡ false = some_below_not (length f.jobs) j (λ k. job_waits f k) none inside in
-    let of_handle : waits (shader_named f j is.handle) ≡ false = some_below_not (length (job_of f j).handles) is.handle (λ i. waits (shader_named f j i)) of_job handle_in in
-    sym (ap waits (named_is f j code is)) ∙ of_handle
+is_served f j code none inside is = named_off waits f j code none inside is
 
 draws_served : (f : FileModel) (j : ℕ) (m : List ℕ) (word : ℕ) (packet : List ℕ) → file_waits f ≡ false → j < length f.jobs → DrawShaders f j m word packet → DrawServed (file_rights f) (plain_of f) m j word packet
 draws_served f j m word packet none inside draws = record {

@@ -6,7 +6,8 @@ use Rattle.job_format.specs.declared.file.Frame.{Frame}
 use Rattle.packets.specs.declared.packet.Packet.TheVariants.{WaitOnSemaphore, StoreTileColor, StoreTileColorAndEnd, StoreTileBuffer, LoadFullResolution, LoadTileBuffer, TileCoordinates}
 use Rattle.packets.specs.declared.packet.Packet.{Packet}
 use Rattle.render_list.specs.Frame.{color_read, zs_read, zs_write, multisample_color, multisample_zs, color_write, place_at, is_full, surface_at, full_place, is_first_tile, is_last_tile, tiles_across, tiles_down}
-use Rattle.render_list.specs.Text.{packet_where, head_packet, clear_packet, clear_slots, front_slots, without_color, without_zs, load_packet, load_slot, idle_store, wait_slot, list_slot, full_store, full_store_slot, zs_store, zs_store_slot, color_store, color_store_slot, is_there, more_after_multisample_zs, more_after_multisample_color, some_before_zs, some_before_color, coordinates_slot, load_slots, list_slots, write_slots, tile_slots, span_slots, row_slots, all_tile_slots, render_slots}
+use Rattle.render_list.specs.Text.{packet_where, head_packet, clear_packet, clear_slots, front_slots, without_color, without_zs, load_packet, load_slot, idle_store, wait_slot, list_slot, full_store, full_store_slot, zs_store, zs_store_slot, color_store, color_store_slot, is_there, more_after_multisample_zs, more_after_multisample_color, some_before_zs, some_before_color, load_slots, list_slots, write_slots, tile_slots, span_slots, row_slots, all_tile_slots, render_slots}
+use Rattle.machine_plan.specs.Regions.{Every}
 use Rattle.ends_law.specs.Steps.{one_if}
 use Rattle.served_law.specs.Raises.{waits_of, waits_in}
 
@@ -23,6 +24,14 @@ waits_at (Some packet) = waits_of packet
 waits_cons : (slot : Option Packet) (slots : List (Option Packet)) → waits_in (slot ∷ slots) ≡ waits_at slot + waits_in slots
 waits_cons None slots = omega arith
 waits_cons (Some packet) slots = refl
+
+none_wait : (slots : List (Option Packet)) → Every (λ slot. waits_at slot ≡ 0) slots → waits_in slots ≡ 0
+none_wait [] none = refl
+none_wait (slot ∷ slots) none =
+    let here = none.0 in
+    let later = none_wait slots none.1 in
+    let both = waits_cons slot slots in
+    omega (arith, here, later, both)
 
 where_none : (b : Bool) (packet : Packet) → waits_of packet ≡ 0 → waits_at (packet_where b packet) ≡ 0
 where_none true packet none = none
@@ -55,60 +64,37 @@ color_none frame (Some place) x y = load_by (is_last_tile frame x y) StoreTileCo
 front_none : (frame : Frame) (places : List (Option ℕ)) → waits_in (front_slots frame places) ≡ 0
 unfolding front_slots clear_slots head_packet clear_packet
 front_none frame places =
-    let clears : Option Packet = packet_where frame.clear (clear_packet frame) in
-    let at : Option Packet = packet_where frame.clear (TileCoordinates 0 0) in
-    let store : Option Packet = packet_where frame.clear (StoreTileBuffer 0 0) in
-    let one = where_none frame.clear (clear_packet frame) refl in
-    let two = where_none frame.clear (TileCoordinates 0 0) refl in
-    let three = where_none frame.clear (StoreTileBuffer 0 0) refl in
-    let a = waits_cons clears (at ∷ store ∷ []) in
-    let b = waits_cons at (store ∷ []) in
-    let c = waits_cons store [] in
-    omega (arith, one, two, three, a, b, c)
+    none_wait (front_slots frame places) (refl, (where_none frame.clear (clear_packet frame) refl, (where_none frame.clear (TileCoordinates 0 0) refl, (where_none frame.clear (StoreTileBuffer 0 0) refl, tt))))
 
 loads_none : (frame : Frame) (places : List (Option ℕ)) (x y : ℕ) → waits_in (load_slots frame places x y) ≡ 0
 unfolding load_slots
 loads_none frame places x y =
     let both : Bool = is_there places color_read && is_there places zs_read in
-    let first : Option Packet = load_slot frame color_read without_zs (place_at places color_read) x y in
-    let at : Option Packet = packet_where both (TileCoordinates x y) in
-    let store : Option Packet = packet_where both idle_store in
-    let second : Option Packet = load_slot frame zs_read without_color (place_at places zs_read) x y in
-    let one = load_none frame color_read without_zs (place_at places color_read) x y in
-    let two = where_none both (TileCoordinates x y) refl in
-    let three = where_none both idle_store refl in
-    let four = load_none frame zs_read without_color (place_at places zs_read) x y in
-    let a = waits_cons first (at ∷ store ∷ second ∷ []) in
-    let b = waits_cons at (store ∷ second ∷ []) in
-    let c = waits_cons store (second ∷ []) in
-    let d = waits_cons second [] in
-    omega (arith, one, two, three, four, a, b, c, d)
+    none_wait (load_slots frame places x y)
+    (load_none frame color_read without_zs (place_at places color_read) x y, (where_none both (TileCoordinates x y) refl, (where_none both idle_store refl, (load_none frame zs_read without_color (place_at places zs_read) x y, tt))))
 
 writes_none : (frame : Frame) (places : List (Option ℕ)) (x y : ℕ) → waits_in (write_slots frame places x y) ≡ 0
 unfolding write_slots
 writes_none frame places x y =
-    let s1 : Option Packet = full_store_slot frame (place_at places multisample_color) without_zs (more_after_multisample_color places) x y in
-    let s2 : Option Packet = coordinates_slot places multisample_zs (is_there places multisample_color) x y in
-    let s3 : Option Packet = full_store_slot frame (place_at places multisample_zs) without_color (more_after_multisample_zs places) x y in
-    let s4 : Option Packet = coordinates_slot places zs_write (some_before_zs places) x y in
-    let s5 : Option Packet = zs_store_slot frame (place_at places zs_write) (is_there places color_write) x y in
-    let s6 : Option Packet = coordinates_slot places color_write (some_before_color places) x y in
-    let s7 : Option Packet = color_store_slot frame (place_at places color_write) x y in
-    let n1 = full_none frame (place_at places multisample_color) without_zs (more_after_multisample_color places) x y in
-    let n2 = where_none (is_there places multisample_zs && is_there places multisample_color) (TileCoordinates x y) refl in
-    let n3 = full_none frame (place_at places multisample_zs) without_color (more_after_multisample_zs places) x y in
-    let n4 = where_none (is_there places zs_write && some_before_zs places) (TileCoordinates x y) refl in
-    let n5 = zs_none frame (place_at places zs_write) (is_there places color_write) x y in
-    let n6 = where_none (is_there places color_write && some_before_color places) (TileCoordinates x y) refl in
-    let n7 = color_none frame (place_at places color_write) x y in
-    let c1 = waits_cons s1 (s2 ∷ s3 ∷ s4 ∷ s5 ∷ s6 ∷ s7 ∷ []) in
-    let c2 = waits_cons s2 (s3 ∷ s4 ∷ s5 ∷ s6 ∷ s7 ∷ []) in
-    let c3 = waits_cons s3 (s4 ∷ s5 ∷ s6 ∷ s7 ∷ []) in
-    let c4 = waits_cons s4 (s5 ∷ s6 ∷ s7 ∷ []) in
-    let c5 = waits_cons s5 (s6 ∷ s7 ∷ []) in
-    let c6 = waits_cons s6 (s7 ∷ []) in
-    let c7 = waits_cons s7 [] in
-    omega (arith, n1, n2, n3, n4, n5, n6, n7, c1, c2, c3, c4, c5, c6, c7)
+    none_wait (write_slots frame places x y) (
+      full_none frame (place_at places multisample_color) without_zs (more_after_multisample_color places) x y,
+      (
+        where_none (is_there places multisample_zs && is_there places multisample_color) (TileCoordinates x y) refl,
+        (
+          full_none frame (place_at places multisample_zs) without_color (more_after_multisample_zs places) x y,
+          (
+            where_none (is_there places zs_write && some_before_zs places) (TileCoordinates x y) refl,
+            (
+              zs_none frame (place_at places zs_write) (is_there places color_write) x y,
+              (
+                where_none (is_there places color_write && some_before_color places) (TileCoordinates x y) refl,
+                (color_none frame (place_at places color_write) x y, tt),
+              ),
+            ),
+          ),
+        ),
+      ),
+    )
 
 -- with a binner list the first tile waits
 list_none : (grid : Option (ℕ × ℕ)) (slot x y : ℕ) → waits_at (list_slot grid slot x y) ≡ 0

@@ -1,5 +1,5 @@
 -- From two states that are alike to a client, two steps for jobs of it that have the same entry are alike.
-use Rattle.std.proofs.Common.{◌≡◌, ℕ, ◌==◌, Bool, true, false, IsTrue, if◌then◌else◌, List, [], ◌∷◌, Option, Some, None, refl, sym, ◌∙◌, ap, subst}
+use Rattle.std.proofs.Common.{◌≡◌, ℕ, ◌==◌, Bool, true, false, IsTrue, if◌then◌else◌, List, Option, Some, None, refl, sym, ◌∙◌, ap, subst, arith, rules}
 use Rattle.std.proofs.lemmas.Bool.{false≢true}
 use Rattle.std.specs.Prelude.{is_some, nat_lt}
 use Rattle.field_words.specs.declared.access.Actor.TheVariants.{Binner as TheBinner, Renderer as TheRenderer, Qpu as TheQpu, Tmu as TheTmu}
@@ -15,7 +15,7 @@ use Rattle.qpu_machine.specs.{declared.state.Thread.Thread, Step.thread_plan}
 use Rattle.machine.specs.Step.{Event, with_lists, with_qpu, binner_may, renderer_may, qpu_may, tmu_may, binner_turn, renderer_turn, qpu_turn, tmu_turn, unit_ready, unit_turn, number_or_zero, qpu_job, tmu_job, unit_job, job_of, may, step, ready, turn}
 use Rattle.machine.specs.State.{Units, State, Picked, first_where, item_at, binner_job, renderer_job}
 use Rattle.apart_law.specs.Trail.{is_second, active_in, slot_for, launch_in, binner_starts, renderer_starts, starts_in, entry_of}
-use Rattle.apart_law.specs.Part.{Client, Part, seen, requests_of, part_of, UnitsAlike, StatesAlike}
+use Rattle.apart_law.specs.Part.{Client, seen, requests_of, part_of, UnitsAlike, StatesAlike}
 use Rattle.apart_law.specs.Steps.{StaysIn, GaveAlike, OwnStepsAreAlike}
 use Rattle.apart_law.proofs.Parts.{some_same, sees, chosen_of, own_request, part_settled, settled_part, part_dropped, dropped_part, part_served, served_part}
 use Rattle.apart_law.proofs.{Places.put_alike, Places.map_alike, Places.map_at, Places.one_first, Slots.launches_alike}
@@ -25,10 +25,7 @@ use Rattle.apart_law.proofs.Turns.{thread_turn, request_turn}
 
 -- what a list unit came to, put in both
 lists_put : (mine : Client) (u v : Units) (j : ℕ) (turned : Turned) → UnitsAlike mine u v → slot_for turned.launch u.qpus ≡ slot_for turned.launch v.qpus → UnitsAlike mine (with_lists u j turned) (with_lists v j turned)
-lists_put mine u v j turned alike same = record {
-  jobs = λ i own. put_alike u.jobs v.jobs j i turned.lists (alike.jobs i own);
-  qpus = launches_alike mine j turned.launch u.qpus v.qpus alike.qpus same;
-}
+lists_put mine u v j turned alike same = search (rules, arith, put_alike, launches_alike)
 
 lists_alike : (mine : Client) (all : List Interval) (s t : State) (who : Who) (plan : Free → Plan Turned) (ended : Lists) → DoesSame who t.memory s.units.qpus t.units.qpus plan → StatesAlike mine all s t
     → slot_for (launch_in (carried who (plan (free_in s.units.qpus)) s.memory).result) s.units.qpus ≡ slot_for (launch_in (carried who (plan (free_in t.units.qpus)) t.memory).result) t.units.qpus
@@ -97,17 +94,13 @@ twice_alike {R = R} mine all s t who k plan first other wild ends alike parts wi
 -- the active thread goes on
 settled_alike : (mine : Client) (q p : Qpu) (job : ℕ) (own : Option Thread) (over : Bool) (asked : Option Asked) → mine job ≡ true → q.second ≡ p.second → part_of mine q ≡ part_of mine p
     → part_of mine (settled q job own over asked) ≡ part_of mine (settled p job own over asked)
-settled_alike mine q p job own over asked is second parts =
-    settled_part mine q job own over asked is ∙ ((λ i. part_settled (second i) job (seen mine own) over asked (parts i)) ∙ sym (settled_part mine p job own over asked is))
+settled_alike mine q p job own over asked is second parts = search (rules, arith, settled_part, part_settled)
 
 active_part : (mine : Client) (q : Qpu) → seen mine (active_of q) ≡ (if q.second then (part_of mine q).other else (part_of mine q).first)
 active_part mine q = chosen_of (seen mine) q.second q.other q.first
 
 same_thread : (mine : Client) (q p : Qpu) (a b : Thread) → active_of q ≡ Some a → active_of p ≡ Some b → mine a.job ≡ true → mine b.job ≡ true → q.second ≡ p.second → part_of mine q ≡ part_of mine p → a ≡ b
-same_thread mine q p a b first other own also second parts =
-    let one : Some a ≡ seen mine (active_of q) = sym (sees mine a own) ∙ ap (seen mine) (sym first) in
-    let two : seen mine (active_of p) ≡ Some b = ap (seen mine) other ∙ sees mine b also in
-    some_same a b (one ∙ (active_part mine q ∙ ((λ i. if second i then (parts i).other else (parts i).first) ∙ (sym (active_part mine p) ∙ two))))
+same_thread mine q p a b first other own also second parts = search (rules, arith, sees, some_same, active_part)
 
 thread_alike : (mine : Client) (all : List Interval) (s t : State) (k : ℕ) (q p : Qpu) (slot also : Option Thread) (words : List ℕ) → active_of q ≡ slot → active_of p ≡ also → q.second ≡ p.second → part_of mine q ≡ part_of mine p
     → IsTrue (glanced (ready_by slot q) s.memory) → IsTrue (glanced (ready_by also p) t.memory) → mine (job_of_thread slot) ≡ true → mine (job_of_thread also) ≡ true → StatesAlike mine all s t
@@ -130,22 +123,16 @@ qpu_alike mine all s t k words (Some q) (Some p) here there second may might own
 
 -- the oldest request is served
 oldest_own : (mine : Client) (requests : List Request) (r : Request) → oldest requests ≡ Some r → mine r.job ≡ true → oldest (requests_of mine requests) ≡ Some r
-oldest_own mine [] r is own = is
-oldest_own mine (x ∷ requests) r is own =
-    let same : x ≡ r = some_same x r is in
-    ap oldest (own_request mine x requests (ap (λ (o : Request). mine o.job) same ∙ own)) ∙ ap Some same
+oldest_own mine requests r is own = search (rules, arith, some_same, own_request)
 
 queue_part : (mine : Client) (q : Qpu) (tmu : ℕ) → requests_of mine (queue_of q tmu) ≡ (if tmu == 0 then (part_of mine q).queue0 else (part_of mine q).queue1)
 queue_part mine q tmu = chosen_of (requests_of mine) (tmu == 0) q.queue0.items q.queue1.items
 
 same_request : (mine : Client) (q p : Qpu) (tmu : ℕ) (a b : Request) → oldest (queue_of q tmu) ≡ Some a → oldest (queue_of p tmu) ≡ Some b → mine a.job ≡ true → mine b.job ≡ true → part_of mine q ≡ part_of mine p → a ≡ b
-same_request mine q p tmu a b first other own also parts =
-    let queues : requests_of mine (queue_of q tmu) ≡ requests_of mine (queue_of p tmu) = queue_part mine q tmu ∙ (ap (λ (x : Part). if tmu == 0 then x.queue0 else x.queue1) parts ∙ sym (queue_part mine p tmu)) in
-    some_same a b (sym (oldest_own mine (queue_of q tmu) a first own) ∙ (ap oldest queues ∙ oldest_own mine (queue_of p tmu) b other also))
+same_request mine q p tmu a b first other own also parts = search (rules, arith, queue_part, some_same, oldest_own)
 
 never_ready : (there : Bool) (m : List ℕ) → IsTrue (glanced (if there then Now false else Now false) m) → ⊥
-never_ready true m may = false≢true may
-never_ready false m may = false≢true may
+never_ready there m may = search (rules, arith, false≢true)
 
 request_alike : (mine : Client) (all : List Interval) (s t : State) (k n : ℕ) (q p : Qpu) (found also : Option Request) (words : List ℕ) → oldest (queue_of q n) ≡ found → oldest (queue_of p n) ≡ also → part_of mine q ≡ part_of mine p
     → IsTrue (glanced (if nat_lt n 2 then Now (is_some found) else Now false) s.memory) → IsTrue (glanced (if nat_lt n 2 then Now (is_some also) else Now false) t.memory)

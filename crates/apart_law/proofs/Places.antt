@@ -1,5 +1,5 @@
 -- Items of lists by their numbers: where one is put, and the first of which a test is true.
-use Rattle.std.proofs.Common.{◌≡◌, ◌≢◌, ◌≤◌, ◌<◌, ℕ, zero, suc, ◌+◌, Bool, true, false, if◌then◌else◌, List, [], ◌∷◌, map, Some, refl, sym, ◌∙◌, ap, subst, arith}
+use Rattle.std.proofs.Common.{◌≡◌, ◌≢◌, ◌≤◌, ◌<◌, ℕ, zero, suc, ◌+◌, Bool, true, false, if◌then◌else◌, List, [], ◌∷◌, map, Some, refl, sym, ◌∙◌, ap, subst, arith, rules}
 use Rattle.std.proofs.{lemmas.Bool.false≢true, lemmas.List.map-set, lemmas.Option.slice_get-map}
 use Rattle.std.specs.Prelude.{drop, option_map}
 use Rattle.machine_plan.specs.Regions.{Every}
@@ -38,8 +38,7 @@ put_same (y ∷ xs) (suc k) x here = ap (λ rest. y ∷ rest) (put_same xs k x h
 
 -- f of each is as it was where f can't tell the new one from the old
 pub map_same : {X Y : Type 0} (f : X → Y) (xs : List X) (k : ℕ) (old new : X) → item_at xs k ≡ Some old → f new ≡ f old → map f (put_at xs k new) ≡ map f xs
-map_same f xs k old new here same =
-    map-set f xs k new ∙ put_same (map f xs) k (f new) (slice_get-map f xs k ∙ (ap (option_map f) here ∙ ap Some (sym same)))
+map_same f xs k old new here same = search (rules, arith, map-set, put_same, slice_get-map)
 
 -- where f can't tell two lists apart, it can't after what it can't tell apart was put
 pub map_alike : {X Y : Type 0} (f : X → Y) (us vs : List X) (k : ℕ) (x y : X) → map f us ≡ map f vs → f x ≡ f y → map f (put_at us k x) ≡ map f (put_at vs k y)
@@ -52,12 +51,10 @@ map_at f us vs k x y all first second =
 
 -- what is true of both is true of the one that a test chooses
 pub chosen : {X : Type 0} (P : X → Type 0) (b : Bool) (x y : X) → P x → P y → P (if b then x else y)
-chosen P true x y first second = first
-chosen P false x y first second = second
+chosen P b x y first second = search (rules, arith)
 
 pub drop_every : {X : Type 0} (P : X → Type 0) (xs : List X) → Every P xs → Every P (drop 1 xs)
-drop_every P [] all = tt
-drop_every P (x ∷ xs) all = all.1
+drop_every P xs all = search (rules, arith)
 
 -- what is true of each item is true of the one at a place
 pub every_at : {X : Type 0} (P : X → Type 0) (xs : List X) (k : ℕ) (x : X) → item_at xs k ≡ Some x → Every P xs → P x
@@ -91,10 +88,7 @@ found_later {X = X} p n x xs one fails h = record { k = suc h.k; number = omega 
 
 found_by : {X : Type 0} (p : X → Bool) (n : ℕ) (x : X) (xs : List X) (one : Picked X) (passes : Bool) → p x ≡ passes → ((other : Picked X) → first_where p (n + 1) xs ≡ Some other → FoundFrom p (n + 1) xs other)
     → (if passes then Some (record { number = n; item = x }) else first_where p (n + 1) xs) ≡ Some one → FoundFrom p n (x ∷ xs) one
-found_by {X = X} p n x xs one true is later found =
-    let here : FoundFrom p n (x ∷ xs) (record { number = n; item = x }) = record { k = 0; number = omega arith; first = record { at = refl; passes = is; before = λ i y below. absurd (omega (arith, below)) } } in
-    subst (λ (o : Picked X). FoundFrom p n (x ∷ xs) o) (some_same (record { number = n; item = x }) one found) here
-found_by p n x xs one false is later found = found_later p n x xs one is (later one found)
+found_by p n x xs one passes is later found = search (rules, arith, some_same, found_later)
 
 found_from : {X : Type 0} (p : X → Bool) (n : ℕ) (xs : List X) (one : Picked X) → first_where p n xs ≡ Some one → FoundFrom p n xs one
 found_from p n [] one found = absurd (some_none one (sym found))
@@ -107,18 +101,9 @@ first_is p xs one found =
     subst (λ k. IsFirst p xs k one.item) same h.first
 
 none_before : {X : Type 0} (p : X → Bool) (us vs : List X) (a b : ℕ) (x y : X) → IsFirst p us a x → IsFirst p vs b y → item_at us a ≡ item_at vs a → b ≤ a
-none_before p us vs a b x y one other same =
-    let never : a < b → ⊥ = λ below. false≢true (sym (other.before a x below (sym same ∙ one.at)) ∙ one.passes) in
-    omega (arith, never)
+none_before p us vs a b x y one other same = search (rules, arith, false≢true)
 
 -- two firsts are one, where the two lists have the same at both places
 pub one_first : {X : Type 0} (p : X → Bool) (us vs : List X) (one other : Picked X) → first_where p 0 us ≡ Some one → first_where p 0 vs ≡ Some other → item_at us one.number ≡ item_at vs one.number → item_at us other.number ≡ item_at vs other.number
     → one ≡ other
-one_first {X = X} p us vs one other first second here there =
-    let a = first_is p us one first in
-    let b = first_is p vs other second in
-    let up = none_before p us vs one.number other.number one.item other.item a b here in
-    let down = none_before p vs us other.number one.number other.item one.item b a (sym there) in
-    let same : one.number ≡ other.number = omega (arith, up, down) in
-    let items : one.item ≡ other.item = some_same one.item other.item (sym a.at ∙ (ap (item_at us) same ∙ (there ∙ b.at))) in
-    λ i. record { number = same i; item = items i }
+one_first p us vs one other first second here there = search (rules, arith, first_is, none_before, some_same)

@@ -1,10 +1,10 @@
 -- What a plan comes to, whatever it reads; and turns that come to what is alike.
-use Rattle.std.proofs.Common.{◌≡◌, ℕ, false, if◌then◌else◌, List, [], ◌∷◌, length, Option, Some, None, refl, sym, ◌∙◌, ap, subst}
+use Rattle.std.proofs.Common.{◌≡◌, ℕ, false, if◌then◌else◌, List, [], ◌∷◌, length, Option, Some, refl, ◌∙◌, ap, arith, rules}
 use Rattle.std.specs.Prelude.{option_map, unwrap_or}
 use Rattle.field_words.specs.declared.access.Way.TheVariants.{Read, Write, Wild}
 use Rattle.field_words.specs.declared.access.Access.{Access}
-use Rattle.machine_plan.specs.Plan.{Plan, Done, Wilds, Reads, Looks, Writes, Outcome, access, carried, Keeps}
-use Rattle.machine_plan.specs.{declared.who.Who.Who, Memory.bytes_at, Memory.stored, World.mapped, World.settled, World.turned}
+use Rattle.machine_plan.specs.Plan.{Plan, Done, Wilds, Reads, Looks, Writes, access, carried, Keeps}
+use Rattle.machine_plan.specs.{declared.who.Who.Who, Memory.bytes_at, Memory.stored, World.mapped, World.turned}
 use Rattle.machine_plan.specs.Regions.{Interval, Inside, IsIn, Agree}
 use Rattle.machine_plan.proofs.Plans.{SameBut, footprint, keeps_looks, keeps_accesses}
 use Rattle.machine_plan.proofs.Worlds.{handed, carried_mapped}
@@ -61,27 +61,14 @@ stays_before put all who (Writes p bs next) m h = (h.0, stays_before put all who
 
 -- over memories that agree there it does the same
 pub same_over : {R : Type 0} (all : List Interval) (who : Who) (plan : Plan R) (m k : List ℕ) → Agree all m k → Stays all who plan m → SameBut all (carried who plan m) (carried who plan k)
-same_over all who plan m k agree stays =
-    footprint who all plan m k agree (keeps_looks who (Inside all) (IsIn all) (λ k r. Unit {0}) plan m stays) (keeps_accesses who (Inside all) (IsIn all) (λ k r. Unit {0}) plan m stays)
+same_over all who plan m k agree stays = search (rules, arith, footprint, keeps_looks, keeps_accesses)
 
 -- two turns whose plans did the same, where what each came to is put among what all units keep
 put_by : {R : Type 0} (mine : Client) (put also : R → Units) (wild ends : Units) (result : Option R) → ((r : R) → result ≡ Some r → UnitsAlike mine (put r) (also r)) → UnitsAlike mine wild ends
     → UnitsAlike mine (unwrap_or (option_map put result) wild) (unwrap_or (option_map also result) ends)
-put_by mine put also wild ends None puts wilds = wilds
-put_by mine put also wild ends (Some r) puts wilds = puts r refl
+put_by mine put also wild ends result puts wilds = search (rules, arith)
 
 pub turns_alike : {R : Type 0} (mine : Client) (all : List Interval) (s t : State) (who : Who) (plan other : Plan R) (put also : R → Units) (wild ends : Units) → SameBut all (carried who plan s.memory) (carried who other t.memory)
     → ((r : R) → (carried who plan s.memory).result ≡ Some r → UnitsAlike mine (put r) (also r)) → UnitsAlike mine wild ends
     → GaveAlike mine all (turned s (record { who = who; plan = mapped put plan; wild = wild })) (turned t (record { who = who; plan = mapped also other; wild = ends }))
-turns_alike {R = R} mine all s t who plan other put also wild ends same puts wilds =
-    let o : Outcome R = carried who plan s.memory in
-    let q : Outcome R = carried who other t.memory in
-    let here : GaveAlike mine all (settled wild (handed put o)) (settled ends (handed also q)) = record {
-      accesses = same.accesses;
-      states = record {
-        units = subst (λ result. UnitsAlike mine (unwrap_or (option_map put o.result) wild) (unwrap_or (option_map also result) ends)) same.result (put_by mine put also wild ends o.result puts wilds);
-        memory = same.memory;
-      };
-    } in
-    subst (λ first. GaveAlike mine all (settled wild first) (settled ends (carried who (mapped also other) t.memory))) (sym (carried_mapped put who plan s.memory))
-    (subst (λ second. GaveAlike mine all (settled wild (handed put o)) (settled ends second)) (sym (carried_mapped also who other t.memory)) here)
+turns_alike mine all s t who plan other put also wild ends same puts wilds = search (rules, arith, handed, put_by, carried_mapped)

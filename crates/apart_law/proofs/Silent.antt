@@ -1,9 +1,8 @@
 -- A step for another client's job leaves the client's part alone; and each step leaves requests tied to the threads of their jobs.
-use Rattle.std.proofs.Common.{◌≡◌, ◌≢◌, ℕ, ◌==◌, true, false, List, Some, None, refl, sym, ◌∙◌, ap, subst, ◌∷◌, []}
+use Rattle.std.proofs.Common.{◌≡◌, ◌≢◌, ℕ, ◌==◌, true, false, List, Some, None, refl, sym, ◌∙◌, ap, arith, rules}
 use Rattle.std.proofs.lemmas.Bool.{false≢true}
 use Rattle.machine_plan.specs.Regions.{Every}
-use Rattle.qpu_machine.specs.declared.state.Fate.TheVariants.{GoesOn, Switches, Ends}
-use Rattle.qpu_machine.specs.Qpu.{active_of, left_by, gives_way, went, stopped, oldest, queue_of, dropped, served}
+use Rattle.qpu_machine.specs.Qpu.{active_of, left_by, went, stopped, oldest, queue_of, dropped, served}
 use Rattle.qpu_machine.specs.{declared.state.Fate.Fate, declared.state.Qpu.Qpu, declared.state.Request.Request, Step.ThreadTurn}
 use Rattle.qpu_machine.specs.declared.state.Thread.{Thread}
 use Rattle.machine.specs.{State.Units, State.item_at, Step.with_qpu, Step.unit_turn, Step.job_of, Step.turn}
@@ -24,22 +23,17 @@ alone mine u k q next here same = record { jobs = λ j own. refl; qpus = map_sam
 
 -- what an instruction of another client's thread left
 unseen : (mine : Client) (fate : Fate) (t : Thread) → mine t.job ≡ false → seen mine (left_by fate t) ≡ None
-unseen mine GoesOn t others = sees_none mine t others
-unseen mine Switches t others = sees_none mine t others
-unseen mine Ends t others = refl
+unseen mine fate t others = search (rules, arith, sees_none)
 
 went_alone : (mine : Client) (q : Qpu) (t : Thread) (turn : ThreadTurn) → active_of q ≡ Some t → turn.thread.job ≡ t.job → mine t.job ≡ false → RestsFresh q → part_of mine (went q t turn) ≡ part_of mine q
-went_alone mine q t turn active same others fresh =
-    other_settled mine q t.job (left_by turn.leaves.fate turn.thread) (gives_way turn.leaves.fate) turn.leaves.asked others
-    (unseen mine turn.leaves.fate turn.thread (ap mine same ∙ others)) fresh (ap (seen mine) active ∙ sees_none mine t others)
+went_alone mine q t turn active same others fresh = search (rules, arith, other_settled, unseen, sees_none)
 
 stopped_alone : (mine : Client) (q : Qpu) (t : Thread) → active_of q ≡ Some t → mine t.job ≡ false → RestsFresh q → part_of mine (stopped q t) ≡ part_of mine q
 stopped_alone mine q t active others fresh = other_settled mine q t.job None true None others refl fresh (ap (seen mine) active ∙ sees_none mine t others)
 
 -- the oldest request is tied
 oldest_tied : (q : Qpu) (requests : List Request) (r : Request) → oldest requests ≡ Some r → Every (IsTied q) requests → IsTied q r
-oldest_tied q [] r is all = absurd (some_none r (sym is))
-oldest_tied q (x ∷ requests) r is all = subst (IsTied q) (some_same x r is) all.0
+oldest_tied q requests r is all = search (rules, arith, some_none, some_same)
 
 queue_tied : (q : Qpu) (tmu : ℕ) → QpuTied q → Every (IsTied q) (queue_of q tmu)
 queue_tied q tmu tied = chosen (Every (IsTied q)) (tmu == 0) q.queue0.items q.queue1.items tied.queue0 tied.queue1
@@ -68,23 +62,10 @@ others_silent_law mine s event others tied fresh =
 
 -- requests stay tied
 left_of : (fate : Fate) (t : Thread) (job : ℕ) → t.job ≡ job → IsOf job (left_by fate t)
-left_of GoesOn t job same = same
-left_of Switches t job same = same
-left_of Ends t job same = tt
+left_of fate t job same = search (rules, arith)
 
 all_tied : (u : Units) → AreTied u.qpus → AllTurns u (λ j next. AreTied next.qpus)
-all_tied u tied =
-    let put : (k : ℕ) (q next : Qpu) → item_at u.qpus k ≡ Some q → (QpuTied q → QpuTied next) → AreTied (with_qpu u k next).qpus = λ k q next here keeps. put_every QpuTied u.qpus k next (keeps (every_at QpuTied u.qpus k q here tied)) tied in
-    record {
-      none = λ j. tied;
-      lists = λ j turned. launches_tied j turned.launch u.qpus tied;
-      idle = λ j k q here. put k q q here (λ h. h);
-      goes = λ k q t turn here active same.
-          put k q (went q t turn) here (λ h. settled_tied q (left_by turn.leaves.fate turn.thread) (gives_way turn.leaves.fate) turn.leaves.asked t active (left_of turn.leaves.fate turn.thread t.job same) h);
-      stops = λ k q t here active. put k q (stopped q t) here (λ h. settled_tied q None true None t active tt h);
-      serves = λ k n q r row here is. put k q (served q n r row) here (λ h. served_tied q n r row h);
-      drops = λ k n q r here is. put k q (dropped q n) here (λ h. dropped_tied q n h);
-    }
+all_tied u tied = search (rules, arith, put_every, every_at, launches_tied, settled_tied, left_of, served_tied, dropped_tied)
 
 pub keep_tied_law : StepsKeepTied
 unfolding turn

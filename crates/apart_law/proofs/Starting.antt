@@ -1,25 +1,23 @@
 -- Which threads are free bears on a list unit's step by the slot alone in which a program starts.
-use Rattle.std.proofs.Common.{◌≡◌, ℕ, ◌==◌, Bool, true, false, if◌then◌else◌, List, Option, Some, None, refl, sym, ◌∙◌, ap}
+use Rattle.std.proofs.Common.{◌≡◌, ℕ, Bool, true, false, if◌then◌else◌, List, Option, Some, None, refl, sym, ◌∙◌, ap, arith, rules}
 use Rattle.std.proofs.lemmas.Bool.{false≢true}
-use Rattle.std.specs.Prelude.{is_some, option_map, ◌%◌}
-use Rattle.field_words.specs.declared.access.Way.TheVariants.{Read}
+use Rattle.std.specs.Prelude.{is_some, option_map}
 use Rattle.machine_plan.specs.{declared.launch.Free.Free, declared.launch.Launch.Launch, declared.launch.Slot.Slot, declared.who.Who.Who}
-use Rattle.machine_plan.specs.{Choice.word_at, Memory.bytes_at, World.mapped}
-use Rattle.machine_plan.specs.Plan.{Plan, Done, Outcome, access, after_access, carried}
+use Rattle.machine_plan.specs.{World.mapped}
+use Rattle.machine_plan.specs.Plan.{Plan, Done, carried}
 use Rattle.machine_plan.proofs.Worlds.{handed, carried_mapped}
-use Rattle.list_machine.specs.declared.state.Program.TheVariants.{Fragment, Vertex, Coordinate}
-use Rattle.list_machine.specs.Renderer.{renderer_plan, plan_in, found_plan, choice_plan, program_plan, at_item, item_at}
+use Rattle.list_machine.specs.declared.state.Program.TheVariants.{Coordinate}
+use Rattle.list_machine.specs.Renderer.{renderer_plan, plan_in, found_plan, choice_plan, program_plan}
 use Rattle.list_machine.specs.{declared.state.Found.Found, declared.state.Program.Program, declared.state.SubList.SubList}
 use Rattle.list_machine.specs.{declared.state.Work.Work, Binner.binner_plan, Binner.binner_by, Binner.work_plan, Binner.started_with}
-use Rattle.list_machine.specs.{Lists.Lists, Lists.Turned, Lists.turned_to, Fetch.record_place}
-use Rattle.list_machine.specs.Start.{can_start, launch_plan, start_as, start_plan, is_threaded}
+use Rattle.list_machine.specs.{Lists.Lists, Lists.Turned, Lists.turned_to}
+use Rattle.list_machine.specs.Start.{can_start, launch_plan, start_as, start_plan}
 use Rattle.qpu_machine.specs.{declared.state.Qpu.Qpu, Qpu.slot_from, Qpu.free_in}
 use Rattle.apart_law.specs.Trail.{slot_for, launch_in}
 
 -- a program can start where a slot is found for it
 can_is : (threaded : Bool) (qpus : List Qpu) → is_some (slot_from threaded 0 qpus) ≡ can_start threaded (free_in qpus)
-can_is true qpus = refl
-can_is false qpus = refl
+can_is threaded qpus = search (rules, arith)
 
 no_slot : (place : Option Slot) → is_some place ≡ true → place ≡ None → ⊥
 no_slot place there none = false≢true (sym (ap (λ p. is_some p) none) ∙ there)
@@ -43,56 +41,41 @@ start_by can program threaded word = if can then launch_plan program threaded wo
 start_alike_by : (program : Program) (threaded : Bool) (word : ℕ) (who : Who) (m : List ℕ) (us vs : List Qpu) (can there : Bool) → is_some (slot_from threaded 0 us) ≡ can → is_some (slot_from threaded 0 vs) ≡ there
     → SameStart own_launch who m us vs (start_by can program threaded word) (start_by there program threaded word)
 unfolding launch_plan
-start_alike_by program threaded word who m us vs true true here other same = refl
-start_alike_by program threaded word who m us vs false false here other same = refl
-start_alike_by program threaded word who m us vs true false here other same = absurd (no_slot (slot_from threaded 0 us) here same)
-start_alike_by program threaded word who m us vs false true here other same = absurd (no_slot (slot_from threaded 0 vs) other (sym same))
+start_alike_by program threaded word who m us vs can there here other same = search (rules, arith, no_slot)
 
 start_as_alike : (program : Program) (threaded : Bool) (word : ℕ) (who : Who) (m : List ℕ) (us vs : List Qpu) → SameStart own_launch who m us vs (start_as program threaded (free_in us) word) (start_as program threaded (free_in vs) word)
 unfolding start_as
-start_as_alike program threaded word who m us vs =
-    start_alike_by program threaded word who m us vs (can_start threaded (free_in us)) (can_start threaded (free_in vs)) (can_is threaded us) (can_is threaded vs)
+start_as_alike program threaded word who m us vs = search (rules, arith, start_alike_by, can_is)
 
 start_alike : (program : Program) (word : ℕ) (who : Who) (m : List ℕ) (us vs : List Qpu) → SameStart own_launch who m us vs (start_plan program (free_in us) word) (start_plan program (free_in vs) word)
 unfolding start_plan
-start_alike Fragment word who m us vs = start_as_alike Fragment (is_threaded (bytes_at m (record_place word) 2)) word who m us vs
-start_alike Vertex word who m us vs = start_as_alike Vertex false word who m us vs
-start_alike Coordinate word who m us vs = start_as_alike Coordinate false word who m us vs
+start_alike program word who m us vs = search (rules, arith, start_as_alike)
 
 -- the same where the program that is started is handed on
 launch_handed : (put : Option Launch → Turned) → ((launch : Option Launch) → (put launch).launch ≡ launch) → (result : Option (Option Launch)) (qpus : List Qpu)
     → starts own_launch result qpus ≡ starts (λ (turned : Turned). turned.launch) (option_map put result) qpus
-launch_handed put same None qpus = refl
-launch_handed put same (Some launch) qpus = sym (ap (λ l. slot_for l qpus) (same launch))
+launch_handed put same result qpus = search (rules, arith)
 
 abbrev launch_of_turned : Turned → Option Launch
 launch_of_turned turned = turned.launch
 
 handed_alike : (put : Option Launch → Turned) → ((launch : Option Launch) → (put launch).launch ≡ launch) → (who : Who) (m : List ℕ) (us vs : List Qpu) (one other : Plan (Option Launch))
     → SameStart own_launch who m us vs one other → SameStart launch_of_turned who m us vs (mapped put one) (mapped put other)
-handed_alike put same who m us vs one other alike starts_same =
-    let o : Outcome (Option Launch) = carried who one m in
-    let q : Outcome (Option Launch) = carried who other m in
-    let first : starts launch_of_turned (carried who (mapped put one) m).result us ≡ starts own_launch o.result us = ap (λ (x : Outcome Turned). starts launch_of_turned x.result us) (carried_mapped put who one m) ∙ sym (launch_handed put same o.result us) in
-    let second : starts launch_of_turned (carried who (mapped put other) m).result vs ≡ starts own_launch q.result vs = ap (λ (x : Outcome Turned). starts launch_of_turned x.result vs) (carried_mapped put who other m) ∙ sym (launch_handed put same q.result vs) in
-    carried_mapped put who one m ∙ (ap (handed put) (alike (sym first ∙ (starts_same ∙ second))) ∙ sym (carried_mapped put who other m))
+handed_alike put same who m us vs one other alike starts_same = search (rules, arith, carried_mapped, launch_handed, handed)
 
 -- the binner's step
 binner_due : (s : Lists) (w : Work) (due : Bool) (rest : Plan Turned) (who : Who) (m : List ℕ) (us vs : List Qpu)
     → SameStart launch_of_turned who m us vs (if due then mapped (started_with s w) (start_plan Coordinate (free_in us) w.word) else rest) (if due then mapped (started_with s w) (start_plan Coordinate (free_in vs) w.word) else rest)
-binner_due s w true rest who m us vs =
-    handed_alike (started_with s w) (λ launch. refl) who m us vs (start_plan Coordinate (free_in us) w.word) (start_plan Coordinate (free_in vs) w.word) (start_alike Coordinate w.word who m us vs)
+binner_due s w true rest who m us vs = search (rules, arith, handed_alike, start_alike)
 binner_due s w false rest who m us vs = λ same. refl
 
 binner_work : (s : Lists) (work : Option Work) (words : List ℕ) (who : Who) (m : List ℕ) (us vs : List Qpu) → SameStart launch_of_turned who m us vs (binner_by s work (free_in us) words) (binner_by s work (free_in vs) words)
 unfolding work_plan
-binner_work s None words who m us vs = λ same. refl
-binner_work s (Some w) words who m us vs = binner_due s w w.due _ who m us vs
+binner_work s work words who m us vs = search (rules, arith, binner_due)
 
 -- the slot of an outcome's launch, as entries have it
 slot_is : (result : Option Turned) (qpus : List Qpu) → slot_for (launch_in result) qpus ≡ starts launch_of_turned result qpus
-slot_is None qpus = refl
-slot_is (Some turned) qpus = refl
+slot_is result qpus = search (rules, arith)
 
 abbrev pub DoesSame : Who → List ℕ → (us vs : List Qpu) → (Free → Plan Turned) → Type 0
 DoesSame who m us vs plan =
@@ -100,8 +83,7 @@ DoesSame who m us vs plan =
     → carried who (plan (free_in us)) m ≡ carried who (plan (free_in vs)) m
 
 same_does : (who : Who) (m : List ℕ) (us vs : List Qpu) (plan : Free → Plan Turned) → SameStart launch_of_turned who m us vs (plan (free_in us)) (plan (free_in vs)) → DoesSame who m us vs plan
-same_does who m us vs plan alike same =
-    alike (sym (slot_is (carried who (plan (free_in us)) m).result us) ∙ (same ∙ slot_is (carried who (plan (free_in vs)) m).result vs))
+same_does who m us vs plan alike same = search (rules, arith, slot_is)
 
 pub binner_does_same : (s : Lists) (words : List ℕ) (who : Who) (m : List ℕ) (us vs : List Qpu) → DoesSame who m us vs (λ free. binner_plan s free words)
 unfolding binner_plan
@@ -110,33 +92,24 @@ binner_does_same s words who m us vs = same_does who m us vs (λ free. binner_pl
 -- the renderer's step
 program_alike : (s : Lists) (program : Program) (word : ℕ) (who : Who) (m : List ℕ) (us vs : List Qpu)
     → SameStart launch_of_turned who m us vs (mapped (turned_to s) (start_plan program (free_in us) word)) (mapped (turned_to s) (start_plan program (free_in vs) word))
-program_alike s program word who m us vs =
-    handed_alike (turned_to s) (λ launch. refl) who m us vs (start_plan program (free_in us) word) (start_plan program (free_in vs) word) (start_alike program word who m us vs)
+program_alike s program word who m us vs = search (rules, arith, handed_alike, start_alike)
 
 abbrev four_ways : (vertex first second : Bool) → (a b c d : Plan Turned) → Plan Turned
 four_ways vertex first second a b c d = if vertex then a else (if first then b else (if second then c else d))
 
 choice_by : (vertex first second : Bool) (a b c e f d : Plan Turned) (who : Who) (m : List ℕ) (us vs : List Qpu) → SameStart launch_of_turned who m us vs b c → SameStart launch_of_turned who m us vs e f
     → SameStart launch_of_turned who m us vs (four_ways vertex first second a b e d) (four_ways vertex first second a c f d)
-choice_by true first second a b c e f d who m us vs one other = λ same. refl
-choice_by false true second a b c e f d who m us vs one other = one
-choice_by false false true a b c e f d who m us vs one other = other
-choice_by false false false a b c e f d who m us vs one other = λ same. refl
+choice_by vertex first second a b c e f d who m us vs one other = search (rules, arith)
 
 choice_alike : (s : Lists) (words : List ℕ) (sub : SubList) (found : Found) (who : Who) (m : List ℕ) (us vs : List Qpu) → SameStart launch_of_turned who m us vs (choice_plan s (free_in us) words sub found) (choice_plan s (free_in vs) words sub found)
 unfolding choice_plan program_plan
-choice_alike s words sub found who m us vs =
-    let here = at_item s sub.tile found.number in
-    let choice = word_at words 0 % 4 in
-    choice_by (choice == 0) (choice == 1) (choice == 2) _ _ _ _ _ _ who m us vs (program_alike here Vertex found.item.word who m us vs) (program_alike here Fragment found.item.word who m us vs)
+choice_alike s words sub found who m us vs = search (rules, arith, choice_by, program_alike)
 
 found_alike : (s : Lists) (words : List ℕ) (sub : SubList) (found : Option Found) (who : Who) (m : List ℕ) (us vs : List Qpu) → SameStart launch_of_turned who m us vs (found_plan s (free_in us) words sub found) (found_plan s (free_in vs) words sub found)
-found_alike s words sub None who m us vs = λ same. refl
-found_alike s words sub (Some found) who m us vs = λ same. ap (after_access (access who Read found.item.place 16)) (choice_alike s words sub found who m us vs same)
+found_alike s words sub found who m us vs = search (rules, arith, choice_alike)
 
 inside_alike : (s : Lists) (words : List ℕ) (inside : Option SubList) (who : Who) (m : List ℕ) (us vs : List Qpu) → SameStart launch_of_turned who m us vs (plan_in s (free_in us) words inside) (plan_in s (free_in vs) words inside)
-inside_alike s words None who m us vs = λ same. refl
-inside_alike s words (Some sub) who m us vs = found_alike s words sub (item_at sub s.items) who m us vs
+inside_alike s words inside who m us vs = search (rules, arith, found_alike)
 
 pub renderer_does_same : (s : Lists) (words : List ℕ) (who : Who) (m : List ℕ) (us vs : List Qpu) → DoesSame who m us vs (λ free. renderer_plan s free words)
 unfolding renderer_plan

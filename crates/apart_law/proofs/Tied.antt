@@ -1,11 +1,11 @@
 -- What a step of each unit leaves, said over any property of what all units keep; and requests stay tied to the threads of their jobs.
-use Rattle.std.proofs.Common.{◌≡◌, ℕ, zero, suc, ◌+◌, ◌==◌, Bool, true, false, not, if◌then◌else◌, List, [], ◌∷◌, ◌++◌, replicate, Option, Some, None, refl, sym, ◌∙◌, ap, arith}
-use Rattle.std.proofs.{lemmas.Bool.and_parts, lemmas.Bool.false≢true, lemmas.List.Sums.sum_by-cons, lemmas.Grind.common_steps}
-use Rattle.std.specs.Prelude.{IfSome, drop, option_map}
+use Rattle.std.proofs.Common.{◌≡◌, ℕ, zero, suc, ◌+◌, Bool, true, false, not, if◌then◌else◌, List, [], ◌∷◌, replicate, Option, Some, refl, sym, ◌∙◌, arith, rules}
+use Rattle.std.proofs.{lemmas.Bool.and_parts, lemmas.Bool.false≢true, lemmas.List.Sums.sum_by-cons}
+use Rattle.std.specs.Prelude.{IfSome, option_map}
 use Rattle.machine_plan.specs.{declared.launch.Launch.Launch, Regions.Every}
 use Rattle.machine_plan.proofs.Runs.{every-append, every-weaker}
-use Rattle.qpu_machine.specs.Qpu.{active_of, is_of, queued, has_none, refreshed, woken_slot, queue_with, settled, with_result, dropped, given, served, slot_of, takes_first, takes_other, in_first, in_other, started_in, idle_qpu}
-use Rattle.qpu_machine.specs.{declared.state.Asked.Asked, declared.state.Qpu.Qpu, declared.state.Request.Request, Start.thread_of}
+use Rattle.qpu_machine.specs.Qpu.{active_of, is_of, queued, has_none, woken_slot, queue_with, settled, with_result, dropped, given, served, slot_of, takes_first, takes_other, in_first, in_other, started_in, idle_qpu}
+use Rattle.qpu_machine.specs.{declared.state.Asked.Asked, declared.state.Qpu.Qpu, declared.state.Request.Request}
 use Rattle.qpu_machine.specs.declared.state.Thread.{Thread}
 use Rattle.machine.specs.Step.{with_launch}
 use Rattle.apart_law.specs.Tied.{IsTied, QpuTied, AreTied}
@@ -20,16 +20,13 @@ abbrev JobStays : Option Thread → Option Thread → Type 0
 JobStays slot next = (job : ℕ) → IsOf job slot → IsOf job next
 
 stays_mapped : (f : Thread → Thread) → ((t : Thread) → (f t).job ≡ t.job) → (slot : Option Thread) → JobStays slot (option_map f slot)
-stays_mapped f same None job is = tt
-stays_mapped f same (Some t) job is = same t ∙ is
+stays_mapped f same slot job is = search (rules, arith)
 
 stays_woken : (over : Bool) (slot : Option Thread) → JobStays slot (woken_slot over slot)
-stays_woken false slot job is = is
-stays_woken true slot job is = stays_mapped refreshed (λ t. refl) slot job is
+stays_woken over slot job is = search (rules, arith, stays_mapped)
 
 of_chosen : (second : Bool) (job : ℕ) (first other next also : Option Thread) → JobStays first next → JobStays other also → IsOf job (if second then other else first) → IsOf job (if second then also else next)
-of_chosen true job first other next also one two is = two job is
-of_chosen false job first other next also one two is = one job is
+of_chosen second job first other next also one two is = search (rules, arith)
 
 -- each request stays tied where both slots keep their threads' jobs
 tied_stays : (q p : Qpu) → JobStays q.first p.first → JobStays q.other p.other → (requests : List Request) → Every (IsTied q) requests → Every (IsTied p) requests
@@ -37,34 +34,15 @@ tied_stays q p first other requests all = every-weaker (IsTied q) (IsTied p) (λ
 
 -- a step of the active thread
 queue_tied : (p : Qpu) (tmu : ℕ) (second : Bool) (job : ℕ) (asked : Option Asked) (requests : List Request) → IsOf job (slot_of p second) → Every (IsTied p) requests → Every (IsTied p) (queue_with tmu second job asked requests)
-queue_tied p tmu second job None requests own all = all
-queue_tied p tmu second job (Some asked) requests own all =
-    let one : Request = record { second = second; job = job; ask = asked.ask } in
-    chosen (Every (IsTied p)) (asked.tmu == tmu) (requests ++ one ∷ []) requests (every-append (IsTied p) requests (one ∷ []) all (own, tt)) all
+queue_tied p tmu second job asked requests own all = search (rules, arith, chosen, every-append)
 
 own_stays : (job : ℕ) (slot own : Option Thread) (t : Thread) → slot ≡ Some t → t.job ≡ job → IsOf job own → JobStays slot own
-own_stays job None own t is same of j tied = absurd (some_none t (sym is))
-own_stays job (Some u) None t is same of j tied = tt
-own_stays job (Some u) (Some next) t is same of j tied = of ∙ (sym same ∙ (ap (λ (x : Thread). x.job) (sym (some_same u t is)) ∙ tied))
+own_stays job slot own t is same of j tied = search (rules, arith, some_none, some_same)
 
 settled_by : (q : Qpu) (second : Bool) (own : Option Thread) (over : Bool) (asked : Option Asked) (t : Thread) → active_of (record q { second = second }) ≡ Some t → IsOf t.job own → QpuTied q → QpuTied (settled (record q { second = second }) t.job own over asked)
 unfolding settled
-settled_by q true own over asked t is of tied =
-    let p : Qpu = settled (record q { second = true }) t.job own over asked in
-    let first : JobStays q.first (woken_slot over q.first) = stays_woken over q.first in
-    let other : JobStays q.other own = own_stays t.job q.other own t is refl of in
-    record {
-      queue0 = queue_tied p 0 true t.job asked q.queue0.items of (tied_stays q p first other q.queue0.items tied.queue0);
-      queue1 = queue_tied p 1 true t.job asked q.queue1.items of (tied_stays q p first other q.queue1.items tied.queue1);
-    }
-settled_by q false own over asked t is of tied =
-    let p : Qpu = settled (record q { second = false }) t.job own over asked in
-    let first : JobStays q.first own = own_stays t.job q.first own t is refl of in
-    let other : JobStays q.other (woken_slot over q.other) = stays_woken over q.other in
-    record {
-      queue0 = queue_tied p 0 false t.job asked q.queue0.items of (tied_stays q p first other q.queue0.items tied.queue0);
-      queue1 = queue_tied p 1 false t.job asked q.queue1.items of (tied_stays q p first other q.queue1.items tied.queue1);
-    }
+settled_by q true own over asked t is of tied = search (rules, arith, stays_woken, own_stays, queue_tied, tied_stays)
+settled_by q false own over asked t is of tied = search (rules, arith, own_stays, stays_woken, queue_tied, tied_stays)
 
 pub settled_tied : (q : Qpu) (own : Option Thread) (over : Bool) (asked : Option Asked) (t : Thread) → active_of q ≡ Some t → IsOf t.job own → QpuTied q → QpuTied (settled q t.job own over asked)
 settled_tied q own over asked t is of tied = settled_by q q.second own over asked t is of tied
@@ -72,22 +50,15 @@ settled_tied q own over asked t is of tied = settled_by q q.second own over aske
 -- a step of a TMU
 pub dropped_tied : (q : Qpu) (tmu : ℕ) → QpuTied q → QpuTied (dropped q tmu)
 unfolding dropped
-dropped_tied q tmu tied = record {
-  queue0 = chosen (Every (IsTied q)) (tmu == 0) (drop 1 q.queue0.items) q.queue0.items (drop_every (IsTied q) q.queue0.items tied.queue0) tied.queue0;
-  queue1 = chosen (Every (IsTied q)) (tmu == 0) q.queue1.items (drop 1 q.queue1.items) tied.queue1 (drop_every (IsTied q) q.queue1.items tied.queue1);
-}
+dropped_tied q tmu tied = search (rules, arith, chosen, drop_every)
 
 given_stays : (second : Bool) (tmu : ℕ) (row : Option (List ℕ)) (first other : Option Thread)
     → (JobStays first (if second then first else option_map (with_result tmu row) first)) × (JobStays other (if second then option_map (with_result tmu row) other else other))
-given_stays true tmu row first other = (λ job is. is, stays_mapped (with_result tmu row) (λ t. refl) other)
-given_stays false tmu row first other = (stays_mapped (with_result tmu row) (λ t. refl) first, λ job is. is)
+given_stays second tmu row first other = search (rules, arith, stays_mapped)
 
 given_tied : (q : Qpu) (tmu : ℕ) (second : Bool) (row : Option (List ℕ)) → QpuTied q → QpuTied (given q tmu second row)
 unfolding given
-given_tied q tmu second row tied =
-    let p : Qpu = given q tmu second row in
-    let stays = given_stays second tmu row q.first q.other in
-    record { queue0 = tied_stays q p stays.0 stays.1 q.queue0.items tied.queue0; queue1 = tied_stays q p stays.0 stays.1 q.queue1.items tied.queue1 }
+given_tied q tmu second row tied = search (rules, arith, given_stays, tied_stays)
 
 pub served_tied : (q : Qpu) (tmu : ℕ) (r : Request) (row : Option (List ℕ)) → QpuTied q → QpuTied (served q tmu r row)
 served_tied q tmu r row tied = given_tied (dropped q tmu) tmu r.second row (dropped_tied q tmu tied)
@@ -97,8 +68,7 @@ abbrev IsOther : Bool → Request → Type 0
 IsOther second r = is_of second r ≡ false
 
 none_by : (second : Bool) (r : Request) (rest : ℕ) (here : Bool) → is_of second r ≡ here → (if here then 1 else 0) + rest ≡ 0 → (IsOther second r) × (rest ≡ 0)
-none_by second r rest true is none = absurd (omega (arith, none))
-none_by second r rest false is none = (is, omega (arith, none))
+none_by second r rest here is none = search (rules, arith)
 
 none_of : (second : Bool) (requests : List Request) → queued second requests ≡ 0 → Every (IsOther second) requests
 none_of second [] none = tt
@@ -107,19 +77,13 @@ none_of second (r ∷ requests) none =
     (both.0, none_of second requests both.1)
 
 none_queued : (second : Bool) (q : Qpu) → has_none second q ≡ true → (Every (IsOther second) q.queue0.items) × (Every (IsOther second) q.queue1.items)
-none_queued second q none =
-    let both = and_parts (queued second q.queue0.items == 0) (queued second q.queue1.items == 0) none in
-    let zero0 : queued second q.queue0.items ≡ 0 = grind (arith, common_steps, both.0) in
-    let zero1 : queued second q.queue1.items ≡ 0 = grind (arith, common_steps, both.1) in
-    (none_of second q.queue0.items zero0, none_of second q.queue1.items zero1)
+none_queued second q none = search (rules, arith, and_parts, none_of)
 
 first_stays : (q : Qpu) (t : Thread) (job : ℕ) (second : Bool) → not second ≡ false → IsOf job (if second then q.other else q.first) → IsOf job (if second then q.other else Some t)
-first_stays q t job true elsewhere tied = tied
-first_stays q t job false elsewhere tied = absurd (false≢true (sym elsewhere))
+first_stays q t job second elsewhere tied = search (rules, arith, false≢true)
 
 other_stays : (q : Qpu) (t : Thread) (job : ℕ) (second : Bool) → second ≡ false → IsOf job (if second then q.other else q.first) → IsOf job (if second then Some t else q.first)
-other_stays q t job true elsewhere tied = absurd (false≢true (sym elsewhere))
-other_stays q t job false elsewhere tied = tied
+other_stays q t job second elsewhere tied = search (rules, arith, false≢true)
 
 both_give : {X : Type 0} (P Q R : X → Type 0) → ((x : X) → P x → Q x → R x) → (xs : List X) → Every P xs → Every Q xs → Every R xs
 both_give P Q R f [] a b = tt
@@ -155,18 +119,14 @@ in_other_tied threaded q t takes tied =
 
 started_by : (threaded first other : Bool) (t : Thread) (q : Qpu) (qpus rest : List Qpu) → takes_first threaded q ≡ first → takes_other threaded q ≡ other → QpuTied q → AreTied qpus → AreTied rest
     → AreTied (if first then in_first q t ∷ qpus else (if other then in_other q t ∷ qpus else q ∷ rest))
-started_by threaded true other t q qpus rest takes there tied all later = (in_first_tied threaded q t takes tied, all)
-started_by threaded false true t q qpus rest takes there tied all later = (in_other_tied threaded q t there tied, all)
-started_by threaded false false t q qpus rest takes there tied all later = (tied, later)
+started_by threaded first other t q qpus rest takes there tied all later = search (rules, arith, in_first_tied, in_other_tied)
 
 started_tied : (threaded : Bool) (t : Thread) (qpus : List Qpu) → AreTied qpus → AreTied (started_in threaded t qpus)
 started_tied threaded t [] all = tt
-started_tied threaded t (q ∷ qpus) all =
-    started_by threaded (takes_first threaded q) (takes_other threaded q) t q qpus (started_in threaded t qpus) refl refl all.0 all.1 (started_tied threaded t qpus all.1)
+started_tied threaded t (q ∷ qpus) all = search (rules, arith, started_by, started_tied threaded t qpus all.1)
 
 pub launches_tied : (j : ℕ) (launch : Option Launch) (qpus : List Qpu) → AreTied qpus → AreTied (with_launch j launch qpus)
-launches_tied j None qpus all = all
-launches_tied j (Some launch) qpus all = started_tied launch.threaded (thread_of j launch) qpus all
+launches_tied j launch qpus all = search (rules, arith, started_tied)
 
 -- at the start no request is queued
 pub idle_tied : (n : ℕ) → AreTied (replicate n idle_qpu)

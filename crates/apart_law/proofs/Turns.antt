@@ -1,20 +1,18 @@
 -- What a step of each unit leaves, said over any property of what all units keep, by the job that it was for.
-use Rattle.std.proofs.Common.{◌≡◌, ℕ, Bool, true, false, if◌then◌else◌, List, Option, Some, None, refl, ◌∙◌}
-use Rattle.std.specs.{Prelude.unwrap_or, Int.from_le_bytes, Int.w64}
-use Rattle.field_words.specs.declared.access.Actor.TheVariants.{Binner as TheBinner, Renderer as TheRenderer, Qpu as TheQpu, Tmu as TheTmu}
+use Rattle.std.proofs.Common.{◌≡◌, ℕ, Bool, if◌then◌else◌, List, Option, Some, None, refl, arith, rules}
+use Rattle.std.specs.{Prelude.unwrap_or}
+use Rattle.field_words.specs.declared.access.Actor.TheVariants.{Qpu as TheQpu, Tmu as TheTmu}
 use Rattle.field_words.specs.{Words.u32_at, declared.access.Actor.Actor}
-use Rattle.machine_plan.specs.{declared.who.Who.Who, Memory.bytes_at, Plan.Plan, Plan.Done, Plan.Wilds, Plan.Reads, Plan.carried}
+use Rattle.machine_plan.specs.{declared.who.Who.Who, Plan.Plan, Plan.Done, Plan.Wilds, Plan.Reads, Plan.carried}
 use Rattle.machine_plan.specs.World.{Turn, mapped}
 use Rattle.machine_plan.proofs.{Plans.keeps_weaker, Worlds.keeps_mapped}
-use Rattle.list_machine.specs.Lists.{Lists, Turned, quiet, binner_of, renderer_of, binner_ended, renderer_ended}
-use Rattle.list_machine.specs.{Binner.binner_plan, Renderer.renderer_plan}
-use Rattle.qpu_machine.specs.Qpu.{active_of, job_of_thread, plan_by, went, stopped, stopped_by, queue_of, oldest, job_of_request, dropped, served, serving, free_in}
+use Rattle.list_machine.specs.Lists.{Lists, Turned, quiet}
+use Rattle.qpu_machine.specs.Qpu.{active_of, job_of_thread, plan_by, went, stopped, stopped_by, queue_of, oldest, job_of_request, dropped, served, serving}
 use Rattle.qpu_machine.specs.Writes.{awake, past_uniform, written_at, added, multiplied, written, stored, loaded, went_on, worked, rested}
 use Rattle.qpu_machine.specs.{declared.state.Qpu.Qpu, declared.state.Request.Request, declared.state.Thread.Thread, Request.ask_plan}
 use Rattle.qpu_machine.specs.Step.{ThreadTurn, executed, executed_with, word_plan, thread_plan}
-use Rattle.qpu_machine.specs.Wild.{takes_one, is_wild}
 use Rattle.machine.specs.Step.{Event, job_of, turn, with_lists, with_qpu, binner_turn, renderer_turn, qpu_turn, tmu_turn, unit_turn, number_or_zero, qpu_job, tmu_job, unit_job}
-use Rattle.machine.specs.State.{Units, State, Picked, item_at, binner_job, renderer_job}
+use Rattle.machine.specs.State.{Units, State, Picked, item_at}
 use Rattle.apart_law.proofs.Plans.{ComesTo, comes_to, comes_to_any}
 
 -- an instruction leaves its thread to its job
@@ -32,15 +30,11 @@ job_past t = refl
 
 word_by : (t : Thread) (who : Who) (word : ℕ) (words m : List ℕ) (wild one : Bool)
     → ComesTo who (λ turn. turn.thread.job ≡ t.job) (if wild then Wilds else (if one then Reads t.uniforms 4 (λ bytes. Done (executed word (u32_at bytes 0) words (awake words (past_uniform t)))) else Done (executed word 0 words (awake words t)))) m
-word_by t who word words m true one = tt
-word_by t who word words m false true = (tt, job_stays word (u32_at (bytes_at m t.uniforms 4) 0) words (awake words (past_uniform t)) ∙ (job_awake words (past_uniform t) ∙ job_past t))
-word_by t who word words m false false = job_stays word 0 words (awake words t) ∙ job_awake words t
+word_by t who word words m wild one = search (rules, arith, job_stays, job_awake, job_past)
 
 thread_comes : (t : Thread) (who : Who) (words m : List ℕ) → ComesTo who (λ turn. turn.thread.job ≡ t.job) (thread_plan t words) m
 unfolding thread_plan word_plan
-thread_comes t who words m =
-    let word = from_le_bytes w64 (bytes_at m t.place 8) in
-    (tt, word_by t who word words m (is_wild t word) (takes_one t word))
+thread_comes t who words m = search (rules, arith, word_by)
 
 -- P of the job that a step was for, and of all that a step of a unit for it can leave
 pub record AllTurns (u : Units) (P : ℕ → Units → Type 0) : Type 0 where
@@ -65,12 +59,10 @@ lists_left u P all who plan ended m =
     (all.lists who.job (quiet ended))
 
 binner_left : (u : Units) (P : ℕ → Units → Type 0) → AllTurns u P → (found : Option (Picked Lists)) (words m : List ℕ) → P (binner_turn u found words).who.job (left_by_turn (binner_turn u found words) m)
-binner_left u P all None words m = all.none 0
-binner_left u P all (Some b) words m = lists_left u P all (binner_of b.number) (binner_plan b.item (free_in u.qpus) words) (binner_ended b.item) m
+binner_left u P all found words m = search (rules, arith, lists_left)
 
 renderer_left : (u : Units) (P : ℕ → Units → Type 0) → AllTurns u P → (found : Option (Picked Lists)) (words m : List ℕ) → P (renderer_turn u found words).who.job (left_by_turn (renderer_turn u found words) m)
-renderer_left u P all None words m = all.none 0
-renderer_left u P all (Some r) words m = lists_left u P all (renderer_of r.number) (renderer_plan r.item (free_in u.qpus) words) (renderer_ended r.item) m
+renderer_left u P all found words m = search (rules, arith, lists_left)
 
 -- a processor by its active thread
 abbrev pub thread_turn : Units → ℕ → Qpu → Option Thread → List ℕ → Turn Units
@@ -95,8 +87,7 @@ thread_left u P all k q (Some t) words m here active =
     (all.stops k q t here active)
 
 qpu_left : (u : Units) (P : ℕ → Units → Type 0) → AllTurns u P → (k : ℕ) (found : Option Qpu) (words m : List ℕ) → item_at u.qpus k ≡ found → P (qpu_turn u k found words).who.job (left_by_turn (qpu_turn u k found words) m)
-qpu_left u P all k None words m here = all.none 0
-qpu_left u P all k (Some q) words m here = thread_left u P all k q (active_of q) words m here refl
+qpu_left u P all k found words m here = search (rules, arith, thread_left)
 
 -- a TMU by its oldest request
 abbrev pub request_turn : Units → ℕ → ℕ → Qpu → Option Request → List ℕ → Turn Units
@@ -120,34 +111,24 @@ request_left u P all k n q (Some r) words m here is =
     (all.drops k n q r here is)
 
 tmu_left : (u : Units) (P : ℕ → Units → Type 0) → AllTurns u P → (k n : ℕ) (found : Option Qpu) (words m : List ℕ) → item_at u.qpus k ≡ found → P (tmu_turn u k n found words).who.job (left_by_turn (tmu_turn u k n found words) m)
-tmu_left u P all k n None words m here = all.none 0
-tmu_left u P all k n (Some q) words m here = request_left u P all k n q (oldest (queue_of q n)) words m here refl
+tmu_left u P all k n found words m here = search (rules, arith, request_left)
 
 -- each unit
 pub unit_left : (u : Units) (P : ℕ → Units → Type 0) → AllTurns u P → (unit : Actor) (words m : List ℕ) → P (unit_turn u unit words).who.job (left_by_turn (unit_turn u unit words) m)
-unit_left u P all TheBinner words m = binner_left u P all (binner_job u) words m
-unit_left u P all TheRenderer words m = renderer_left u P all (renderer_job u) words m
-unit_left u P all (TheQpu k) words m = qpu_left u P all k (item_at u.qpus k) words m refl
-unit_left u P all (TheTmu k n) words m = tmu_left u P all k n (item_at u.qpus k) words m refl
+unit_left u P all unit words m = search (rules, arith, binner_left, renderer_left, qpu_left, tmu_left)
 
 -- the job for which a unit steps is that of its turn
 list_job : (u : Units) (found : Option (Picked Lists)) (words : List ℕ) → ((binner_turn u found words).who.job ≡ number_or_zero found) × ((renderer_turn u found words).who.job ≡ number_or_zero found)
-list_job u None words = (refl, refl)
-list_job u (Some one) words = (refl, refl)
+list_job u found words = search (rules, arith)
 
 qpu_job_is : (u : Units) (k : ℕ) (found : Option Qpu) (words : List ℕ) → (qpu_turn u k found words).who.job ≡ qpu_job found
-qpu_job_is u k None words = refl
-qpu_job_is u k (Some q) words = refl
+qpu_job_is u k found words = search (rules, arith)
 
 tmu_job_is : (u : Units) (k n : ℕ) (found : Option Qpu) (words : List ℕ) → (tmu_turn u k n found words).who.job ≡ tmu_job found n
-tmu_job_is u k n None words = refl
-tmu_job_is u k n (Some q) words = refl
+tmu_job_is u k n found words = search (rules, arith)
 
 pub job_is : (u : Units) (unit : Actor) (words : List ℕ) → (unit_turn u unit words).who.job ≡ unit_job u unit
-job_is u TheBinner words = (list_job u (binner_job u) words).0
-job_is u TheRenderer words = (list_job u (renderer_job u) words).1
-job_is u (TheQpu k) words = qpu_job_is u k (item_at u.qpus k) words
-job_is u (TheTmu k n) words = tmu_job_is u k n (item_at u.qpus k) words
+job_is u unit words = search (rules, arith, list_job, qpu_job_is, tmu_job_is)
 
 pub turn_job : (s : State) (event : Event) → (turn s.units event).who.job ≡ job_of s event.unit
 unfolding turn job_of

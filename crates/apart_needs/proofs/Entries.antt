@@ -1,5 +1,5 @@
 -- Steps whose entries are the same but for one part, by computing, and where what they give differs.
-use Rattle.std.proofs.Common.{◌==◌, inl, Bool, false, List, [], ◌∷◌, refl, arith, ap}
+use Rattle.std.proofs.Common.{◌==◌, Bool, false, List, [], ◌∷◌, arith, rules}
 use Rattle.std.proofs.lemmas.Bool.{true≢false}
 use Rattle.std.specs.{Prelude.is_some, List.list_any}
 use Rattle.field_words.specs.{Words.u16_at, Words.u32_at, Words.rounded_up, declared.access.Access.Access}
@@ -23,32 +23,8 @@ runs_in_first (p ∷ ps) = is_some p.first
 
 pub words_needed : WordsAreNeeded
 unfolding u16_at u32_at rounded_up bytes_at stored tiles_of further_offset block_place has_room is_full next_place link_place put_here put_plan record_place launch_plan start_as start_plan is_threaded binner_ready binner_plan is_due one_done not_due chosen_tile tile_plan work_plan work_may takes_first takes_other in_first in_other thread_of enabled ready turn job_of at_first
-words_needed = record {
-  may_step = refl;
-  other_may = refl;
-  own = refl;
-  other_own = refl;
-  alike = record { units = record { jobs = λ j own. refl; qpus = refl }; memory = record { long = refl; same = λ p lies. refl } };
-  entries = refl;
-  stays = (inl (record { from = omega arith; upto = omega arith }), tt);
-  differ = λ gave. true≢false (ap at_first gave.accesses);
-}
+words_needed = search (rules, arith, true≢false, at_first)
 
 pub slots_needed : SlotsAreNeeded
 unfolding u16_at u32_at rounded_up bytes_at stored tiles_of further_offset block_place has_room is_full next_place link_place put_here put_plan record_place launch_plan start_as start_plan is_threaded binner_ready binner_plan is_due one_done not_due chosen_tile tile_plan work_plan work_may takes_first takes_other in_first in_other thread_of enabled ready turn job_of runs_in_first
-slots_needed = record {
-  may_step = refl;
-  other_may = refl;
-  own = refl;
-  other_own = refl;
-  alike = record { units = record { jobs = λ j own. refl; qpus = refl }; memory = record { long = refl; same = λ p lies. refl } };
-  entries = refl;
-  stays = (
-    inl (record { from = omega arith; upto = omega arith }),
-    (
-      inl (record { from = omega arith; upto = omega arith }),
-      (inl (record { from = omega arith; upto = omega arith }), tt),
-    ),
-  );
-  differ = λ gave. true≢false (ap runs_in_first gave.states.units.qpus);
-}
+slots_needed = search (rules, arith, true≢false, runs_in_first)

@@ -1,5 +1,5 @@
 -- The renderer's steps, by computing, and the byte that differs.
-use Rattle.std.proofs.Common.{◌≤◌, inl, inr, ◌==◌, ℕ, zero, suc, ◌+◌, [], ◌∷◌, Some, refl, arith, ap}
+use Rattle.std.proofs.Common.{◌≤◌, inl, inr, ◌==◌, ℕ, ◌+◌, [], ◌∷◌, Some, refl, arith, ap, rules}
 use Rattle.std.proofs.lemmas.Bool.{false≢true}
 use Rattle.field_words.specs.Words.{u16_at, u32_at, rounded_up}
 use Rattle.packets.specs.{Length.render_taken, Packet.decoded, Packet.packet_text, declared.config.Config.Config}
@@ -25,11 +25,7 @@ four_pixels = record { address = 0; width = 4; height = 1; bits = 4 }
 
 -- no job may write what lies behind the 16 bytes
 list_outside : (p j : ℕ) → 16 ≤ p → Inside (rights_of shared_rights j).writable p 1 → ⊥
-list_outside p zero from (inl lies) = let upto = lies.upto in omega (arith, from, upto)
-list_outside p zero from (inr never) = never
-list_outside p (suc zero) from (inl lies) = let upto = lies.upto in omega (arith, from, upto)
-list_outside p (suc zero) from (inr never) = never
-list_outside p (suc (suc j)) from never = never
+list_outside p j from never = search (rules, arith)
 
 list_fixed : IsFixed shared_rights 16 12
 list_fixed i less j inside = list_outside (16 + i) j (omega arith) inside
@@ -105,10 +101,4 @@ first_differs alike = false≢true (ap (λ byte. byte == 1) (alike.memory.same 0
 
 pub sharing_seen : SharingIsSeen
 unfolding u16_at u32_at rounded_up render_taken decoded microtile_width_of microtile_height_of microtiles_across microtile_number microtile_place_of raster_place general_tiling general_pixel frame_tiling frame_pixel bytes_at stored tile_side covered chosen_byte chosen raster_cover tiled_cover part_place parts_written parts_read cover_written cover_read aligned names_none general_written general_read frame_written whole_written whole_read tile_plan packet_plan renderer_plan may_pass renderer_ready enabled ready turn job_of
-sharing_seen = record {
-  begins = begins_soundly;
-  rests = record { allowed = tt; accesses = refl; last = refl };
-  draws = record { allowed = (refl, (refl, tt)); accesses = refl; last = refl };
-  trails = refl;
-  differ = first_differs;
-}
+sharing_seen = search (rules, arith, begins_soundly, first_differs)

@@ -1,30 +1,28 @@
 -- Two days with the same trail of a client end alike to it.
-use Rattle.std.proofs.Common.{◌≡◌, ◌≢◌, ◌≤◌, ◌<◌, ℕ, zero, suc, ◌+◌, inl, inr, Bool, true, false, if◌then◌else◌, IsTrue, List, [], ◌∷◌, ◌++◌, length, Option, Some, None, IfSome, refl, sym, ◌∙◌, ap, subst, arith, slice_index}
-use Rattle.std.proofs.lemmas.{Bool.false≢true, Bool.cases_lt, List.length-map, List.map-append, Option.slice_get-map}
+use Rattle.std.proofs.Common.{◌≡◌, ◌≢◌, ◌≤◌, ◌<◌, ℕ, zero, suc, ◌+◌, inl, inr, Bool, true, false, if◌then◌else◌, List, [], ◌∷◌, ◌++◌, length, map, Option, Some, None, IfSome, refl, sym, ◌∙◌, ap, subst, arith, slice_index}
+use Rattle.std.proofs.lemmas.{Bool.false≢true, Bool.cases_lt, List.length-map, Option.slice_get-map}
 use Rattle.std.specs.Prelude.{drop, option_map, slice_index_or}
-use Rattle.machine_plan.specs.{Memory.bytes_at, Runs.reached, Runs.found_by, World.Turn}
-use Rattle.machine_plan.specs.Regions.{Interval, Inside, Rights, rights_of, Every, IsIn, IsSafeAccess, Agree, Misses}
-use Rattle.machine_plan.proofs.{Memory.inside_part, Runs.every-weaker}
-use Rattle.machine_plan.proofs.Plans.{kept, length-carried, keeps_accesses, keeps_of, keeps_weaker}
+use Rattle.machine_plan.specs.{Memory.bytes_at, Runs.reached, Runs.found_by}
+use Rattle.machine_plan.specs.Regions.{Interval, Inside}
+use Rattle.machine_plan.proofs.Runs.{every-weaker}
 use Rattle.list_machine.specs.Lists.{Lists, binner_ended, renderer_ended}
 use Rattle.qpu_machine.specs.{declared.state.Qpu.Qpu, declared.state.Request.Request, declared.state.Thread.Thread, Qpu.slot_of}
-use Rattle.machine.specs.State.{Units, item_at, put_at, job_start}
-use Rattle.machine.specs.Step.{Event, may, step, turn}
-use Rattle.apart_law.specs.Part.{Client, Part, accesses_of, part_of, seen, UnitsAlike}
-use Rattle.apart_law.specs.{Steps.StaysIn, Steps.StepsAlike, Tied.AreTied, Tied.IsTied, Tied.QpuTied, Tied.RestsFresh}
+use Rattle.machine.specs.State.{State, Units, item_at, job_start}
+use Rattle.machine.specs.Step.{may}
+use Rattle.apart_law.specs.Part.{Client, Part, accesses_of, part_of, seen, StatesAlike, UnitsAlike}
+use Rattle.apart_law.specs.{Steps.StepsAlike, Tied.AreTied, Tied.IsTied, Tied.QpuTied}
 use Rattle.apart_law.specs.Trail.{entry_of}
-use Rattle.apart_law.proofs.{Own.own_alike_law, Tied.idle_tied, Turns.turn_job, Silent.others_silent_law, Silent.keep_tied_law}
-use Rattle.apart_law.proofs.Parts.{some_same, some_none, sees_none, chosen_of}
-use Rattle.apart_law.proofs.Places.{map_alike, map_at, map_same, put_every, every_at}
+use Rattle.apart_law.proofs.{Own.own_alike_law, Tied.idle_tied, Silent.keep_tied_law}
+use Rattle.apart_law.proofs.Parts.{sees_none, chosen_of}
+use Rattle.apart_law.proofs.Places.{map_alike, map_at, map_same, put_alike, put_elsewhere, put_every, every_at}
 use Rattle.apart_law.proofs.Trails.{AllMay, trails_alike}
-use Rattle.machine_law.specs.Apart.{IsUnshared, regions_of}
-use Rattle.machine_law.specs.Units.{QpuFine, UnitsFine}
-use Rattle.machine_law.proofs.Apart.{has_regions}
+use Rattle.machine_law.specs.Apart.{IsUnshared}
+use Rattle.machine_law.proofs.Apart.{agree_same, entry_none, entry_some, has_regions, own_stays, states_back, states_then, step_silent, units_same}
 use Rattle.day_law.specs.Day.{Admitted, Day, Files, Happening, Steps, Changes, Finds, Admits, Retires, Resets, Job, after, dawn, found_at, found_in, happen, no_rights, rights_in, with_files}
 use Rattle.day_law.specs.Alike.{made, all_made}
-use Rattle.day_law.proofs.{Days.dawn_known, Keeping.happens, Known.IsKnown, Known.keeps, Own.facts, Lists.without}
+use Rattle.day_law.proofs.{Days.dawn_known, Keeping.happens, Known.IsKnown, Known.keeps, Own.facts, Alike.more_rights_are, Alike.rights_without}
 use Rattle.day_apart.specs.Apart.{Note, held_in, noted, is_own_thread, is_own_in, is_own, own_note, moved, own_regions, MayApart, AllMayApart, DaysApart}
-use Rattle.day_apart.proofs.Regions.{regions_same, regions_more, regions_less, rights_more, rights_put, both_rights, both_put, items_more, both_items}
+use Rattle.day_apart.proofs.Regions.{regions_same, regions_more, regions_less, items_more, both_items}
 
 -- What is known of a day, and of two that are alike to the client.
 record KnownApart (mine : Client) (d : Day) : Type 0 where
@@ -33,38 +31,26 @@ record KnownApart (mine : Client) (d : Day) : Type 0 where
   pub unshared : IsUnshared mine (rights_in d.jobs)
 
 record DaysAlike (mine : Client) (d e : Day) : Type 0 where
-  pub units : UnitsAlike mine d.state.units e.state.units
-  pub rights : (j : ℕ) → mine j ≡ true → rights_of (rights_in d.jobs) j ≡ rights_of (rights_in e.jobs) j
-  pub memory : Agree (own_regions mine d) d.state.memory e.state.memory
+  pub states : StatesAlike mine (own_regions mine d) d.state e.state
+  pub rights : (j : ℕ) → mine j ≡ true → item_at (rights_in d.jobs) j ≡ item_at (rights_in e.jobs) j
 
-same_regions : (mine : Client) (d e : Day) → ((j : ℕ) → mine j ≡ true → rights_of (rights_in d.jobs) j ≡ rights_of (rights_in e.jobs) j) → own_regions mine d ≡ own_regions mine e
-same_regions mine d e same = regions_same mine 0 (rights_in d.jobs) (rights_in e.jobs) (λ j k is own. same j (ap mine (let e : j ≡ k = omega (arith, is) in e) ∙ own))
+-- over the regions of the one as over those of the other
+states_over : (mine : Client) (d e : Day) (s t : State) → ((j : ℕ) → mine j ≡ true → item_at (rights_in d.jobs) j ≡ item_at (rights_in e.jobs) j) → StatesAlike mine (own_regions mine e) s t → StatesAlike mine (own_regions mine d) s t
+states_over mine d e s t same alike =
+    record { units = alike.units; memory = record { long = alike.memory.long; same = λ p lies. alike.memory.same p (regions_same mine (rights_in d.jobs) (rights_in e.jobs) same p lies) } }
 
 alike_back : (mine : Client) (d e : Day) → DaysAlike mine d e → DaysAlike mine e d
-alike_back mine d e alike = record {
-  units = record { jobs = λ j own. sym (alike.units.jobs j own); qpus = sym alike.units.qpus };
-  rights = λ j own. sym (alike.rights j own);
-  memory = subst (λ all. Agree all e.state.memory d.state.memory) (same_regions mine d e alike.rights) (record { long = sym alike.memory.long; same = λ p lies. sym (alike.memory.same p lies) });
-}
+alike_back mine d e alike =
+    let rights : (j : ℕ) → mine j ≡ true → item_at (rights_in e.jobs) j ≡ item_at (rights_in d.jobs) j = λ j own. sym (alike.rights j own) in
+    record { states = states_over mine e d e.state d.state rights (states_back mine (own_regions mine d) d.state e.state alike.states); rights = rights }
 
 alike_then : (mine : Client) (d e f : Day) → DaysAlike mine d e → DaysAlike mine e f → DaysAlike mine d f
-alike_then mine d e f first second =
-    let later : Agree (own_regions mine d) e.state.memory f.state.memory = subst (λ all. Agree all e.state.memory f.state.memory) (sym (same_regions mine d e first.rights)) second.memory in
-    record {
-      units = record { jobs = λ j own. first.units.jobs j own ∙ second.units.jobs j own; qpus = first.units.qpus ∙ second.units.qpus };
-      rights = λ j own. first.rights j own ∙ second.rights j own;
-      memory = record { long = first.memory.long ∙ later.long; same = λ p lies. first.memory.same p lies ∙ later.same p lies };
-    }
+alike_then mine d e f first second = record {
+  states = states_then mine (own_regions mine d) d.state e.state f.state first.states (states_over mine d e e.state f.state first.rights second.states);
+  rights = λ j own. first.rights j own ∙ second.rights j own;
+}
 
 -- notes
-note_none : (own : Bool) (note : Note) → (if own then Some note else None) ≡ None → own ≡ false
-note_none true note is = absurd (some_none note is)
-note_none false note is = refl
-
-note_some : (own : Bool) (note x : Note) → (if own then Some note else None) ≡ Some x → (own ≡ true) × (note ≡ x)
-note_some true note x is = (refl, some_same note x is)
-note_some false note x is = absurd (some_none x (sym is))
-
 what_is : (d : Day) (one : Happening) → (noted d one).what ≡ one
 what_is d (Steps event) = refl
 what_is d (Changes m) = refl
@@ -128,102 +114,46 @@ tied_after d Resets tied = idle_tied 12
 known_after : (mine : Client) (d : Day) (one : Happening) → KnownApart mine d → MayApart mine d one → KnownApart mine (happen d one)
 known_after mine d one known can = record { known = happens d one known.known can.may; tied = tied_after d one known.tied; unshared = can.unshared }
 
-rest_fresh : (d : Day) → IsKnown d → Every RestsFresh d.state.units.qpus
-rest_fresh d known = every-weaker (QpuFine (facts d.jobs)) RestsFresh (λ q fine. fine.rests) d.state.units.qpus known.units.qpus
-
--- A step.
-abbrev Region : Day → Event → ℕ → ℕ → Type 0
-Region d event = Inside (rights_of (rights_in d.jobs) (turn d.state.units event).who.job).region
-
-others_leave : (mine : Client) (d : Day) (event : Event) → KnownApart mine d → IsTrue (may d.state event) → mine (turn d.state.units event).who.job ≡ false → (p : ℕ) → Inside (own_regions mine d) p 1
-    → slice_index (step d.state event).state.memory p ≡ slice_index d.state.memory p
-others_leave mine d event known can others p lies =
-    let t : Turn Units = turn d.state.units event in
-    let rights : List Rights = rights_in d.jobs in
-    let has = has_regions mine rights known.unshared in
-    let L = Region d event in
-    let P : List ℕ → Units → Type 0 = λ k next. UnitsFine (facts d.jobs) next in
-    kept t.who t.plan d.state.memory p
-    (keeps_accesses t.who L (Misses p) P t.plan d.state.memory
-    (keeps_of t.who L (IsSafeAccess rights) (Misses p) P
-    (λ way q n safe writes from before. has.apart t.who.job p others lies (inside_part (rights_of rights t.who.job).writable q n p 1 (safe.writes writes) from (omega (arith, before))))
-    t.plan d.state.memory (keeps d event known.known can)))
-
-own_stays : (mine : Client) (d : Day) (event : Event) → KnownApart mine d → IsTrue (may d.state event) → mine (turn d.state.units event).who.job ≡ true → StaysIn (own_regions mine d) (turn d.state.units event) d.state.memory
-own_stays mine d event known can own =
-    let t : Turn Units = turn d.state.units event in
-    let rights : List Rights = rights_in d.jobs in
-    let all : List Interval = own_regions mine d in
-    let has = has_regions mine rights known.unshared in
-    let L = Region d event in
-    let P : List ℕ → Units → Type 0 = λ k next. UnitsFine (facts d.jobs) next in
-    keeps_weaker t.who L (Inside all) (IsIn all) (IsIn all) P (λ k next. Unit {0}) (λ q n lies. has.covers t.who.job q n own lies) (λ a lies. lies) (λ k next fine. tt) t.plan d.state.memory
-    (keeps_of t.who L (IsSafeAccess rights) (IsIn all) P (λ way q n safe. has.covers t.who.job q n own safe.inside) t.plan d.state.memory (keeps d event known.known can))
-
 -- What isn't the client's leaves its part alone.
 abbrev IsSilent : Client → Day → Happening → Type 0
 IsSilent mine d one = (accesses_of mine (made d one) ≡ []) × DaysAlike mine (happen d one) d
 
-same_units : (mine : Client) (u : Units) → UnitsAlike mine u u
-same_units mine u = record { jobs = λ j own. refl; qpus = refl }
-
-same_memory : (all : List Interval) (m : List ℕ) → Agree all m m
-same_memory all m = record { long = refl; same = λ p lies. refl }
-
 silent_found : (mine : Client) (u : Units) (k : ℕ) (second : Bool) (files : Files) (found : Option Qpu) → item_at u.qpus k ≡ found → is_own_in mine second found ≡ false → UnitsAlike mine (found_at u k second files found) u
-silent_found mine u k second files None is other = same_units mine u
+silent_found mine u k second files None is other = units_same mine u
 silent_found mine u k second files (Some q) is other = record { jobs = λ j own. refl; qpus = map_same (part_of mine) u.qpus k q (found_in second files q) is (other_found mine second files q other) }
 
 not_own : (mine : Client) (j k : ℕ) → mine j ≡ true → mine k ≡ false → j ≢ k
 not_own mine j k own other e = false≢true (sym other ∙ (sym (ap mine e) ∙ own))
-
-rights_appended : (jobs : List Admitted) (one : Admitted) → rights_in (jobs ++ one ∷ []) ≡ rights_in jobs ++ one.rights ∷ []
-rights_appended jobs one = map-append (λ (job : Admitted). job.rights) jobs (one ∷ [])
-
-rights_without : (jobs : List Admitted) (j : ℕ) → rights_in (without jobs j) ≡ put_at (rights_in jobs) j no_rights
-rights_without [] j = refl
-rights_without (one ∷ jobs) zero = refl
-rights_without (one ∷ jobs) (suc j) = ap (λ rights. one.rights ∷ rights) (rights_without jobs j)
 
 rights_long : (jobs : List Admitted) → length (rights_in jobs) ≡ length jobs
 rights_long jobs = length-map jobs (λ (one : Admitted). one.rights)
 
 silent : (mine : Client) (d : Day) (one : Happening) → KnownApart mine d → MayApart mine d one → is_own mine d one ≡ false → IsSilent mine d one
 silent mine d (Steps event) known can other =
-    let still = others_silent_law mine d.state event other known.tied (rest_fresh d known.known) in (
-      still.0,
-      record {
-        units = still.1;
-        rights = λ j own. refl;
-        memory = record {
-          long = length-carried (turn d.state.units event).who (turn d.state.units event).plan d.state.memory;
-          same = others_leave mine d event known can.may (ap mine (turn_job d.state event) ∙ other);
-        };
-      },
-    )
+    let gave = step_silent mine (own_regions mine d) (rights_in d.jobs) (facts d.jobs) (has_regions mine (rights_in d.jobs) known.unshared) d.state event other known.tied known.known.units (keeps d event known.known can.may) in
+    (gave.0, record { states = gave.1; rights = λ j own. refl })
 silent mine d (Changes m) known can other =
-    (refl, record { units = same_units mine d.state.units; rights = λ j own. refl; memory = record { long = can.may.long; same = can.leaves } })
+    (refl, record { states = record { units = units_same mine d.state.units; memory = record { long = can.may.long; same = can.leaves } }; rights = λ j own. refl })
 silent mine d (Finds k second files) known can other =
-    let u : Units = d.state.units in
-    (refl, record { units = silent_found mine u k second files (item_at u.qpus k) refl other; rights = λ j own. refl; memory = same_memory (own_regions mine d) d.state.memory })
+    let units = silent_found mine d.state.units k second files (item_at d.state.units.qpus k) refl other in
+    (refl, record { states = record { units = units; memory = agree_same (own_regions mine d) d.state.memory }; rights = λ j own. refl })
 silent mine d (Admits job) known can other =
     let one : Admitted = record { rights = job.rights; plain = job.plain; first = d.state.memory } in
-    let count = known.known.count in
-    let rights : (j : ℕ) → mine j ≡ true → rights_of (rights_in (d.jobs ++ one ∷ [])) j ≡ rights_of (rights_in d.jobs) j =
-    λ j own. ap (λ rs. rights_of rs j) (rights_appended d.jobs one) ∙ rights_more (rights_in d.jobs) job.rights j (λ e. not_own mine j (length d.jobs) own other (e ∙ rights_long d.jobs)) in (
+    let apart : (j : ℕ) → mine j ≡ true → j ≢ length d.jobs = λ j own. not_own mine j (length d.jobs) own other in (
       refl,
       record {
-        units = record { jobs = λ j own. items_more d.state.units.jobs (job_start job.start) j (λ e. not_own mine j (length d.jobs) own other (e ∙ count)); qpus = refl };
-        rights = rights;
-        memory = same_memory (own_regions mine (happen d (Admits job))) d.state.memory;
+        states = record {
+          units = record { jobs = λ j own. items_more d.state.units.jobs (job_start job.start) j (λ e. apart j own (e ∙ known.known.count)); qpus = refl };
+          memory = agree_same (own_regions mine (happen d (Admits job))) d.state.memory;
+        };
+        rights = λ j own. ap (λ rs. item_at rs j) (more_rights_are d.jobs one) ∙ items_more (rights_in d.jobs) job.rights j (λ e. apart j own (e ∙ rights_long d.jobs));
       },
     )
 silent mine d (Retires i) known can other = (
   refl,
   record {
-    units = same_units mine d.state.units;
-    rights = λ j own. ap (λ rs. rights_of rs j) (rights_without d.jobs i) ∙ rights_put (rights_in d.jobs) i j (not_own mine j i own other);
-    memory = same_memory (own_regions mine (happen d (Retires i))) d.state.memory;
+    states = record { units = units_same mine d.state.units; memory = agree_same (own_regions mine (happen d (Retires i))) d.state.memory };
+    rights = λ j own. ap (λ rs. item_at rs j) (rights_without d.jobs i) ∙ put_elsewhere (rights_in d.jobs) i j no_rights (not_own mine j i own other);
   },
 )
 silent mine d Resets known can other = absurd (false≢true (sym other))
@@ -264,52 +194,42 @@ both_admit mine d e job known also number held alike =
     let other : Admitted = record { rights = job.rights; plain = job.plain; first = k } in
     let lists : length d.state.units.jobs ≡ length e.state.units.jobs = known.known.count ∙ (number ∙ sym also.known.count) in
     let long : length (rights_in d.jobs) ≡ length (rights_in e.jobs) = rights_long d.jobs ∙ (number ∙ sym (rights_long e.jobs)) in
-    let memory : Agree (regions_of mine 0 (rights_in d.jobs ++ job.rights ∷ [])) m k = record {
-      long = alike.memory.long;
-      same = λ p lies. elim (regions_more mine 0 (rights_in d.jobs) job.rights p lies) [ inl old ↦ alike.memory.same p old | inr new ↦ held_same job.rights.region m k p held new ];
-    } in
     record {
-      units = record { jobs = λ j own. both_items d.state.units.jobs e.state.units.jobs (job_start job.start) j lists (alike.units.jobs j own); qpus = alike.units.qpus };
-      rights = λ j own. ap (λ rs. rights_of rs j) (rights_appended d.jobs one) ∙ (both_rights (rights_in d.jobs) (rights_in e.jobs) job.rights j long (alike.rights j own) ∙ sym (ap (λ rs. rights_of rs j) (rights_appended e.jobs other)));
-      memory = subst (λ rs. Agree (regions_of mine 0 rs) m k) (sym (rights_appended d.jobs one)) memory;
+      states = record {
+        units = record { jobs = λ j own. both_items d.state.units.jobs e.state.units.jobs (job_start job.start) j lists (alike.states.units.jobs j own); qpus = alike.states.units.qpus };
+        memory = record {
+          long = alike.states.memory.long;
+          same = λ p lies. elim (regions_more mine d.jobs one p lies) [ inl old ↦ alike.states.memory.same p old | inr new ↦ held_same job.rights.region m k p held new ];
+        };
+      };
+      rights = λ j own. ap (λ rs. item_at rs j) (more_rights_are d.jobs one) ∙ (both_items (rights_in d.jobs) (rights_in e.jobs) job.rights j long (alike.rights j own) ∙ sym (ap (λ rs. item_at rs j) (more_rights_are e.jobs other)));
     }
 
 both_retire : (mine : Client) (d e : Day) (i : ℕ) → DaysAlike mine d e → DaysAlike mine (happen d (Retires i)) (happen e (Retires i))
 both_retire mine d e i alike = record {
-  units = alike.units;
-  rights = λ j own. ap (λ rs. rights_of rs j) (rights_without d.jobs i) ∙ (both_put (rights_in d.jobs) (rights_in e.jobs) i j (alike.rights j own) ∙ sym (ap (λ rs. rights_of rs j) (rights_without e.jobs i)));
-  memory = subst (λ rs. Agree (regions_of mine 0 rs) d.state.memory e.state.memory) (sym (rights_without d.jobs i))
-      (record { long = alike.memory.long; same = λ p lies. alike.memory.same p (regions_less mine 0 i (rights_in d.jobs) p lies) });
+  states = record { units = alike.states.units; memory = record { long = alike.states.memory.long; same = λ p lies. alike.states.memory.same p (regions_less mine d.jobs i p lies) } };
+  rights = λ j own. ap (λ rs. item_at rs j) (rights_without d.jobs i) ∙ (put_alike (rights_in d.jobs) (rights_in e.jobs) i j no_rights (alike.rights j own) ∙ sym (ap (λ rs. item_at rs j) (rights_without e.jobs i)));
 }
 
 both_reset : (mine : Client) (d e : Day) → DaysAlike mine d e → DaysAlike mine (happen d Resets) (happen e Resets)
 both_reset mine d e alike =
     let ended : Lists → Lists = λ s. binner_ended (renderer_ended s) in
-    record {
-      units = record {
-        jobs = λ j own. slice_get-map ended d.state.units.jobs j ∙ (ap (option_map ended) (alike.units.jobs j own) ∙ sym (slice_get-map ended e.state.units.jobs j));
-        qpus = refl;
-      };
-      rights = alike.rights;
-      memory = alike.memory;
-    }
+    let jobs : (j : ℕ) → mine j ≡ true → item_at (map ended d.state.units.jobs) j ≡ item_at (map ended e.state.units.jobs) j =
+    λ j own. slice_get-map ended d.state.units.jobs j ∙ (ap (option_map ended) (alike.states.units.jobs j own) ∙ sym (slice_get-map ended e.state.units.jobs j)) in
+    record { states = record { units = record { jobs = jobs; qpus = refl }; memory = alike.states.memory }; rights = alike.rights }
 
 both_same : (mine : Client) (d e : Day) (one : Happening) → KnownApart mine d → KnownApart mine e → MayApart mine d one → MayApart mine e one → DaysAlike mine d e → is_own mine d one ≡ true → is_own mine e one ≡ true → noted d one ≡ noted e one
     → AreDoneAlike mine d e one
 both_same mine d e (Steps event) known also can could alike own too same =
+    let all : List Interval = own_regions mine d in
     let entries : entry_of d.state event ≡ entry_of e.state event = λ i. record { unit = event.unit; second = (same i).second; words = event.words; starts = (same i).starts } in
-    let gave = own_alike_law mine (own_regions mine d) d.state e.state event event can.may could.may own too (record { units = alike.units; memory = alike.memory }) entries
-    (own_stays mine d event known can.may (ap mine (turn_job d.state event) ∙ own)) in
-    (ap (accesses_of mine) gave.accesses, record { units = gave.states.units; rights = alike.rights; memory = gave.states.memory })
+    let gave = own_alike_law mine all d.state e.state event event can.may could.may own too alike.states entries
+    (own_stays mine all (rights_in d.jobs) (facts d.jobs) (has_regions mine (rights_in d.jobs) known.unshared) d.state event own (keeps d event known.known can.may)) in
+    (ap (accesses_of mine) gave.accesses, record { states = gave.states; rights = alike.rights })
 both_same mine d e (Changes m) known also can could alike own too same = absurd (false≢true own)
-both_same mine d e (Finds k second files) known also can could alike own too same = (
-  refl,
-  record {
-    units = both_found mine d.state.units e.state.units k second files (item_at d.state.units.qpus k) (item_at e.state.units.qpus k) refl refl own too alike.units;
-    rights = alike.rights;
-    memory = alike.memory;
-  },
-)
+both_same mine d e (Finds k second files) known also can could alike own too same =
+    let units = both_found mine d.state.units e.state.units k second files (item_at d.state.units.qpus k) (item_at e.state.units.qpus k) refl refl own too alike.states.units in
+    (refl, record { states = record { units = units; memory = alike.states.memory }; rights = alike.rights })
 both_same mine d e (Admits job) known also can could alike own too same = (refl, both_admit mine d e job known also (ap (λ (n : Note). n.number) same) (ap (λ (n : Note). n.held) same) alike)
 both_same mine d e (Retires i) known also can could alike own too same = (refl, both_retire mine d e i alike)
 both_same mine d e Resets known also can could alike own too same = (refl, both_reset mine d e alike)
@@ -321,8 +241,8 @@ Both mine d e one other = (accesses_of mine (made d one) ≡ accesses_of mine (m
 both_alike : (mine : Client) (d e : Day) (one other : Happening) (x : Note) → KnownApart mine d → KnownApart mine e → MayApart mine d one → MayApart mine e other → DaysAlike mine d e → own_note mine d one ≡ Some x → own_note mine e other ≡ Some x
     → Both mine d e one other
 both_alike mine d e one other x known also can could alike first second =
-    let left = note_some (is_own mine d one) (noted d one) x first in
-    let right = note_some (is_own mine e other) (noted e other) x second in
+    let left = entry_some (is_own mine d one) (noted d one) x first in
+    let right = entry_some (is_own mine e other) (noted e other) x second in
     let is : one ≡ other = sym (what_is d one) ∙ (ap (λ (n : Note). n.what) (left.1 ∙ sym right.1) ∙ what_is e other) in
     subst (λ h. MayApart mine e h → is_own mine e h ≡ true → noted d one ≡ noted e h → Both mine d e one h) is
     (λ could too same. both_same mine d e one known also can could alike left.0 too same) could right.0 (left.1 ∙ sym right.1)
@@ -332,11 +252,11 @@ steps_alike mine = record {
   keeps = λ d one known can. known_after mine d one known can;
   others_keep = λ d one known can. known_after mine d one known can;
   quiet = λ d e one known can alike none.
-      let still = silent mine d one known can (note_none (is_own mine d one) (noted d one) none) in
-      (still.0, alike_then mine (happen d one) d e still.1 alike);
+      let gave = silent mine d one known can (entry_none (is_own mine d one) (noted d one) none) in
+      (gave.0, alike_then mine (happen d one) d e gave.1 alike);
   others_quiet = λ d e one known can alike none.
-      let still = silent mine e one known can (note_none (is_own mine e one) (noted e one) none) in
-      (still.0, alike_then mine d e (happen e one) alike (alike_back mine (happen e one) e still.1));
+      let gave = silent mine e one known can (entry_none (is_own mine e one) (noted e one) none) in
+      (gave.0, alike_then mine d e (happen e one) alike (alike_back mine (happen e one) e gave.1));
   both = λ d e one other x known also can could alike first second. both_alike mine d e one other x known also can could alike first second;
 }
 
@@ -359,10 +279,10 @@ dawn_apart mine m = record { known = dawn_known m; tied = idle_tied 12; unshared
 pub days_apart_law : DaysApart
 days_apart_law mine m n long happenings others can could trails =
     let ran = trails_alike (own_note mine) moved mine (MayApart mine) (MayApart mine) (KnownApart mine) (KnownApart mine) (DaysAlike mine) (steps_alike mine) (dawn m) happenings (dawn_apart mine m) (all_may mine (dawn m) happenings can)
-    (dawn n) others (dawn_apart mine n) (record { units = same_units mine (dawn m).state.units; rights = λ j own. refl; memory = record { long = long; same = λ p lies. absurd lies } }) (all_may mine (dawn n) others could) trails in
+    (dawn n) others (dawn_apart mine n) (record { states = record { units = units_same mine (dawn m).state.units; memory = record { long = long; same = λ p lies. absurd lies } }; rights = λ j own. refl }) (all_may mine (dawn n) others could) trails in
     let ends : DaysAlike mine (after (dawn m) happenings) (after (dawn n) others) =
     subst (λ d. DaysAlike mine d (after (dawn n) others)) (reached_is (dawn m) happenings) (subst (DaysAlike mine (reached moved (dawn m) happenings)) (reached_is (dawn n) others) ran.states) in
     record {
       accesses = sym (ap (accesses_of mine) (found_is (dawn m) happenings)) ∙ (ran.accesses ∙ ap (accesses_of mine) (found_is (dawn n) others));
-      memory = ends.memory;
+      memory = ends.states.memory;
     }

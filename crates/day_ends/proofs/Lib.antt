@@ -1,4 +1,2 @@
 pub mod Alone
-pub mod Processors
-pub mod Units
 pub mod Days

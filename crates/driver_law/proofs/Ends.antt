@@ -1,5 +1,5 @@
 -- A driver's job is bounded.
-use Rattle.std.proofs.Common.{◌≡◌, ℕ, false, List, [], ◌∷◌, subst}
+use Rattle.std.proofs.Common.{◌≡◌, ℕ, false, List, [], ◌∷◌, subst, arith, rules}
 use Rattle.machine_plan.specs.Regions.{rights_of, HasReadOnly}
 use Rattle.job_format.specs.Model.{FileModel}
 use Rattle.job_check.specs.Emit.{memory_of}
@@ -8,7 +8,7 @@ use Rattle.accepted_law.proofs.{ByJob.rights_are, Joining.all_ground, Joining.ha
 use Rattle.accepted_ends.specs.Bound.{file_loops, longest_of, job_bound}
 use Rattle.accepted_ends.proofs.Files.{job_short}
 use Rattle.ends_law.specs.Ends.{JobShort}
-use Rattle.day_law.specs.Day.{Day, after, dawn}
+use Rattle.day_law.specs.Day.{Day}
 use Rattle.day_ends.specs.Ends.{IsShortNow}
 use Rattle.day_ends.proofs.{Alone.short_alone, Days.admitted_jobs_end_law}
 use Rattle.driver_law.specs.{Driver.MaySubmit, Driver.job_in, Ends.SubmissionsEnd}
@@ -26,6 +26,4 @@ submitted_short d f j may loopless =
     (short_alone (file_rights f) (plain_of f) (memory_of f) m w j n (start_of f j) has (job_short f j loopless may.inside (grounds j may.inside)))
 
 pub submissions_end_law : SubmissionsEnd
-submissions_end_law memory happenings f j may submits loopless =
-    let d : Day = after (dawn memory) happenings in
-    admitted_jobs_end_law memory happenings (job_in f j) (longest_of f) (job_bound f j) (all_may (dawn memory) happenings may) (may_be_admitted_law d f j submits) (submitted_short d f j submits loopless)
+submissions_end_law memory happenings f j may submits loopless = search (rules, arith, admitted_jobs_end_law, all_may, may_be_admitted_law, submitted_short)

@@ -7,57 +7,84 @@ use Rattle.emitted_facts.proofs.Records.{header_in}
 use Rattle.bin_walks.specs.Walks.{Kept, nothing_kept, kept_after, Walks}
 use Rattle.machine_plan.specs.{declared.launch.Launch.Launch, Regions.Interval, Regions.Rights, Regions.rights_of, Regions.HasReadOnly}
 use Rattle.list_machine.specs.Lists.{lists_start}
-use Rattle.list_law.specs.{Binning.DrawsSo, Emitted.words_in, Emitted.program_in, Lists.ListsFine, Uses.Programs}
+use Rattle.list_law.specs.{Binning.DrawsSo, Emitted.words_in, Emitted.program_in, Lists.ListsFine}
 use Rattle.list_law.proofs.{Emitted.emitted_programs, Logs.same, Start.lists_begin, Start.walks_so}
 use Rattle.qpu_machine.specs.Qpu.{idle_qpu}
 use Rattle.machine.specs.{declared.job.Start.Start, State.job_start, State.units_start}
-use Rattle.machine_law.specs.Begins.{LaunchBegins}
+use Rattle.machine_law.specs.Begins.{LaunchBegins, DrawBegins, JobBegins}
 use Rattle.machine_law.proofs.Begins.{homes_stay_law, fetches_stay, single_stays, word_stays, record_stays, text_stays}
 use Rattle.ends_law.specs.{Ends.DrawShort, Ends.JobShort, Loops.IsShort, Room.room_of}
-use Rattle.ends_law.specs.Left.{EachWithin, LaunchShort, QpuLeft, AllWhole, JobEnds, UnitsLeft}
+use Rattle.ends_law.specs.Left.{EachWithin, LaunchSo, QpuLeft, AllWhole, BinRest, RenderRest, JobEnds, CountedEnds, UnitsLeft}
 use Rattle.ends_law.specs.Steps.{one_if, times, most_times, most_visits, all_entered, job_steps}
 use Rattle.ends_law.proofs.Rooms.{counted_none}
 
--- a program that may be started in each run
-launch_short : (rights : List Rights) (plains : ℕ → List Interval) (first : List ℕ) (w j : ℕ) (launch : Launch) → (begins : LaunchBegins rights plains first j launch) → IsShort w begins.home.code → LaunchShort rights (HasReadOnly rights first) w j launch
-launch_short rights plains first w j launch begins short = record {
-  home = begins.home;
-  short = short;
-  stands = (homes_stay_law rights plains first j begins.home begins.buffers begins.begins).stands;
-  code = begins.code;
-  uniforms = begins.uniforms;
-  threaded = begins.threaded;
-}
-
-program_short : (rights : List Rights) (plains : ℕ → List Interval) (first m : List ℕ) (w j word : ℕ) (threaded there : Bool) (s : ℕ) → threaded ≡ there → words_in m word (code_word s) ≡ words_in first word (code_word s) → words_in m word (stream_word s) ≡ words_in first word (stream_word s)
-    → (begins : LaunchBegins rights plains first j (program_in first word there s)) → IsShort w begins.home.code → LaunchShort rights (HasReadOnly rights first) w j (program_in m word threaded s)
-program_short rights plains first m w j word threaded there s same_flag code stream begins short =
+-- a program that may be started in each run, where S is so of its shader
+program_so : (rights : List Rights) (plains : ℕ → List Interval) (first m : List ℕ) (S : List ℕ → Type 0) (j word : ℕ) (threaded there : Bool) (s : ℕ) → threaded ≡ there → words_in m word (code_word s) ≡ words_in first word (code_word s) → words_in m word (stream_word s) ≡ words_in first word (stream_word s)
+    → (begins : LaunchBegins rights plains first j (program_in first word there s)) → S begins.home.code → LaunchSo (rights_of rights j) (HasReadOnly rights first) S (program_in m word threaded s)
+program_so rights plains first m S j word threaded there s same_flag code stream begins so =
+    let O = LaunchSo (rights_of rights j) (HasReadOnly rights first) S in
     let is : program_in m word threaded s ≡ program_in first word there s = λ i. record { threaded = same_flag i; code = code i; uniforms = stream i } in
-    subst (LaunchShort rights (HasReadOnly rights first) w j) (sym is) (launch_short rights plains first w j (program_in first word there s) begins short)
+    subst O (sym is) (record {
+      home = begins.home;
+      so = so;
+      stands = (homes_stay_law rights plains first j begins.home begins.buffers begins.begins).stands;
+      code = begins.code;
+      uniforms = begins.uniforms;
+      threaded = begins.threaded;
+    })
 
-programs_short : (rights : List Rights) (plains : ℕ → List Interval) (first m : List ℕ) (w j word : ℕ) (packet : List ℕ) → DrawShort rights plains first w j word packet → HasReadOnly rights first m
-    → Programs (rights_of rights j).region (LaunchShort rights (HasReadOnly rights first) w j) m word
-programs_short rights plains first m w j word packet draws has =
-    let begins = draws.begins in
-    let room = header_in word in
-    let stays : (i : ℕ) → i < 9 → words_in m word i ≡ words_in first word i = λ i below. word_stays rights first m j word i begins.record_stands begins.record_fixed has (omega (arith, room, below)) in
-    let single : not (is_single (words_in m word)) ≡ not (is_single (words_in first word)) = single_stays (words_in m word) (words_in first word) (stays 0 (omega arith)) in
-    emitted_programs (rights_of rights j).region (LaunchShort rights (HasReadOnly rights first) w j) m word (record_stays rights first m j word begins.record_fixed has begins.record_stands)
-    (program_short rights plains first m w j word (not (is_single (words_in m word))) (not (is_single (words_in first word))) 0 single (stays 1 (omega arith)) (stays 2 (omega arith)) begins.fragment draws.fragment)
-    (program_short rights plains first m w j word false false 1 refl (stays 4 (omega arith)) (stays 5 (omega arith)) begins.vertex draws.vertex)
-    (program_short rights plains first m w j word false false 2 refl (stays 7 (omega arith)) (stays 8 (omega arith)) begins.coordinate draws.coordinate)
-
-draws_short : (rights : List Rights) (plains : ℕ → List Interval) (first : List ℕ) (w j word : ℕ) (packet : List ℕ) → DrawShort rights plains first w j word packet
-    → DrawsSo (rights_of rights j) (HasReadOnly rights first) (LaunchShort rights (HasReadOnly rights first) w j) word packet
-draws_short rights plains first w j word packet draws = record {
-  fetches = λ m has. fetches_stay rights plains first m j word packet draws.begins has;
-  programs = λ m has. programs_short rights plains first m w j word packet draws has;
+pub draws_so : (rights : List Rights) (plains : ℕ → List Interval) (first : List ℕ) (S : List ℕ → Type 0) (j word : ℕ) (packet : List ℕ) → (begins : DrawBegins rights plains first j word packet)
+    → S begins.fragment.home.code → S begins.vertex.home.code → S begins.coordinate.home.code → DrawsSo (rights_of rights j) (HasReadOnly rights first) (LaunchSo (rights_of rights j) (HasReadOnly rights first) S) word packet
+draws_so rights plains first S j word packet begins fragment vertex coordinate = record {
+  fetches = λ m has. fetches_stay rights plains first m j word packet begins has;
+  programs = λ m has.
+      let room = header_in word in
+      let stays : (i : ℕ) → i < 9 → words_in m word i ≡ words_in first word i = λ i below. word_stays rights first m j word i begins.record_stands begins.record_fixed has (omega (arith, room, below)) in
+      let single : not (is_single (words_in m word)) ≡ not (is_single (words_in first word)) = single_stays (words_in m word) (words_in first word) (stays 0 (omega arith)) in
+      emitted_programs (rights_of rights j).region (LaunchSo (rights_of rights j) (HasReadOnly rights first) S) m word (record_stays rights first m j word begins.record_fixed has begins.record_stands)
+      (program_so rights plains first m S j word (not (is_single (words_in m word))) (not (is_single (words_in first word))) 0 single (stays 1 (omega arith)) (stays 2 (omega arith)) begins.fragment fragment)
+      (program_so rights plains first m S j word false false 1 refl (stays 4 (omega arith)) (stays 5 (omega arith)) begins.vertex vertex)
+      (program_so rights plains first m S j word false false 2 refl (stays 7 (omega arith)) (stays 8 (omega arith)) begins.coordinate coordinate);
 }
+
+-- A job's lists at their beginnings, where O is so of each program that it starts.
+pub lists_so : (rights : List Rights) (plains : ℕ → List Interval) (first : List ℕ) (O : Launch → Type 0) (j : ℕ) (start : Start) → (begins : JobBegins rights plains first j start)
+    → Walks begins.config (DrawsSo (rights_of rights j) (HasReadOnly rights first) O) nothing_kept begins.packets → ListsFine (rights_of rights j) (HasReadOnly rights first) O begins.config begins.frame (job_start start)
+lists_so rights plains first O j start begins walks =
+    let Fine = ListsFine (rights_of rights j) (HasReadOnly rights first) O begins.config begins.frame in
+    let all : Fine (lists_start start.bin_place (length (joined_bytes begins.packets)) start.render_place (length (slots_text begins.slots))) =
+    lists_begin (rights_of rights j) (HasReadOnly rights first) O begins.config begins.frame start.bin_place start.render_place begins.packets begins.slots
+    (record { walks = walks; stands = text_stays rights first j start.bin_place (joined_bytes begins.packets) begins.bin_text; reads = begins.bin_text.reads })
+    (record {
+      walks = begins.render_walks;
+      fit = begins.render_fits;
+      sets = begins.render_sets;
+      stands = text_stays rights first j start.render_place (slots_text begins.slots) begins.render_text;
+      reads = begins.render_text.reads;
+    }) in
+    let binned : Fine (lists_start start.bin_place start.bin_len start.render_place (length (slots_text begins.slots))) =
+    subst (λ n. Fine (lists_start start.bin_place n start.render_place (length (slots_text begins.slots)))) (sym begins.bin_len) all in
+    subst (λ n. Fine (lists_start start.bin_place start.bin_len start.render_place n)) (sym begins.render_len) binned
 
 -- packets that walk are whole
 pub walks_whole : (c : Config) (R : ℕ → List ℕ → Type 0) (kept : Kept) (packets : List (List ℕ)) → Walks c R kept packets → AllWhole packets
 walks_whole c R kept [] walks = tt
 walks_whole c R kept (packet ∷ packets) walks = (record { whole = walks.0.whole; known = walks.0.known }, walks_whole c R (kept_after kept packet) packets walks.1)
+
+pub bin_starts : (rights : List Rights) (plains : ℕ → List Interval) (first : List ℕ) (j : ℕ) (start : Start) (R : ℕ → List ℕ → Type 0) → (begins : JobBegins rights plains first j start) → Walks begins.config R nothing_kept begins.packets
+    → BinRest (HasReadOnly rights first) start.bin_place (start.bin_place + start.bin_len) begins.packets
+bin_starts rights plains first j start R begins walks = record {
+  ends = ap (λ n. start.bin_place + n) (sym begins.bin_len);
+  stands = text_stays rights first j start.bin_place (joined_bytes begins.packets) begins.bin_text;
+  whole = walks_whole begins.config R nothing_kept begins.packets walks;
+}
+
+pub render_starts : (rights : List Rights) (plains : ℕ → List Interval) (first : List ℕ) (j : ℕ) (start : Start) → (begins : JobBegins rights plains first j start) → RenderRest (HasReadOnly rights first) start.render_place (start.render_place + start.render_len) begins.slots
+render_starts rights plains first j start begins = record {
+  ends = ap (λ n. start.render_place + n) (sym begins.render_len);
+  stands = text_stays rights first j start.render_place (slots_text begins.slots) begins.render_text;
+  fit = begins.render_fits;
+}
 
 -- No place is among them oftener than the one that is most often.
 rest_most : (one : ℕ) (others all : List ℕ) (n : ℕ) → n ≤ most_times others all → n ≤ most_times (one ∷ others) all
@@ -84,72 +111,50 @@ unfolding most_visits
 often_most place slots = most_by place (all_entered slots) (times place (all_entered slots)) refl
 
 -- All that is left of a job.
-pub job_ends : (rights : List Rights) (plains : ℕ → List Interval) (first : List ℕ) (w j n : ℕ) (start : Start) → JobShort rights plains first w j n start → JobEnds rights (HasReadOnly rights first) w j n (job_start start)
+pub job_ends : (rights : List Rights) (plains : ℕ → List Interval) (first : List ℕ) (w j n : ℕ) (start : Start) → JobShort rights plains first w j n start → JobEnds (rights_of rights j) (HasReadOnly rights first) w n (job_start start)
 unfolding job_steps
 job_ends rights plains first w j n start short =
     let begins = short.begins in
-    let r : Rights = rights_of rights j in
-    let K = HasReadOnly rights first in
-    let O = LaunchShort rights K w j in
-    let all : ListsFine r K O begins.config begins.frame (lists_start start.bin_place (length (joined_bytes begins.packets)) start.render_place (length (slots_text begins.slots))) =
-    lists_begin r K O begins.config begins.frame start.bin_place start.render_place begins.packets begins.slots
-    (record {
-      walks = walks_so begins.config (DrawShort rights plains first w j) (DrawsSo r K O) (λ word packet draws kind. draws_short rights plains first w j word packet draws) nothing_kept begins.packets short.short;
-      stands = text_stays rights first j start.bin_place (joined_bytes begins.packets) begins.bin_text;
-      reads = begins.bin_text.reads;
-    })
-    (record {
-      walks = begins.render_walks;
-      fit = begins.render_fits;
-      sets = begins.render_sets;
-      stands = text_stays rights first j start.render_place (slots_text begins.slots) begins.render_text;
-      reads = begins.render_text.reads;
-    }) in
-    let binned : ListsFine r K O begins.config begins.frame (lists_start start.bin_place start.bin_len start.render_place (length (slots_text begins.slots))) =
-    subst (λ n. ListsFine r K O begins.config begins.frame (lists_start start.bin_place n start.render_place (length (slots_text begins.slots)))) (sym begins.bin_len) all in
     let within = short.within in
     let room : ℕ = room_of begins.packets in
+    let Draws = DrawsSo (rights_of rights j) (HasReadOnly rights first) (LaunchSo (rights_of rights j) (HasReadOnly rights first) (IsShort w)) in
     let none : room - length (job_start start).items ≡ room = omega arith in
     let same_items : (room - length (job_start start).items) * (1 + most_visits begins.slots) ≡ room * (1 + most_visits begins.slots) = ap (λ x. x * (1 + most_visits begins.slots)) none in
     record {
       config = begins.config;
       frame = begins.frame;
       allocates = begins.allocates;
-      lists = subst (λ n. ListsFine r K O begins.config begins.frame (lists_start start.bin_place start.bin_len start.render_place n)) (sym begins.render_len) binned;
+      lists = lists_so rights plains first (LaunchSo (rights_of rights j) (HasReadOnly rights first) (IsShort w)) j start begins
+          (walks_so begins.config (DrawShort rights plains first w j) Draws (λ word packet draws kind. draws_so rights plains first (IsShort w) j word packet draws.begins draws.fragment draws.vertex draws.coordinate) nothing_kept begins.packets short.short);
       most = most_visits begins.slots;
-      left = record {
-        packets = begins.packets;
-        bin_ends = ap (λ n. start.bin_place + n) (sym begins.bin_len);
-        bin_stands = text_stays rights first j start.bin_place (joined_bytes begins.packets) begins.bin_text;
-        whole = walks_whole begins.config (DrawShort rights plains first w j) nothing_kept begins.packets short.short;
-        slots = begins.slots;
-        render_ends = ap (λ n. start.render_place + n) (sym begins.render_len);
-        render_stands = text_stays rights first j start.render_place (slots_text begins.slots) begins.render_text;
-        fit = begins.render_fits;
-        most = room_of begins.packets;
-        few = omega arith;
-        counted = counted_none begins.config;
-        kept_room = omega arith;
-        rest_room = omega arith;
-        often = λ tile. (let most = often_most (begins.config.address + 32 * tile) begins.slots in omega (arith, most));
-        sum = omega (arith, within, same_items);
-      };
+      left = (
+        begins.packets,
+        begins.slots,
+        record {
+          bin = bin_starts rights plains first j start (DrawShort rights plains first w j) begins short.short;
+          render = render_starts rights plains first j start begins;
+          most = room;
+          room = record { few = omega arith; counted = counted_none begins.config; kept = omega arith; rest = omega arith };
+          often = λ tile. (let most = often_most (begins.config.address + 32 * tile) begins.slots in omega (arith, most));
+          sum = omega (arith, within, same_items);
+        },
+      );
     }
 
-each_ends : (rights : List Rights) (plains : ℕ → List Interval) (first : List ℕ) (w k n : ℕ) (starts : List Start) → EachWithin (JobShort rights plains first w) k n starts → EachWithin (JobEnds rights (HasReadOnly rights first) w) k n (map job_start starts)
+each_ends : (rights : List Rights) (plains : ℕ → List Interval) (first : List ℕ) (w k n : ℕ) (starts : List Start) → EachWithin (JobShort rights plains first w) k n starts → EachWithin (CountedEnds (rights_of rights) (HasReadOnly rights first) (λ j. true) w) k n (map job_start starts)
 each_ends rights plains first w k n [] all = tt
-each_ends rights plains first w k n (start ∷ starts) all = (all.0, job_ends rights plains first w k all.0 start all.1, all.2, each_ends rights plains first w (k + 1) (n - all.0) starts all.3)
+each_ends rights plains first w k n (start ∷ starts) all = (all.0, (λ own. job_ends rights plains first w k all.0 start all.1), all.2, each_ends rights plains first w (k + 1) (n - all.0) starts all.3)
 
 -- nothing is left of idle processors
-idle_left : (rights : List Rights) (K : List ℕ → Type 0) (k count : ℕ) → EachWithin (QpuLeft rights K) k 0 (replicate count idle_qpu)
-idle_left rights K k zero = tt
-idle_left rights K k (suc count) = (0, record { firsts = 0; others = 0; first = tt; other = tt; sum = omega arith }, omega arith, idle_left rights K (k + 1) count)
+pub idle_left : (rights : ℕ → Rights) (K : List ℕ → Type 0) (mine : ℕ → Bool) (k count : ℕ) → EachWithin (QpuLeft rights K mine) k 0 (replicate count idle_qpu)
+idle_left rights K mine k zero = tt
+idle_left rights K mine k (suc count) = (0, record { firsts = 0; others = 0; first = tt; other = tt; sum = omega arith }, omega arith, idle_left rights K mine (k + 1) count)
 
-pub start_left : (rights : List Rights) (plains : ℕ → List Interval) (first : List ℕ) (w n : ℕ) (starts : List Start) → EachWithin (JobShort rights plains first w) 0 n starts → UnitsLeft rights (HasReadOnly rights first) w n (units_start starts)
+pub start_left : (rights : List Rights) (plains : ℕ → List Interval) (first : List ℕ) (w n : ℕ) (starts : List Start) → EachWithin (JobShort rights plains first w) 0 n starts → UnitsLeft (rights_of rights) (HasReadOnly rights first) (λ j. true) w n (units_start starts)
 start_left rights plains first w n starts all = record {
   of_jobs = n;
   of_qpus = 0;
   jobs = each_ends rights plains first w 0 n starts all;
-  qpus = idle_left rights (HasReadOnly rights first) 0 12;
+  qpus = idle_left (rights_of rights) (HasReadOnly rights first) (λ j. true) 0 12;
   sum = omega arith;
 }

@@ -4,6 +4,7 @@ pub mod Threads
 pub mod Processors
 pub mod Visits
 pub mod Rooms
+pub mod Rests
 pub mod Binner
 pub mod Renderer
 pub mod Machine

@@ -1,34 +1,27 @@
 -- One step of the renderer leaves less, unless it stays at an item.
-use Rattle.std.proofs.Common.{◌≡◌, ◌≤◌, ◌<◌, ℕ, ◌+◌, ◌-◌, ◌*◌, ◌/◌, ◌%◌, ◌==◌, ◌&&◌, not, Bool, true, false, List, [], ◌∷◌, ◌++◌, length, slice_index, Option, Some, None, if◌then◌else◌, refl, sym, ◌∙◌, ap, subst, arith}
+use Rattle.std.proofs.Common.{◌≡◌, ◌≤◌, ◌<◌, ℕ, ◌+◌, ◌-◌, ◌*◌, ◌/◌, ◌%◌, ◌==◌, ◌&&◌, not, Bool, true, false, List, [], ◌∷◌, ◌++◌, length, Option, Some, None, if◌then◌else◌, refl, sym, ◌∙◌, ap, subst, arith}
 use Rattle.std.proofs.{lemmas.Grind.common_steps, lemmas.Bool.Decides.nat_tests}
 use Rattle.std.specs.Prelude.{nat_lt, nat_le, is_some, unwrap_or}
-use Rattle.field_words.specs.Pieces.{joined as joined_bytes}
 use Rattle.packets.specs.declared.packet.Packet.TheVariants.{WaitOnSemaphore, BranchToSubList, StoreTileColor, StoreTileColorAndEnd, StoreFullResolution, LoadFullResolution, StoreTileBuffer, LoadTileBuffer, TileRenderingMode, ClearColors, TileCoordinates}
-use Rattle.packets.specs.{declared.config.Config.Config, declared.packet.Packet.Packet, Length.render_taken}
-use Rattle.packets.specs.Packet.{packet_text, slots_text}
-use Rattle.packets.proofs.Laws.{decoded_text, taken_text}
-use Rattle.render_walks.specs.Walks.{AllFit}
-use Rattle.machine_plan.specs.{declared.who.Who.Who, declared.launch.Free.Free, Choice.word_at, Glance.glanced, Memory.bytes_at}
+use Rattle.packets.specs.{declared.config.Config.Config, declared.packet.Packet.Packet, Packet.packet_text}
+use Rattle.machine_plan.specs.{declared.who.Who.Who, declared.launch.Free.Free, Choice.word_at, Glance.glanced}
 use Rattle.machine_plan.specs.{Plan.Done, Plan.Wilds, World.mapped}
-use Rattle.machine_plan.proofs.{Plans.keeps_weaker, Worlds.keeps_mapped}
 use Rattle.texture_layouts.specs.Format.{general_style, frame_style}
 use Rattle.list_machine.specs.Surfaces.{cover_written, cover_read, aligned, names_none, general_written, general_read, frame_written, whole_written, whole_read, waiting_read}
 use Rattle.list_machine.specs.Renderer.{beyond, with_inside, wait_plan, tile_named, enter_plan, tile_by, branch_plan, tile_plan, at_tile, with_load, act, item_at, at_item, fetched, vertex_plan, program_plan, choice_plan, found_plan, plan_in, renderer_plan, renderer_ready}
 use Rattle.list_machine.specs.{declared.state.Found.Found, declared.state.Frame.Frame, declared.state.Item.Item, declared.state.Load.Load}
-use Rattle.list_machine.specs.{declared.state.Load.TheVariants.Full, declared.state.Load.TheVariants.General, declared.state.Work.Work}
+use Rattle.list_machine.specs.{declared.state.Load.TheVariants.Full, declared.state.Load.TheVariants.General}
 use Rattle.list_machine.specs.{declared.state.Program.Program, declared.state.SubList.SubList, declared.surface.Cover.Cover}
 use Rattle.list_machine.specs.{declared.state.Program.TheVariants.Fragment, declared.state.Program.TheVariants.Vertex, Blocks.tiles_of}
 use Rattle.list_machine.specs.{Lists.Lists, Lists.Turned, Lists.turned_to, Lists.quiet, Cover.cover_for, Cover.part_count, Fetch.fetch_plan}
 use Rattle.list_machine.specs.Start.{start_plan}
-use Rattle.list_machine.proofs.{Items.ready_below, Keeping.packet_keeps, Keeping.written_keep, Keeping.read_keep}
-use Rattle.list_law.proofs.{Bytes.none_left, Bytes.bytes_front, Bytes.bytes_behind, Bytes.byte_front, Bytes.behind_ends, Logs.same}
-use Rattle.list_law.proofs.{Rendering.some_text, Safe.keeps_if}
+use Rattle.list_machine.proofs.{Items.ready_below, Keeping.written_keep, Keeping.read_keep}
+use Rattle.list_law.proofs.{Bytes.none_left, Logs.same, Safe.keeps_if}
 use Rattle.ends_law.specs.Steps.{one_if, work_left, bin_steps, render_steps, times, entered, all_entered}
-use Rattle.ends_law.specs.{Left.is_inside, Left.visits, Left.AllWhole, Left.ListsLeft, Left.JobLeft, Stays.is_at_item, Stays.stays}
-use Rattle.ends_law.specs.Room.{room_of, room_by, Counted}
+use Rattle.ends_law.specs.{Left.is_inside, Left.visits, Left.ListsLeft, Left.StandLeft, Left.JobLeft, Stays.is_at_item, Stays.stays}
 use Rattle.ends_law.proofs.Visits.{stands_at, visits_left, visits_on, visits_past, visits_entered, entered_often}
 use Rattle.ends_law.proofs.Binner.{ListsLess, quiet_less, launch_at_most}
-use Rattle.ends_law.proofs.Plans.{AnyLook, AnyAccess, Comes, comes_any}
+use Rattle.ends_law.proofs.{Plans.AnyLook, Plans.AnyAccess, Plans.Comes, Plans.comes_any, Plans.weaker, Rests.render_behind, Rests.render_skip, Rests.slot_read}
 
 -- Loads and stores come to what the renderer then keeps.
 cover_stored : (who : Who) (P : Lists → Type 0) (cover : Option Cover) (words : List ℕ) (s : Lists) (m : List ℕ) → P s → Comes who P (cover_written cover words (Done s)) m
@@ -95,220 +88,94 @@ branch_goes who P s c address m false config only enter = tt
 branch_goes who P s c address m true config only enter =
     subst (λ (one : Option Config). Comes who P (enter_plan s (tile_by one address)) m) (sym (only refl)) (enters who P s c address (tile_named c address) m refl enter)
 
--- Where the renderer stands behind a packet, in no tile's list; and in the one that the packet goes into.
-record Behind (K : List ℕ → Type 0) (c : Config) (w d n place end : ℕ) (work : Option Work) (there upto : ℕ) (config : Option Config) (blocks : ℕ) (items : List Item) (packet : Packet) (slots : List (Option Packet)) : Type 0 where
-  packets : List (List ℕ)
-  bin_ends : place + length (joined_bytes packets) ≡ end
-  bin_stands : (m : List ℕ) → K m → bytes_at m place (length (joined_bytes packets)) ≡ joined_bytes packets
-  whole : AllWhole packets
-  render_ends : there + length (slots_text slots) ≡ upto
-  render_stands : (m : List ℕ) → K m → bytes_at m there (length (slots_text slots)) ≡ slots_text slots
-  fit : AllFit slots
-  most : ℕ
-  few : length items ≤ most
-  counted : Counted c blocks items
-  kept_room : room_by config ≤ most
-  rest_room : room_of packets ≤ most
-  often : (tile : ℕ) → times (c.address + 32 * tile) (entered packet ++ all_entered slots) + 0 ≤ d
-  sum : bin_steps w packets + work_left w work + (most - length items) * (1 + d) + (1 + length (entered packet) + render_steps slots + 0)
-      + visits c (entered packet ++ all_entered slots) None 0 items ≤ n
-
-passed : (K : List ℕ → Type 0) (c : Config) (w d n place end : ℕ) (work : Option Work) (there upto : ℕ) (config : Option Config) (blocks : ℕ) (items : List Item) (packet : Packet) (slots : List (Option Packet)) → entered packet ≡ []
-    → Behind K c w d n place end work there upto config blocks items packet slots → ListsLeft K c w d (n - 1) place end work there upto None config blocks items
-passed K c w d n place end work there upto config blocks items packet slots none left =
-    let all : bin_steps w left.packets + work_left w work + (left.most - length items) * (1 + d) + (1 + length {A = ℕ} [] + render_steps slots + 0) + visits c ([] ++ all_entered slots) None 0 items ≤ n =
-    subst (λ (es : List ℕ). bin_steps w left.packets + work_left w work + (left.most - length items) * (1 + d) + (1 + length es + render_steps slots + 0) + visits c (es ++ all_entered slots) None 0 items ≤ n) none left.sum in
-    record {
-      packets = left.packets;
-      bin_ends = left.bin_ends;
-      bin_stands = left.bin_stands;
-      whole = left.whole;
-      slots = slots;
-      render_ends = left.render_ends;
-      render_stands = left.render_stands;
-      fit = left.fit;
+-- Behind a packet the renderer is in no tile's list; or in the one that the packet goes into.
+passed : (K : List ℕ → Type 0) (c : Config) (w d n : ℕ) (s : Lists) (packet : Packet) (packets : List (List ℕ)) (slots : List (Option Packet)) → s.renderer.inside ≡ None → entered packet ≡ []
+    → StandLeft K c w d n s None packets (Some packet ∷ slots) → JobLeft K c w d (n - 1) (beyond s (length (packet_text packet)))
+passed K c w d n s packet packets slots outside none left =
+    let before : ℕ = bin_steps w packets + work_left w s.binner.work + (left.most - length s.items) * (1 + d) in
+    let all : before + (1 + length {A = ℕ} [] + render_steps slots + 0) + visits c ([] ++ all_entered slots) None 0 s.items ≤ n =
+    subst (λ (es : List ℕ). before + (1 + length es + render_steps slots + 0) + visits c (es ++ all_entered slots) None 0 s.items ≤ n) none left.sum in
+    let behind : ListsLeft K c w d (n - 1) s.binner.place s.binner.end s.binner.work (s.renderer.place + length (packet_text packet)) s.renderer.end None s.binner.kept.config s.blocks s.items packets slots = record {
+      bin = left.bin;
+      render = render_behind K s.renderer.place s.renderer.end packet slots left.render;
       most = left.most;
-      few = left.few;
-      counted = left.counted;
-      kept_room = left.kept_room;
-      rest_room = left.rest_room;
+      room = left.room;
       often = λ tile. subst (λ (es : List ℕ). times (c.address + 32 * tile) (es ++ all_entered slots) + 0 ≤ d) none (left.often tile);
       sum = omega (arith, all);
-    }
+    } in
+    (packets, slots, subst (λ (inside : Option SubList). ListsLeft K c w d (n - 1) s.binner.place s.binner.end s.binner.work (s.renderer.place + length (packet_text packet)) s.renderer.end inside s.binner.kept.config s.blocks s.items packets slots) (sym outside) behind)
 
-gone_in : (K : List ℕ → Type 0) (c : Config) (w d n place end : ℕ) (work : Option Work) (there upto : ℕ) (config : Option Config) (blocks : ℕ) (items : List Item) (address tile : ℕ) (slots : List (Option Packet)) → address ≡ c.address + 32 * tile
-    → Behind K c w d n place end work there upto config blocks items (BranchToSubList address) slots → ListsLeft K c w d (n - 1) place end work there upto (stands_at tile 0) config blocks items
-gone_in K c w d n place end work there upto config blocks items address tile slots is left =
+gone_in : (K : List ℕ → Type 0) (c : Config) (w d n : ℕ) (s : Lists) (address tile : ℕ) (packets : List (List ℕ)) (slots : List (Option Packet)) → address ≡ c.address + 32 * tile
+    → StandLeft K c w d n s None packets (Some (BranchToSubList address) ∷ slots) → JobLeft K c w d (n - 1) (with_inside (beyond s (length (packet_text (BranchToSubList address)))) (stands_at tile 0))
+gone_in K c w d n s address tile packets slots is left =
     let sum = left.sum in
-    let fewer = visits_entered c address tile (all_entered slots) 0 items is in
-    record {
-      packets = left.packets;
-      bin_ends = left.bin_ends;
-      bin_stands = left.bin_stands;
-      whole = left.whole;
-      slots = slots;
-      render_ends = left.render_ends;
-      render_stands = left.render_stands;
-      fit = left.fit;
-      most = left.most;
-      few = left.few;
-      counted = left.counted;
-      kept_room = left.kept_room;
-      rest_room = left.rest_room;
-      often = λ one. entered_often c address tile (all_entered slots) one d is (left.often one);
-      sum = omega (arith, sum, fewer);
-    }
-
--- A packet that goes into no tile's list.
-on : (K : List ℕ → Type 0) (c : Config) (w d n : ℕ) (s : Lists) (len : ℕ) (packet : Packet) (slots : List (Option Packet)) → s.renderer.inside ≡ None → entered packet ≡ []
-    → Behind K c w d n s.binner.place s.binner.end s.binner.work (s.renderer.place + len) s.renderer.end s.binner.kept.config s.blocks s.items packet slots → JobLeft K c w d (n - 1) (beyond s len)
-on K c w d n s len packet slots outside none left =
-    subst (λ (inside : Option SubList). ListsLeft K c w d (n - 1) s.binner.place s.binner.end s.binner.work (s.renderer.place + len) s.renderer.end inside s.binner.kept.config s.blocks s.items) (sym outside)
-    (passed K c w d n s.binner.place s.binner.end s.binner.work (s.renderer.place + len) s.renderer.end s.binner.kept.config s.blocks s.items packet slots none left)
+    let fewer = visits_entered c address tile (all_entered slots) 0 s.items is in (
+      packets,
+      slots,
+      record {
+        bin = left.bin;
+        render = render_behind K s.renderer.place s.renderer.end (BranchToSubList address) slots left.render;
+        most = left.most;
+        room = left.room;
+        often = λ one. entered_often c address tile (all_entered slots) one d is (left.often one);
+        sum = omega (arith, sum, fewer);
+      },
+    )
 
 -- What a packet says.
-act_goes : (who : Who) (K : List ℕ → Type 0) (c : Config) (w d n : ℕ) (s : Lists) (len : ℕ) (words m : List ℕ) (packet : Packet) (slots : List (Option Packet)) → s.renderer.inside ≡ None → (s.closed ≡ true → s.binner.kept.config ≡ Some c)
-    → Behind K c w d n s.binner.place s.binner.end s.binner.work (s.renderer.place + len) s.renderer.end s.binner.kept.config s.blocks s.items packet slots
-    → Comes who (JobLeft K c w d (n - 1)) (act (beyond s len) words packet) m
+act_goes : (who : Who) (K : List ℕ → Type 0) (c : Config) (w d n : ℕ) (s : Lists) (words m : List ℕ) (packet : Packet) (packets : List (List ℕ)) (slots : List (Option Packet)) → s.renderer.inside ≡ None → (s.closed ≡ true → s.binner.kept.config ≡ Some c)
+    → StandLeft K c w d n s None packets (Some packet ∷ slots) → Comes who (JobLeft K c w d (n - 1)) (act (beyond s (length (packet_text packet))) words packet) m
 unfolding branch_plan tile_plan whole_written
-act_goes who K c w d n s len words m WaitOnSemaphore slots outside only left = on K c w d n s len WaitOnSemaphore slots outside refl left
-act_goes who K c w d n s len words m (BranchToSubList address) slots outside only left =
-    branch_goes who (JobLeft K c w d (n - 1)) (beyond s len) c address m s.closed s.binner.kept.config only
-    (λ tile is. gone_in K c w d n s.binner.place s.binner.end s.binner.work (s.renderer.place + len) s.renderer.end s.binner.kept.config s.blocks s.items address tile slots is left)
-act_goes who K c w d n s len words m StoreTileColor slots outside only left = frame_stored who (JobLeft K c w d (n - 1)) s.renderer.frame s.renderer.x s.renderer.y words (beyond s len) m (on K c w d n s len StoreTileColor slots outside refl left)
-act_goes who K c w d n s len words m StoreTileColorAndEnd slots outside only left = frame_stored who (JobLeft K c w d (n - 1)) s.renderer.frame s.renderer.x s.renderer.y words (beyond s len) m (on K c w d n s len StoreTileColorAndEnd slots outside refl left)
-act_goes who K c w d n s len words m (StoreFullResolution address) slots outside only left = (tt, on K c w d n s len (StoreFullResolution address) slots outside refl left)
-act_goes who K c w d n s len words m (LoadFullResolution address) slots outside only left = wait_goes who (JobLeft K c w d (n - 1)) (beyond s len) s.renderer.waiting (Full address) m (on K c w d n s len (LoadFullResolution address) slots outside refl left)
-act_goes who K c w d n s len words m (StoreTileBuffer bits address) slots outside only left = general_stored who (JobLeft K c w d (n - 1)) bits address s.renderer.frame s.renderer.x s.renderer.y words (beyond s len) m (on K c w d n s len (StoreTileBuffer bits address) slots outside refl left)
-act_goes who K c w d n s len words m (LoadTileBuffer bits address) slots outside only left = wait_goes who (JobLeft K c w d (n - 1)) (beyond s len) s.renderer.waiting (General bits address) m (on K c w d n s len (LoadTileBuffer bits address) slots outside refl left)
-act_goes who K c w d n s len words m (TileRenderingMode address width height bits) slots outside only left = on K c w d n s len (TileRenderingMode address width height bits) slots outside refl left
-act_goes who K c w d n s len words m (ClearColors first second z stencil) slots outside only left = on K c w d n s len (ClearColors first second z stencil) slots outside refl left
-act_goes who K c w d n s len words m (TileCoordinates x y) slots outside only left = waiting_loaded who (JobLeft K c w d (n - 1)) s.renderer.waiting s.renderer.frame x y (at_tile (beyond s len) x y) m (on K c w d n s len (TileCoordinates x y) slots outside refl left)
-
--- The renderer stands before these slots, in no tile's list.
-record Before (K : List ℕ → Type 0) (c : Config) (w d n place end : ℕ) (work : Option Work) (there upto : ℕ) (config : Option Config) (blocks : ℕ) (items : List Item) (slots : List (Option Packet)) : Type 0 where
-  packets : List (List ℕ)
-  bin_ends : place + length (joined_bytes packets) ≡ end
-  bin_stands : (m : List ℕ) → K m → bytes_at m place (length (joined_bytes packets)) ≡ joined_bytes packets
-  whole : AllWhole packets
-  render_ends : there + length (slots_text slots) ≡ upto
-  render_stands : (m : List ℕ) → K m → bytes_at m there (length (slots_text slots)) ≡ slots_text slots
-  fit : AllFit slots
-  most : ℕ
-  few : length items ≤ most
-  counted : Counted c blocks items
-  kept_room : room_by config ≤ most
-  rest_room : room_of packets ≤ most
-  often : (tile : ℕ) → times (c.address + 32 * tile) (all_entered slots) + 0 ≤ d
-  sum : bin_steps w packets + work_left w work + (most - length items) * (1 + d) + (render_steps slots + 0) + visits c (all_entered slots) None 0 items ≤ n
-
-some_slots : (K : List ℕ → Type 0) (c : Config) (w d n place end : ℕ) (work : Option Work) (there upto : ℕ) (config : Option Config) (blocks : ℕ) (items : List Item) (packet : Packet) (slots : List (Option Packet))
-    → Before K c w d n place end work there upto config blocks items (Some packet ∷ slots) → 1 ≤ n
-some_slots K c w d n place end work there upto config blocks items packet slots left = let sum = left.sum in omega (arith, sum)
-
-slots_go : (who : Who) (K : List ℕ → Type 0) (c : Config) (w d n : ℕ) (s : Lists) (free : Free) (words m : List ℕ) (slots : List (Option Packet)) → K m → s.renderer.inside ≡ None → (s.closed ≡ true → s.binner.kept.config ≡ Some c)
-    → s.renderer.place < s.renderer.end → Before K c w d n s.binner.place s.binner.end s.binner.work s.renderer.place s.renderer.end s.binner.kept.config s.blocks s.items slots → Comes who (ListsLess K c w d n 0) (renderer_plan s free words) m
-slots_go who K c w d n s free words m [] here outside only below left = absurd (none_left s.renderer.place s.renderer.end left.render_ends below)
-slots_go who K c w d n s free words m (None ∷ slots) here outside only below left =
-    slots_go who K c w d n s free words m slots here outside only below
-    (record {
-      packets = left.packets;
-      bin_ends = left.bin_ends;
-      bin_stands = left.bin_stands;
-      whole = left.whole;
-      render_ends = left.render_ends;
-      render_stands = left.render_stands;
-      fit = (let fit = left.fit in fit.1);
-      most = left.most;
-      few = left.few;
-      counted = left.counted;
-      kept_room = left.kept_room;
-      rest_room = left.rest_room;
-      often = left.often;
-      sum = left.sum;
-    })
-slots_go who K c w d n s free words m (Some packet ∷ slots) here outside only below left =
-    let place : ℕ = s.renderer.place in
-    let text : List ℕ = packet_text packet in
-    let later : List ℕ = slots_text slots in
-    let fit = left.fit in
-    let sum = left.sum in
-    let one = some_slots K c w d n s.binner.place s.binner.end s.binner.work s.renderer.place s.renderer.end s.binner.kept.config s.blocks s.items packet slots left in
-    let bytes : bytes_at m place (length text) ≡ text = bytes_front m place text later (left.render_stands m here) in
-    let first : slice_index m place ≡ slice_index text 0 = byte_front m place text (some_text packet) bytes in
-    packet_keeps who AnyLook AnyAccess (λ k turned. ListsLess K c w d n 0 turned) s free words m (length text) text packet outside
-    (ap render_taken first ∙ taken_text packet) bytes (decoded_text packet fit.0) tt tt
-    (keeps_weaker who AnyLook AnyLook AnyAccess AnyAccess (λ k next. JobLeft K c w d (n - 1) next) (λ k next. ListsLess K c w d n 0 (quiet next)) (λ p n h. h) (λ a h. h) (λ k next less. quiet_less K c w d n 0 next one less)
-    (act (beyond s (length text)) words packet) m
-    (act_goes who K c w d n s (length text) words m packet slots outside only
-    (record {
-      packets = left.packets;
-      bin_ends = left.bin_ends;
-      bin_stands = left.bin_stands;
-      whole = left.whole;
-      render_ends = behind_ends place s.renderer.end text later left.render_ends;
-      render_stands = λ k there. bytes_behind k place text later (left.render_stands k there);
-      fit = fit.1;
-      most = left.most;
-      few = left.few;
-      counted = left.counted;
-      kept_room = left.kept_room;
-      rest_room = left.rest_room;
-      often = left.often;
-      sum = omega (arith, sum);
-    })))
+act_goes who K c w d n s words m WaitOnSemaphore packets slots outside only left = passed K c w d n s WaitOnSemaphore packets slots outside refl left
+act_goes who K c w d n s words m (BranchToSubList address) packets slots outside only left =
+    branch_goes who (JobLeft K c w d (n - 1)) (beyond s (length (packet_text (BranchToSubList address)))) c address m s.closed s.binner.kept.config only
+    (λ tile is. gone_in K c w d n s address tile packets slots is left)
+act_goes who K c w d n s words m StoreTileColor packets slots outside only left = frame_stored who (JobLeft K c w d (n - 1)) s.renderer.frame s.renderer.x s.renderer.y words (beyond s (length (packet_text StoreTileColor))) m (passed K c w d n s StoreTileColor packets slots outside refl left)
+act_goes who K c w d n s words m StoreTileColorAndEnd packets slots outside only left = frame_stored who (JobLeft K c w d (n - 1)) s.renderer.frame s.renderer.x s.renderer.y words (beyond s (length (packet_text StoreTileColorAndEnd))) m (passed K c w d n s StoreTileColorAndEnd packets slots outside refl left)
+act_goes who K c w d n s words m (StoreFullResolution address) packets slots outside only left = (tt, passed K c w d n s (StoreFullResolution address) packets slots outside refl left)
+act_goes who K c w d n s words m (LoadFullResolution address) packets slots outside only left = wait_goes who (JobLeft K c w d (n - 1)) (beyond s (length (packet_text (LoadFullResolution address)))) s.renderer.waiting (Full address) m (passed K c w d n s (LoadFullResolution address) packets slots outside refl left)
+act_goes who K c w d n s words m (StoreTileBuffer bits address) packets slots outside only left = general_stored who (JobLeft K c w d (n - 1)) bits address s.renderer.frame s.renderer.x s.renderer.y words (beyond s (length (packet_text (StoreTileBuffer bits address)))) m (passed K c w d n s (StoreTileBuffer bits address) packets slots outside refl left)
+act_goes who K c w d n s words m (LoadTileBuffer bits address) packets slots outside only left = wait_goes who (JobLeft K c w d (n - 1)) (beyond s (length (packet_text (LoadTileBuffer bits address)))) s.renderer.waiting (General bits address) m (passed K c w d n s (LoadTileBuffer bits address) packets slots outside refl left)
+act_goes who K c w d n s words m (TileRenderingMode address width height bits) packets slots outside only left = passed K c w d n s (TileRenderingMode address width height bits) packets slots outside refl left
+act_goes who K c w d n s words m (ClearColors first second z stencil) packets slots outside only left = passed K c w d n s (ClearColors first second z stencil) packets slots outside refl left
+act_goes who K c w d n s words m (TileCoordinates x y) packets slots outside only left = waiting_loaded who (JobLeft K c w d (n - 1)) s.renderer.waiting s.renderer.frame x y (at_tile (beyond s (length (packet_text (TileCoordinates x y)))) x y) m (passed K c w d n s (TileCoordinates x y) packets slots outside refl left)
 
 -- The renderer reads its next packet.
-packet_goes : (who : Who) (K : List ℕ → Type 0) (c : Config) (w d n : ℕ) (s : Lists) (free : Free) (words m : List ℕ) (slots : List (Option Packet)) → K m → s.renderer.inside ≡ None → (s.closed ≡ true → s.binner.kept.config ≡ Some c)
-    → s.renderer.place < s.renderer.end → (left : JobLeft K c w d n s) → left.slots ≡ slots → Comes who (ListsLess K c w d n 0) (renderer_plan s free words) m
-packet_goes who K c w d n s free words m slots here outside only below left is =
-    slots_go who K c w d n s free words m slots here outside only below
-    (record {
-      packets = left.packets;
-      bin_ends = left.bin_ends;
-      bin_stands = left.bin_stands;
-      whole = left.whole;
-      render_ends = subst (λ (ss : List (Option Packet)). s.renderer.place + length (slots_text ss) ≡ s.renderer.end) is left.render_ends;
-      render_stands = λ k there. subst (λ (ss : List (Option Packet)). bytes_at k s.renderer.place (length (slots_text ss)) ≡ slots_text ss) is (left.render_stands k there);
-      fit = subst AllFit is left.fit;
-      most = left.most;
-      few = left.few;
-      counted = left.counted;
-      kept_room = left.kept_room;
-      rest_room = left.rest_room;
-      often = λ tile. subst (λ (inside : Option SubList). times (c.address + 32 * tile) (all_entered slots) + one_if (is_inside inside tile) ≤ d) outside
-          (subst (λ (ss : List (Option Packet)). times (c.address + 32 * tile) (all_entered ss) + one_if (is_inside s.renderer.inside tile) ≤ d) is (left.often tile));
-      sum = subst (λ (inside : Option SubList). bin_steps w left.packets + work_left w s.binner.work + (left.most - length s.items) * (1 + d) + (render_steps slots + one_if (is_some inside)) + visits c (all_entered slots) inside 0 s.items ≤ n) outside
-          (subst (λ (ss : List (Option Packet)). bin_steps w left.packets + work_left w s.binner.work + (left.most - length s.items) * (1 + d) + (render_steps ss + one_if (is_some s.renderer.inside)) + visits c (all_entered ss) s.renderer.inside 0 s.items ≤ n) is left.sum);
-    })
+slots_go : (who : Who) (K : List ℕ → Type 0) (c : Config) (w d n : ℕ) (s : Lists) (free : Free) (words m : List ℕ) (packets : List (List ℕ)) (slots : List (Option Packet)) → K m → s.renderer.inside ≡ None → (s.closed ≡ true → s.binner.kept.config ≡ Some c)
+    → s.renderer.place < s.renderer.end → StandLeft K c w d n s None packets slots → Comes who (ListsLess K c w d n 0) (renderer_plan s free words) m
+slots_go who K c w d n s free words m packets [] here outside only below left = absurd (none_left s.renderer.place s.renderer.end left.render.ends below)
+slots_go who K c w d n s free words m packets (None ∷ slots) here outside only below left =
+    slots_go who K c w d n s free words m packets slots here outside only below
+    (record { bin = left.bin; render = render_skip K s.renderer.place s.renderer.end slots left.render; most = left.most; room = left.room; often = left.often; sum = left.sum })
+slots_go who K c w d n s free words m packets (Some packet ∷ slots) here outside only below left =
+    let one : 1 ≤ n = (let sum = left.sum in omega (arith, sum)) in
+    slot_read who K (ListsLess K c w d n 0) s free words m packet slots here outside left.render
+    (weaker who (JobLeft K c w d (n - 1)) (λ next. ListsLess K c w d n 0 (quiet next)) (λ next less. quiet_less K c w d n 0 next one less) (act (beyond s (length (packet_text packet))) words packet) m
+    (act_goes who K c w d n s words m packet packets slots outside only left))
 
 -- In a tile's list the renderer stands elsewhere, or has left it.
 moved : (K : List ℕ → Type 0) (c : Config) (w d n rest : ℕ) (s : Lists) (inside : Option SubList) → (left : JobLeft K c w d n s) → ((tile : ℕ) → one_if (is_inside inside tile) ≤ one_if (is_inside s.renderer.inside tile))
-    → one_if (is_some inside) + visits c (all_entered left.slots) inside 0 s.items + n ≤ one_if (is_some s.renderer.inside) + visits c (all_entered left.slots) s.renderer.inside 0 s.items + rest
+    → one_if (is_some inside) + visits c (all_entered left.1) inside 0 s.items + n ≤ one_if (is_some s.renderer.inside) + visits c (all_entered left.1) s.renderer.inside 0 s.items + rest
     → JobLeft K c w d rest (with_inside s inside)
 moved K c w d n rest s inside left fewer less =
-    let sum = left.sum in
-    record {
-      packets = left.packets;
-      bin_ends = left.bin_ends;
-      bin_stands = left.bin_stands;
-      whole = left.whole;
-      slots = left.slots;
-      render_ends = left.render_ends;
-      render_stands = left.render_stands;
-      fit = left.fit;
-      most = left.most;
-      few = left.few;
-      counted = left.counted;
-      kept_room = left.kept_room;
-      rest_room = left.rest_room;
-      often = λ tile. (let often = left.often tile in let here = fewer tile in omega (arith, often, here));
-      sum = omega (arith, sum, less);
-    }
+    let stands : StandLeft K c w d n s s.renderer.inside left.0 left.1 = left.2 in
+    let sum = stands.sum in (
+      left.0,
+      left.1,
+      record {
+        bin = stands.bin;
+        render = stands.render;
+        most = stands.most;
+        room = stands.room;
+        often = λ tile. (let often = stands.often tile in let here = fewer tile in omega (arith, often, here));
+        sum = omega (arith, sum, less);
+      },
+    )
 
 inside_some : (K : List ℕ → Type 0) (c : Config) (w d n : ℕ) (s : Lists) (sub : SubList) → JobLeft K c w d n s → s.renderer.inside ≡ Some sub → 1 ≤ n
 inside_some K c w d n s sub left is =
-    let sum = left.sum in
+    let stands : StandLeft K c w d n s s.renderer.inside left.0 left.1 = left.2 in
+    let sum = stands.sum in
     let one : one_if (is_some s.renderer.inside) ≡ 1 = ap (λ (o : Option SubList). one_if (is_some o)) is in
     omega (arith, sum, one)
 
@@ -316,14 +183,14 @@ left_list : (K : List ℕ → Type 0) (c : Config) (w d n : ℕ) (s : Lists) (su
 left_list K c w d n s sub left is =
     let one : one_if (is_some s.renderer.inside) ≡ 1 = ap (λ (o : Option SubList). one_if (is_some o)) is in
     let some = inside_some K c w d n s sub left is in
-    let fewer = visits_left c (all_entered left.slots) s.renderer.inside s.items in
+    let fewer = visits_left c (all_entered left.1) s.renderer.inside s.items in
     moved K c w d n (n - 1) s None left (λ tile. omega arith) (omega (arith, one, some, fewer))
 
 at_same : (K : List ℕ → Type 0) (c : Config) (w d n rest : ℕ) (s : Lists) (sub : SubList) (at : ℕ) (left : JobLeft K c w d n s) → s.renderer.inside ≡ Some sub
-    → visits c (all_entered left.slots) (stands_at sub.tile at) 0 s.items + n ≤ visits c (all_entered left.slots) (Some sub) 0 s.items + rest → JobLeft K c w d rest (at_item s sub.tile at)
+    → visits c (all_entered left.1) (stands_at sub.tile at) 0 s.items + n ≤ visits c (all_entered left.1) (Some sub) 0 s.items + rest → JobLeft K c w d rest (at_item s sub.tile at)
 at_same K c w d n rest s sub at left is less =
     let one : one_if (is_some s.renderer.inside) ≡ 1 = ap (λ (o : Option SubList). one_if (is_some o)) is in
-    let same_visits : visits c (all_entered left.slots) s.renderer.inside 0 s.items ≡ visits c (all_entered left.slots) (Some sub) 0 s.items = ap (λ (o : Option SubList). visits c (all_entered left.slots) o 0 s.items) is in
+    let same_visits : visits c (all_entered left.1) s.renderer.inside 0 s.items ≡ visits c (all_entered left.1) (Some sub) 0 s.items = ap (λ (o : Option SubList). visits c (all_entered left.1) o 0 s.items) is in
     moved K c w d n rest s (stands_at sub.tile at) left
     (λ tile. let same_inside : one_if (is_inside s.renderer.inside tile) ≡ one_if (tile == sub.tile) = ap (λ (o : Option SubList). one_if (is_inside o tile)) is in omega (arith, same_inside))
     (omega (arith, one, same_visits, less))
@@ -348,8 +215,7 @@ program_stays : (who : Who) (K : List ℕ → Type 0) (c : Config) (w d n stay :
 unfolding program_plan
 program_stays who K c w d n stay s program free item m left one =
     let more = stay_more w stay one in
-    keeps_mapped (turned_to s) who AnyLook AnyAccess (λ k turned. ListsLess K c w d n stay turned) (start_plan program free item.word) m
-    (comes_any who (λ launch. ListsLess K c w d n stay (turned_to s launch)) (λ launch. let cost = launch_at_most w launch in record { rest = n; left = left; less = omega (arith, cost, more) }) (start_plan program free item.word) m)
+    comes_any who (ListsLess K c w d n stay) (turned_to s) (λ launch. let cost = launch_at_most w launch in record { rest = n; left = left; less = omega (arith, cost, more) }) (start_plan program free item.word) m
 
 vertex_stays : (who : Who) (K : List ℕ → Type 0) (c : Config) (w d n stay : ℕ) (s : Lists) (item : Item) (words m : List ℕ) → JobLeft K c w d n s → stay ≡ 1
     → Comes who (ListsLess K c w d n stay) (vertex_plan s item words) m
@@ -360,7 +226,7 @@ vertex_stays who K c w d n stay s item words m left one =
     let more = stay_more w stay one in
     let here : ListsLess K c w d n stay (quiet s) = record { rest = n; left = left; less = omega (arith, more) } in
     keeps_if who AnyLook AnyAccess P m (item.primitive.length == 0) (Done (quiet s)) (mapped (fetched s) plan) (λ on. here)
-    (λ off. keeps_mapped (fetched s) who AnyLook AnyAccess P plan m (comes_any who (λ index. ListsLess K c w d n stay (fetched s index)) (λ index. here) plan m))
+    (λ off. comes_any who (ListsLess K c w d n stay) (fetched s) (λ index. here) plan m)
 
 choice_goes : (who : Who) (K : List ℕ → Type 0) (c : Config) (w d n : ℕ) (s : Lists) (free : Free) (words m : List ℕ) (sub : SubList) (found : Found) → JobLeft K c w d n s → s.renderer.inside ≡ Some sub → item_at sub s.items ≡ Some found
     → Comes who (ListsLess K c w d n (one_if (stays s words))) (choice_plan s free words sub found) m
@@ -373,8 +239,8 @@ choice_goes who K c w d n s free words m sub found left is here =
     let choice : ℕ = word_at words 0 % 4 in
     let at : Lists = at_item s sub.tile found.number in
     let next : Lists = at_item s sub.tile (found.number + 1) in
-    let past = visits_past c (all_entered left.slots) sub s.items found here in
-    let fewer = visits_on c (all_entered left.slots) sub.tile sub.at found.number 0 s.items past.0 in
+    let past = visits_past c (all_entered left.1) sub s.items found here in
+    let fewer = visits_on c (all_entered left.1) sub.tile sub.at found.number 0 s.items past.0 in
     let stands : JobLeft K c w d n at = at_same K c w d n n s sub found.number left is (omega (arith, fewer)) in
     let some = inside_some K c w d n s sub left is in
     let goes : JobLeft K c w d (n - 1) next = at_same K c w d n (n - 1) s sub (found.number + 1) left is (let less = past.1 in omega (arith, less, some)) in
@@ -401,8 +267,8 @@ renderer_by : (who : Who) (K : List ℕ → Type 0) (c : Config) (w d n : ℕ) (
 unfolding renderer_plan
 renderer_by who K c w d n s free words m None here left only ready is =
     let stay : ℕ = one_if (stays s words) in
-    keeps_weaker who AnyLook AnyLook AnyAccess AnyAccess (λ k turned. ListsLess K c w d n 0 turned) (λ k turned. ListsLess K c w d n stay turned) (λ p n h. h) (λ a h. h) (λ k turned less. more_stays K c w d n stay turned less)
-    (renderer_plan s free words) m (packet_goes who K c w d n s free words m left.slots here is only (ready_below s m is ready) left refl)
+    weaker who (ListsLess K c w d n 0) (ListsLess K c w d n stay) (λ turned less. more_stays K c w d n stay turned less) (renderer_plan s free words) m
+    (slots_go who K c w d n s free words m left.0 left.1 here is only (ready_below s m is ready) (subst (λ (inside : Option SubList). StandLeft K c w d n s inside left.0 left.1) is left.2))
 renderer_by who K c w d n s free words m (Some sub) here left only ready is =
     subst (λ (inside : Option SubList). Comes who (ListsLess K c w d n (one_if (stays s words))) (plan_in s free words inside) m) (sym is)
     (found_goes who K c w d n s free words m sub (item_at sub s.items) left is refl)

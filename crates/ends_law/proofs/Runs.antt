@@ -1,8 +1,8 @@
 -- A run has no more steps than are left where it begins, and those that stays add.
-use Rattle.std.proofs.Common.{◌≡◌, ◌≤◌, ℕ, ◌+◌, ◌-◌, ◌*◌, List, [], ◌∷◌, arith}
+use Rattle.std.proofs.Common.{◌≡◌, ◌≤◌, ℕ, ◌+◌, ◌-◌, ◌*◌, true, List, [], ◌∷◌, arith}
 use Rattle.std.proofs.lemmas.Grind.{common_steps}
 use Rattle.machine_plan.specs.Others.{Happening, Steps, Changes, AllMayHappen}
-use Rattle.machine_plan.specs.Regions.{Interval, Rights, HasReadOnly}
+use Rattle.machine_plan.specs.Regions.{Interval, Rights, rights_of, HasReadOnly}
 use Rattle.machine_plan.proofs.Others.{Holds, run_holds}
 use Rattle.machine.specs.{declared.job.Start.Start, State.State, State.units_start, Step.Event, Step.ready, Step.turn, Step.step}
 use Rattle.machine_law.specs.{Begins.JobBegins, Jobs.ArePlain, Laws.AreFine, Units.EachAt}
@@ -11,20 +11,20 @@ use Rattle.ends_law.specs.{Ends.JobShort, Ends.JobsEnd, Left.EachWithin, Left.Un
 use Rattle.ends_law.specs.Stays.{unit_stays, step_count, stay_count}
 use Rattle.ends_law.proofs.{Begins.start_left, Machine.steps_less_law}
 
-one_more : (w n rest stay steps stays : ℕ) → rest + 1 ≤ n + (1 + w) * stay → steps ≤ rest + (1 + w) * stays → 1 + steps ≤ n + (1 + w) * (stay + stays)
-one_more w n rest stay steps stays less later =
+pub one_more : (w n rest cost stay steps stays : ℕ) → rest + cost ≤ n + (1 + w) * stay → steps ≤ rest + (1 + w) * stays → cost + steps ≤ n + (1 + w) * (stay + stays)
+one_more w n rest cost stay steps stays less later =
     let both : (1 + w) * (stay + stays) ≡ (1 + w) * stay + (1 + w) * stays = grind (arith, common_steps) in
     omega (arith, less, later, both)
 
 run_steps : (rights : List Rights) (plains : ℕ → List Interval) (first : List ℕ) (w n : ℕ) (happenings : List (Happening Event)) (s : State) → ArePlain rights plains → Holds rights first (AreFine rights plains first) s
-    → UnitsLeft rights (HasReadOnly rights first) w n s.units → AllMayHappen ready turn rights s happenings → step_count happenings ≤ n + (1 + w) * stay_count s happenings
+    → UnitsLeft (rights_of rights) (HasReadOnly rights first) (λ j. true) w n s.units → AllMayHappen ready turn rights s happenings → step_count happenings ≤ n + (1 + w) * stay_count s happenings
 run_steps rights plains first w n [] s plain holds left may = omega arith
 run_steps rights plains first w n (Steps event ∷ later) s plain holds left may =
     let I = AreFine rights plains first in
     let next = run_holds ready turn rights first I (units_owe_law rights plains first plain) (Steps event ∷ []) s holds (may.0, tt) in
-    let less = steps_less_law rights plains first w n s event plain holds.has holds.units left may.0 in
+    let less = steps_less_law rights plains first (λ j. true) w n s event plain holds.has holds.units left may.0 in
     let ran = run_steps rights plains first w less.rest later (step s event).state plain next.0 less.left may.1 in
-    one_more w n less.rest (one_if (unit_stays s.units event.unit event.words)) (step_count later) (stay_count (step s event).state later) less.less ran
+    one_more w n less.rest 1 (one_if (unit_stays s.units event.unit event.words)) (step_count later) (stay_count (step s event).state later) less.less ran
 run_steps rights plains first w n (Changes m ∷ later) s plain holds left may =
     let I = AreFine rights plains first in
     let next = run_holds ready turn rights first I (units_owe_law rights plains first plain) (Changes m ∷ []) s holds (may.0, tt) in

@@ -54,23 +54,24 @@ hole_at P k n zero j (x ∷ xs) same all = hole_here P k n j x xs (omega (arith,
 hole_at P k n (suc i) j (x ∷ xs) same all = behind_at P k n i j x xs (item_at xs i) all (hole_at P (k + 1) (n - all.0) i j xs (omega (arith, same)) all.3)
 
 -- the one that a test chooses
-pub record PickedHole {X : Type 0} (P : ℕ → ℕ → X → Type 0) (k n : ℕ) (xs : List X) (one : Picked X) : Type 0 where
+pub record PickedHole {X : Type 0} (P : ℕ → ℕ → X → Type 0) (p : X → Bool) (k n : ℕ) (xs : List X) (one : Picked X) : Type 0 where
   pub at : ℕ
   pub is : one.number ≡ k + at
+  pub on : p one.item ≡ true
   pub hole : Hole P k n at one.number xs one.item
 
-picked_behind : {X : Type 0} (P : ℕ → ℕ → X → Type 0) (k n : ℕ) (x : X) (xs : List X) (found : Option (Picked X)) (all : EachWithin P k n (x ∷ xs))
-    → IfSome found (PickedHole P (k + 1) (n - all.0) xs) → IfSome found (PickedHole P k n (x ∷ xs))
-picked_behind P k n x xs None all picked = tt
-picked_behind P k n x xs (Some one) all picked =
+picked_behind : {X : Type 0} (P : ℕ → ℕ → X → Type 0) (p : X → Bool) (k n : ℕ) (x : X) (xs : List X) (found : Option (Picked X)) (all : EachWithin P k n (x ∷ xs))
+    → IfSome found (PickedHole P p (k + 1) (n - all.0) xs) → IfSome found (PickedHole P p k n (x ∷ xs))
+picked_behind P p k n x xs None all picked = tt
+picked_behind P p k n x xs (Some one) all picked =
     let is = picked.is in
-    record { at = suc picked.at; is = omega (arith, is); hole = hole_behind P k n picked.at one.number x xs one.item all picked.hole }
+    record { at = suc picked.at; is = omega (arith, is); on = picked.on; hole = hole_behind P k n picked.at one.number x xs one.item all picked.hole }
 
-picked_by : {X : Type 0} (P : ℕ → ℕ → X → Type 0) (k n : ℕ) (x : X) (xs : List X) (b : Bool) (later : Option (Picked X)) (all : EachWithin P k n (x ∷ xs))
-    → IfSome later (PickedHole P (k + 1) (n - all.0) xs) → IfSome (if b then Some (record { number = k; item = x }) else later) (PickedHole P k n (x ∷ xs))
-picked_by P k n x xs true later all picked = record { at = 0; is = omega arith; hole = hole_here P k n k x xs refl all }
-picked_by P k n x xs false later all picked = picked_behind P k n x xs later all picked
+picked_by : {X : Type 0} (P : ℕ → ℕ → X → Type 0) (p : X → Bool) (k n : ℕ) (x : X) (xs : List X) (b : Bool) (later : Option (Picked X)) (all : EachWithin P k n (x ∷ xs)) → p x ≡ b
+    → IfSome later (PickedHole P p (k + 1) (n - all.0) xs) → IfSome (if b then Some (record { number = k; item = x }) else later) (PickedHole P p k n (x ∷ xs))
+picked_by P p k n x xs true later all on picked = record { at = 0; is = omega arith; on = on; hole = hole_here P k n k x xs refl all }
+picked_by P p k n x xs false later all on picked = picked_behind P p k n x xs later all picked
 
-pub picked_hole : {X : Type 0} (P : ℕ → ℕ → X → Type 0) (p : X → Bool) (k n : ℕ) (xs : List X) → EachWithin P k n xs → IfSome (first_where p k xs) (PickedHole P k n xs)
+pub picked_hole : {X : Type 0} (P : ℕ → ℕ → X → Type 0) (p : X → Bool) (k n : ℕ) (xs : List X) → EachWithin P k n xs → IfSome (first_where p k xs) (PickedHole P p k n xs)
 picked_hole P p k n [] all = tt
-picked_hole P p k n (x ∷ xs) all = picked_by P k n x xs (p x) (first_where p (k + 1) xs) all (picked_hole P p (k + 1) (n - all.0) xs all.3)
+picked_hole P p k n (x ∷ xs) all = picked_by P p k n x xs (p x) (first_where p (k + 1) xs) all refl (picked_hole P p (k + 1) (n - all.0) xs all.3)

@@ -6,17 +6,17 @@ use Rattle.field_words.specs.Words.{u32_at}
 use Rattle.qpu_isa.specs.Terms.{is_branch, target_of, writes_s}
 use Rattle.shader_flow.specs.Flow.{word, end_of, checked_of}
 use Rattle.shader_flow.proofs.{Bounded.some_below_not, Ends.checked_of-le}
-use Rattle.machine_plan.specs.{declared.launch.Launch.Launch, declared.who.Who.Who, Memory.bytes_at, Regions.Rights, Regions.rights_of}
+use Rattle.machine_plan.specs.{declared.launch.Launch.Launch, declared.who.Who.Who, Memory.bytes_at, Regions.Rights}
 use Rattle.machine_plan.specs.Plan.{Plan, Done, Wilds, Reads}
 use Rattle.list_law.proofs.Safe.{keeps_if}
 use Rattle.qpu_machine.specs.{declared.state.Asked.Asked, Operands.add_row, Operands.mul_row, declared.state.Fate.TheVariants.Ends}
 use Rattle.qpu_machine.specs.{declared.state.Thread.Thread, Start.thread_of, Wild.takes_one, Wild.is_wild}
 use Rattle.qpu_machine.specs.Step.{ThreadTurn, executed, executed_with, word_plan, thread_plan}
 use Rattle.qpu_machine.specs.Writes.{awake, past_uniform, ask_of, asked}
-use Rattle.qpu_law.specs.{Home.Home, Home.Jumps, Home.GoesTo, Home.done, Thread.IsHome}
-use Rattle.qpu_law.proofs.{Going.in_checked, Going.is_went, Going.stays_in_code_law, Starting.starts_stand_law}
-use Rattle.ends_law.specs.{Left.LaunchShort, Left.ThreadLeft, Steps.one_if}
-use Rattle.ends_law.specs.Loops.{goes_back, has_loop, instruction_steps, steps_before, program_steps}
+use Rattle.qpu_law.specs.{Home.Home, Home.Jumps, Home.GoesTo, Home.done}
+use Rattle.qpu_law.proofs.{Going.in_checked, Going.stays_in_code_law, Starting.starts_stand_law}
+use Rattle.ends_law.specs.{Left.LaunchSo, Left.ThreadAt, Left.ThreadLeft, Steps.one_if}
+use Rattle.ends_law.specs.Loops.{goes_back, has_loop, instruction_steps, steps_before, program_steps, IsShort}
 use Rattle.ends_law.proofs.Plans.{AnyLook, AnyAccess, Comes}
 
 -- a branch that doesn't lead back
@@ -77,20 +77,20 @@ done_steps w u uniforms words t =
     asked_steps w u (add_row t1 w u words) (mul_row t1 w u words) t1
 
 -- What an instruction leaves of its thread takes fewer steps: its own is done, and that which serves what it asked for is owed.
-pub record ThreadGoes (rights : List Rights) (K : List ℕ → Type 0) (n : ℕ) (turn : ThreadTurn) : Type 0 where
+pub record ThreadGoes (r : Rights) (K : List ℕ → Type 0) (n : ℕ) (turn : ThreadTurn) : Type 0 where
   pub rest : ℕ
-  pub left : turn.leaves.fate ≢ Ends → ThreadLeft rights K rest turn.thread
+  pub left : turn.leaves.fate ≢ Ends → ThreadLeft r K rest turn.thread
   pub less : rest + 1 + one_if (is_some turn.leaves.asked) ≤ n
 
-done_goes : (rights : List Rights) (K : List ℕ → Type 0) (n : ℕ) (t : Thread) (u uniforms : ℕ) (words m : List ℕ) → K m → (left : ThreadLeft rights K n t)
-    → ThreadGoes rights K n (done (word left.home.code left.index) u uniforms words t)
+done_goes : (r : Rights) (K : List ℕ → Type 0) (n : ℕ) (t : Thread) (u uniforms : ℕ) (words m : List ℕ) → K m → (left : ThreadLeft r K n t)
+    → ThreadGoes r K n (done (word left.there.home.code left.there.index) u uniforms words t)
 unfolding program_steps
-done_goes rights K n t u uniforms words m here left =
-    let h = left.home in
-    let i : ℕ = left.index in
+done_goes r K n t u uniforms words m here left =
+    let h = left.there.home in
+    let i : ℕ = left.there.index in
     let next = (done (word h.code i) u uniforms words t).thread in
-    let home = left.stands m here in
-    let inside = left.at.inside in
+    let home = left.there.stands m here in
+    let inside = left.there.at.inside in
     let sum = left.left in
     let before : i < checked_of h.code = in_checked h.code i home.sound inside in
     let steps : steps_before h.code (i + 1) ≤ program_steps h.code = more_before h.code (i + 1) (checked_of h.code) (omega (arith, before)) in
@@ -99,56 +99,48 @@ done_goes rights K n t u uniforms words m here left =
     record {
       rest = n - instruction_steps (word h.code i);
       left = λ lives.
-          let goes = stays_in_code_law h i u uniforms words t home.sound home.low left.at lives in
-          let on : i + 1 ≤ goes.to = goes_on h i t next left.no_loop inside goes in
+          let goes = stays_in_code_law h i u uniforms words t home.sound home.low left.there.at lives in
+          let on : i + 1 ≤ goes.to = goes_on h i t next left.there.so inside goes in
           let more = more_before h.code (i + 1) goes.to on in
-          let job = (is_went (word h.code i) u uniforms words t).job in
           record {
-            home = h;
-            no_loop = left.no_loop;
-            stands = λ k there. subst (λ j. IsHome k (rights_of rights j).region h) (sym job) (left.stands k there);
-            index = goes.to;
-            at = goes.at;
+            there = record { home = h; so = left.there.so; stands = left.there.stands; index = goes.to; at = goes.at };
             left = omega (arith, more, own, sum);
           };
       less = omega (arith, steps, own, cost, sum);
     }
 
-word_goes : (rights : List Rights) (K : List ℕ → Type 0) (n : ℕ) (t : Thread) (who : Who) (words m : List ℕ) → K m → (left : ThreadLeft rights K n t)
-    → Comes who (ThreadGoes rights K n) (word_plan t (word left.home.code left.index) words) m
-unfolding word_plan past_uniform
-word_goes rights K n t who words m here left =
-    let w : ℕ = word left.home.code left.index in
-    let P = λ (k : List ℕ) (turn : ThreadTurn). ThreadGoes rights K n turn in
+-- What the instruction leaves that stands at a thread's place.
+pub thread_comes : (who : Who) (P : ThreadTurn → Type 0) (w : ℕ) (t : Thread) (words m : List ℕ) → from_le_bytes w64 (bytes_at m t.place 8) ≡ w → ((u uniforms : ℕ) → P (done w u uniforms words t)) → Comes who P (thread_plan t words) m
+unfolding thread_plan word_plan past_uniform
+thread_comes who P w t words m read each =
+    let Q = λ (k : List ℕ) (turn : ThreadTurn). P turn in
     let taken : Plan ThreadTurn = Reads t.uniforms 4 (λ bytes. Done (executed w (u32_at bytes 0) words (awake words (past_uniform t)))) in
     let untaken : Plan ThreadTurn = Done (executed w 0 words (awake words t)) in
-    keeps_if who AnyLook AnyAccess P m (is_wild t w) Wilds (if takes_one t w then taken else untaken) (λ wild. tt)
-    (λ tame. keeps_if who AnyLook AnyAccess P m (takes_one t w) taken untaken
-    (λ on. (tt, done_goes rights K n t (u32_at (bytes_at m t.uniforms 4) 0) ((t.uniforms + 4) % 2 ^ 32) words m here left))
-    (λ off. done_goes rights K n t 0 t.uniforms words m here left))
+    let goes : Comes who P (word_plan t w words) m = keeps_if who AnyLook AnyAccess Q m (is_wild t w) Wilds (if takes_one t w then taken else untaken) (λ wild. tt)
+    (λ tame. keeps_if who AnyLook AnyAccess Q m (takes_one t w) taken untaken (λ on. (tt, each (u32_at (bytes_at m t.uniforms 4) 0) ((t.uniforms + 4) % 2 ^ 32))) (λ off. each 0 t.uniforms)) in
+    (tt, subst (λ k. Comes who P (word_plan t k words) m) (sym read) goes)
 
-pub thread_goes : (rights : List Rights) (K : List ℕ → Type 0) (n : ℕ) (t : Thread) (who : Who) (words m : List ℕ) → K m → ThreadLeft rights K n t
-    → Comes who (ThreadGoes rights K n) (thread_plan t words) m
-unfolding thread_plan
-thread_goes rights K n t who words m here left =
-    let h = left.home in
-    let home = left.stands m here in
-    let inside : left.index < checked_of h.code = in_checked h.code left.index home.sound left.at.inside in
+pub reads_word : (r : Rights) (K : List ℕ → Type 0) (S : List ℕ → Type 0) (t : Thread) (m : List ℕ) → K m → (there : ThreadAt r K S t) → from_le_bytes w64 (bytes_at m t.place 8) ≡ word there.home.code there.index
+reads_word r K S t m here there =
+    let h = there.home in
+    let home = there.stands m here in
+    let inside : there.index < checked_of h.code = in_checked h.code there.index home.sound there.at.inside in
     let size = checked_of-le h.code in
-    let there : left.index < length h.code = omega (arith, inside, size) in
-    let read : from_le_bytes w64 (bytes_at m t.place 8) ≡ word h.code left.index = ap (λ q. from_le_bytes w64 (bytes_at m q 8)) left.at.place ∙ home.code_is left.index there in
-    (tt, subst (λ w. Comes who (ThreadGoes rights K n) (word_plan t w words) m) (sym read) (word_goes rights K n t who words m here left))
+    let within : there.index < length h.code = omega (arith, inside, size) in
+    ap (λ q. from_le_bytes w64 (bytes_at m q 8)) there.at.place ∙ home.code_is there.index within
+
+pub thread_goes : (r : Rights) (K : List ℕ → Type 0) (n : ℕ) (t : Thread) (who : Who) (words m : List ℕ) → K m → ThreadLeft r K n t → Comes who (ThreadGoes r K n) (thread_plan t words) m
+thread_goes r K n t who words m here left =
+    thread_comes who (ThreadGoes r K n) (word left.there.home.code left.there.index) t words m (reads_word r K (λ code. has_loop code ≡ false) t m here left.there) (λ u uniforms. done_goes r K n t u uniforms words m here left)
 
 -- a program that starts
-pub thread_begins : (rights : List Rights) (K : List ℕ → Type 0) (w j : ℕ) (launch : Launch) → LaunchShort rights K w j launch → ThreadLeft rights K w (thread_of j launch)
-unfolding thread_of steps_before
-thread_begins rights K w j launch short =
-    let steps = short.short.short in
-    record {
-      home = short.home;
-      no_loop = short.short.no_loop;
-      stands = short.stands;
-      index = 0;
-      at = (starts_stand_law short.home j launch short.code short.uniforms short.threaded).at;
-      left = omega (arith, steps);
-    }
+unfoldable pub starts_at : (r : Rights) (K : List ℕ → Type 0) (S T : List ℕ → Type 0) (j : ℕ) (launch : Launch) → ((code : List ℕ) → S code → T code) → LaunchSo r K S launch → ThreadAt r K T (thread_of j launch)
+unfolding thread_of
+starts_at r K S T j launch goes starts =
+    record { home = starts.home; so = goes starts.home.code starts.so; stands = starts.stands; index = 0; at = (starts_stand_law starts.home j launch starts.code starts.uniforms starts.threaded).at }
+
+pub thread_begins : (r : Rights) (K : List ℕ → Type 0) (w j : ℕ) (launch : Launch) → LaunchSo r K (IsShort w) launch → ThreadLeft r K w (thread_of j launch)
+unfolding steps_before starts_at
+thread_begins r K w j launch short =
+    let steps = short.so.short in
+    record { there = starts_at r K (IsShort w) (λ code. has_loop code ≡ false) j launch (λ code is. is.no_loop) short; left = omega (arith, steps) }

@@ -1,53 +1,62 @@
 -- How many steps are left: of each thread, processor and job, and of all units together.
-use Rattle.std.specs.Prelude.{◌≡◌, ◌≤◌, ◌≢◌, ℕ, ◌+◌, ◌-◌, ◌*◌, ◌==◌, ◌&&◌, Bool, false, nat_le, List, [], ◌∷◌, length, Option, Some, None, IfSome, IsTrue, is_some}
+use Rattle.std.specs.Prelude.{◌≡◌, ◌≤◌, ◌≢◌, ℕ, ◌+◌, ◌-◌, ◌*◌, ◌==◌, ◌&&◌, ◌||◌, Bool, false, nat_le, List, [], ◌∷◌, length, Option, Some, None, IfSome, IsTrue, is_some, count_by}
 use Rattle.field_words.specs.Pieces.{joined as joined_bytes}
-use Rattle.machine_plan.specs.{declared.launch.Launch.Launch, Memory.bytes_at}
-use Rattle.machine_plan.specs.Regions.{Interval, Rights, rights_of, HasReadOnly}
+use Rattle.machine_plan.specs.{declared.launch.Launch.Launch, Memory.bytes_at, Regions.Interval, Regions.Rights, Regions.rights_of, Regions.HasReadOnly}
 use Rattle.packets.specs.{declared.config.Config.Config, declared.packet.Packet.Packet, Length.bin_length, Packet.slots_text}
 use Rattle.bin_list.specs.Packets.{opcode}
 use Rattle.render_walks.specs.Walks.{AllFit}
-use Rattle.list_machine.specs.{declared.state.Frame.Frame, declared.state.Item.Item, declared.state.SubList.SubList, Lists.Lists}
-use Rattle.list_machine.specs.declared.state.Work.{Work}
+use Rattle.list_machine.specs.{declared.state.Frame.Frame, declared.state.Item.Item, declared.state.SubList.SubList, declared.state.Work.Work, Binner.has_binner_work, Lists.Lists, Renderer.has_renderer_work}
 use Rattle.list_law.specs.{Binning.Allocates, Lists.ListsFine}
-use Rattle.qpu_machine.specs.{declared.state.Qpu.Qpu, declared.state.Thread.Thread}
+use Rattle.qpu_machine.specs.{declared.state.Qpu.Qpu, declared.state.Request.Request, declared.state.Thread.Thread}
 use Rattle.qpu_law.specs.{Home.Home, Home.IsAt, Thread.IsHome}
 use Rattle.shader_flow.specs.Flow.{is_threaded}
-use Rattle.machine.specs.{State.Units, State.State, Step.Event, Step.may, Step.step}
+use Rattle.machine.specs.{State.Units, State.State, Step.Event, Step.may, Step.step, Step.unit_job}
 use Rattle.machine_law.specs.{Jobs.ArePlain, Laws.AreFine}
 use Rattle.ends_law.specs.{Loops.IsShort, Loops.has_loop, Loops.steps_before, Loops.program_steps, Room.room_of, Room.room_by, Room.Counted}
-use Rattle.ends_law.specs.Stays.{unit_stays}
-use Rattle.ends_law.specs.Steps.{one_if, work_left, bin_steps, render_steps, times, all_entered}
+use Rattle.ends_law.specs.{Stays.unit_stays, Steps.one_if, Steps.work_left, Steps.bin_steps, Steps.render_steps, Steps.times, Steps.all_entered}
 
 -- each item of a list, numbered from k on, with its share of n
 abbrev pub EachWithin : {X : Type 0} → (ℕ → ℕ → X → Type 0) → ℕ → ℕ → List X → Type 0
 EachWithin P k n [] = Unit {0}
 EachWithin P k n (x ∷ xs) = (share : ℕ) × P k share x × (share ≤ n) × EachWithin P (k + 1) (n - share) xs
 
--- Job j may start the program: it is that of a short shader, whose words stand in each memory of K.
-pub record LaunchShort (rights : List Rights) (K : List ℕ → Type 0) (w j : ℕ) (launch : Launch) : Type 0 where
+-- A job with these rights may start the program: S is so of its shader, whose words stand in each memory of K.
+pub record LaunchSo (r : Rights) (K : List ℕ → Type 0) (S : List ℕ → Type 0) (launch : Launch) : Type 0 where
   pub home : Home
-  pub short : IsShort w home.code
-  pub stands : (m : List ℕ) → K m → IsHome m (rights_of rights j).region home
+  pub so : S home.code
+  pub stands : (m : List ℕ) → K m → IsHome m r.region home
   pub code : launch.code ≡ home.place
   pub uniforms : launch.uniforms ≡ home.stream
   pub threaded : launch.threaded ≡ is_threaded home.code
 
--- The thread stands before an instruction of a shader without loops, which stands so too, and what is left of it takes at most n steps.
-pub record ThreadLeft (rights : List Rights) (K : List ℕ → Type 0) (n : ℕ) (t : Thread) : Type 0 where
+-- A thread of a job with these rights stands before an instruction of a shader of which S is so, and which stands in each memory of K.
+pub record ThreadAt (r : Rights) (K : List ℕ → Type 0) (S : List ℕ → Type 0) (t : Thread) : Type 0 where
   pub home : Home
-  pub no_loop : has_loop home.code ≡ false
-  pub stands : (m : List ℕ) → K m → IsHome m (rights_of rights t.job).region home
+  pub so : S home.code
+  pub stands : (m : List ℕ) → K m → IsHome m r.region home
   pub index : ℕ
   pub at : IsAt home index t
-  pub left : program_steps home.code ≤ steps_before home.code index + n
 
--- so do both threads of a processor, and each of its requests takes one step
-pub record QpuLeft (rights : List Rights) (K : List ℕ → Type 0) (k n : ℕ) (q : Qpu) : Type 0 where
+-- Its shader has no loop, and what is left of it takes at most n steps.
+pub record ThreadLeft (r : Rights) (K : List ℕ → Type 0) (n : ℕ) (t : Thread) : Type 0 where
+  pub there : ThreadAt r K (λ code. has_loop code ≡ false) t
+  pub left : program_steps there.home.code ≤ steps_before there.home.code there.index + n
+
+-- so does that of a thread slot, where a job's thread runs there that is counted
+abbrev pub SlotLeft : (ℕ → Rights) → (List ℕ → Type 0) → (ℕ → Bool) → ℕ → Option Thread → Type 0
+SlotLeft rights K mine n slot = IfSome slot (λ t. IsTrue (mine t.job) → ThreadLeft (rights t.job) K n t)
+
+-- so many of the requests are of jobs that are counted
+abbrev pub request_count : (ℕ → Bool) → List Request → ℕ
+request_count mine requests = count_by (λ request. mine request.job) requests
+
+-- so do both threads of a processor, and each such request takes one step
+pub record QpuLeft (rights : ℕ → Rights) (K : List ℕ → Type 0) (mine : ℕ → Bool) (k n : ℕ) (q : Qpu) : Type 0 where
   pub firsts : ℕ
   pub others : ℕ
-  pub first : IfSome q.first (ThreadLeft rights K firsts)
-  pub other : IfSome q.other (ThreadLeft rights K others)
-  pub sum : firsts + others + (length q.queue0.items + length q.queue1.items) ≤ n
+  pub first : SlotLeft rights K mine firsts q.first
+  pub other : SlotLeft rights K mine others q.other
+  pub sum : firsts + others + (request_count mine q.queue0.items + request_count mine q.queue1.items) ≤ n
 
 -- The renderer still goes past item n of a tile in the list in which it is.
 abbrev pub is_before : Option SubList → ℕ → ℕ → Bool
@@ -74,57 +83,76 @@ abbrev pub AllWhole : List (List ℕ) → Type 0
 AllWhole [] = Unit {0}
 AllWhole (packet ∷ packets) = IsWhole packet × AllWhole packets
 
--- What is left of the list units of a job with configuration c takes at most n steps, where the binner stands at a place of its list, which
--- ends there, with this work, the renderer at another of its own, in this tile's list, this configuration is kept, so many further blocks are
--- taken, and the tile lists have these items. The packets are the rest of the binner's list and the slots that of the renderer's; no more
--- items are put than `most`, and one that is put is gone past at most d times.
-pub record ListsLeft (K : List ℕ → Type 0) (c : Config) (w d n place end : ℕ) (work : Option Work) (there upto : ℕ) (inside : Option SubList) (config : Option Config) (blocks : ℕ) (items : List Item) : Type 0 where
-  pub packets : List (List ℕ)
-  pub bin_ends : place + length (joined_bytes packets) ≡ end
-  pub bin_stands : (m : List ℕ) → K m → bytes_at m place (length (joined_bytes packets)) ≡ joined_bytes packets
+-- These packets are the rest of a binner's list, from this place to its end.
+pub record BinRest (K : List ℕ → Type 0) (place end : ℕ) (packets : List (List ℕ)) : Type 0 where
+  pub ends : place + length (joined_bytes packets) ≡ end
+  pub stands : (m : List ℕ) → K m → bytes_at m place (length (joined_bytes packets)) ≡ joined_bytes packets
   pub whole : AllWhole packets
-  pub slots : List (Option Packet)
-  pub render_ends : there + length (slots_text slots) ≡ upto
-  pub render_stands : (m : List ℕ) → K m → bytes_at m there (length (slots_text slots)) ≡ slots_text slots
+
+-- These slots are the rest of a renderer's.
+pub record RenderRest (K : List ℕ → Type 0) (place end : ℕ) (slots : List (Option Packet)) : Type 0 where
+  pub ends : place + length (slots_text slots) ≡ end
+  pub stands : (m : List ℕ) → K m → bytes_at m place (length (slots_text slots)) ≡ slots_text slots
   pub fit : AllFit slots
-  pub most : ℕ
+
+-- No more items are put than `most`.
+pub record RoomLeft (c : Config) (most : ℕ) (config : Option Config) (blocks : ℕ) (items : List Item) (packets : List (List ℕ)) : Type 0 where
   pub few : length items ≤ most
   pub counted : Counted c blocks items
-  pub kept_room : room_by config ≤ most
-  pub rest_room : room_of packets ≤ most
+  pub kept : room_by config ≤ most
+  pub rest : room_of packets ≤ most
+
+-- What is left of the list units of a job with configuration c takes at most n steps, where the binner stands at a place of its list, with this
+-- work, the renderer at another of its own, in this tile's list, this configuration is kept, so many further blocks are taken, and the tile
+-- lists have these items. An item that is put is gone past at most d times.
+pub record ListsLeft (K : List ℕ → Type 0) (c : Config) (w d n place end : ℕ) (work : Option Work) (there upto : ℕ) (inside : Option SubList) (config : Option Config) (blocks : ℕ) (items : List Item) (packets : List (List ℕ)) (slots : List (Option Packet)) : Type 0 where
+  pub bin : BinRest K place end packets
+  pub render : RenderRest K there upto slots
+  pub most : ℕ
+  pub room : RoomLeft c most config blocks items packets
   pub often : (tile : ℕ) → times (c.address + 32 * tile) (all_entered slots) + one_if (is_inside inside tile) ≤ d
   pub sum : bin_steps w packets + work_left w work + (most - length items) * (1 + d) + (render_steps slots + one_if (is_some inside))
       + visits c (all_entered slots) inside 0 items ≤ n
 
-abbrev pub JobLeft : (List ℕ → Type 0) → Config → (w d n : ℕ) → Lists → Type 0
-JobLeft K c w d n s = ListsLeft K c w d n s.binner.place s.binner.end s.binner.work s.renderer.place s.renderer.end s.renderer.inside s.binner.kept.config s.blocks s.items
+-- so it is of a job's lists, where the renderer is in this tile's list
+abbrev pub StandLeft : (List ℕ → Type 0) → Config → (w d n : ℕ) → Lists → Option SubList → List (List ℕ) → List (Option Packet) → Type 0
+StandLeft K c w d n s inside packets slots = ListsLeft K c w d n s.binner.place s.binner.end s.binner.work s.renderer.place s.renderer.end inside s.binner.kept.config s.blocks s.items packets slots
 
--- So it is of job j, whose programs are short.
-pub record JobEnds (rights : List Rights) (K : List ℕ → Type 0) (w j n : ℕ) (s : Lists) : Type 0 where
+abbrev pub JobLeft : (List ℕ → Type 0) → Config → (w d n : ℕ) → Lists → Type 0
+JobLeft K c w d n s = (packets : List (List ℕ)) × (slots : List (Option Packet)) × StandLeft K c w d n s s.renderer.inside packets slots
+
+-- So it is of a job with these rights, whose programs are short.
+pub record JobEnds (r : Rights) (K : List ℕ → Type 0) (w n : ℕ) (s : Lists) : Type 0 where
   pub config : Config
   pub frame : Frame
-  pub allocates : Allocates (rights_of rights j) config
-  pub lists : ListsFine (rights_of rights j) K (LaunchShort rights K w j) config frame s
+  pub allocates : Allocates r config
+  pub lists : ListsFine r K (LaunchSo r K (IsShort w)) config frame s
   pub most : ℕ
   pub left : JobLeft K config w most n s
 
--- What is left of all units takes at most n steps.
-pub record UnitsLeft (rights : List Rights) (K : List ℕ → Type 0) (w n : ℕ) (u : Units) : Type 0 where
+-- so of job j, where it is counted and its lists have work left
+abbrev pub CountedEnds : (ℕ → Rights) → (List ℕ → Type 0) → (ℕ → Bool) → (w j n : ℕ) → Lists → Type 0
+CountedEnds rights K mine w j n s = IsTrue (mine j && (has_binner_work s || has_renderer_work s)) → JobEnds (rights j) K w n s
+
+-- What is left of all units for the jobs that are counted takes at most n steps.
+pub record UnitsLeft (rights : ℕ → Rights) (K : List ℕ → Type 0) (mine : ℕ → Bool) (w n : ℕ) (u : Units) : Type 0 where
   pub of_jobs : ℕ
   pub of_qpus : ℕ
-  pub jobs : EachWithin (JobEnds rights K w) 0 of_jobs u.jobs
-  pub qpus : EachWithin (QpuLeft rights K) 0 of_qpus u.qpus
+  pub jobs : EachWithin (CountedEnds rights K mine w) 0 of_jobs u.jobs
+  pub qpus : EachWithin (QpuLeft rights K mine) 0 of_qpus u.qpus
   pub sum : of_jobs + of_qpus ≤ n
 
--- The law of one step: from a state of which all is known, it leaves less, but for w + 1 more where the renderer stays at an item.
-pub record StepLess (rights : List Rights) (K : List ℕ → Type 0) (w n stay : ℕ) (u : Units) : Type 0 where
+-- The law of one step: from a state of which all is known, one for a job that is counted leaves less, but for w + 1 more where the renderer
+-- stays at an item; and one for another job leaves as much.
+pub record StepLess (rights : ℕ → Rights) (K : List ℕ → Type 0) (mine : ℕ → Bool) (w n cost stay : ℕ) (u : Units) : Type 0 where
   pub rest : ℕ
-  pub left : UnitsLeft rights K w rest u
-  pub less : rest + 1 ≤ n + (1 + w) * stay
+  pub left : UnitsLeft rights K mine w rest u
+  pub less : rest + cost ≤ n + (1 + w) * stay
 
 abbrev pub StepsLess : Type 0
 StepsLess =
-    (rights : List Rights) (plains : ℕ → List Interval) (first : List ℕ) (w n : ℕ) (s : State) (event : Event)
+    (rights : List Rights) (plains : ℕ → List Interval) (first : List ℕ) (mine : ℕ → Bool) (w n : ℕ) (s : State) (event : Event)
     → ArePlain rights plains → HasReadOnly rights first s.memory → AreFine rights plains first s.units
-    → UnitsLeft rights (HasReadOnly rights first) w n s.units → IsTrue (may s event)
-    → StepLess rights (HasReadOnly rights first) w n (one_if (unit_stays s.units event.unit event.words)) (step s event).state.units
+    → UnitsLeft (rights_of rights) (HasReadOnly rights first) mine w n s.units → IsTrue (may s event)
+    → StepLess (rights_of rights) (HasReadOnly rights first) mine w n (one_if (mine (unit_job s.units event.unit)))
+    (one_if (mine (unit_job s.units event.unit) && unit_stays s.units event.unit event.words)) (step s event).state.units

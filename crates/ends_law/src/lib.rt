@@ -9,8 +9,8 @@
 ghost use Rattle.ends_law.specs.Ends.{JobsEnd};
 ghost use Rattle.ends_law.specs.Left.{StepsLess};
 
-/// Each step leaves less to be done: a thread goes forward in its shader, a request is served, a list unit goes past a packet, a
-/// vertex, a program that is due or an item, or puts one. Where the renderer stays at an item, at most a program's steps are added.
+/// Each step for a counted job leaves less to be done: a thread goes forward, a request is served, a list unit goes past a packet, a vertex,
+/// a program that is due or an item, or puts one. Where the renderer stays at an item, it adds at most a program's steps.
 #[tactic(auto, using(crate::proofs::Machine::steps_less_law))]
 pub fn steps_less()
     ensures { StepsLess }

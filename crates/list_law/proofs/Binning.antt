@@ -1,5 +1,5 @@
 -- One step of the binner keeps all that stands.
-use Rattle.std.proofs.Common.{unwrap_or, ◌≡◌, ◌≢◌, ◌<◌, ◌⊎◌, inl, inr, ℕ, ◌+◌, ◌==◌, ◌||◌, Bool, true, false, List, [], ◌∷◌, ◌++◌, length, slice_index, Option, Some, None, IfSome, if◌then◌else◌, refl, sym, ◌∙◌, ap, subst, arith}
+use Rattle.std.proofs.Common.{◌≡◌, ◌≢◌, ◌<◌, ◌⊎◌, inl, inr, ℕ, ◌+◌, ◌==◌, ◌||◌, Bool, true, false, List, [], ◌∷◌, ◌++◌, length, slice_index, Option, Some, None, IfSome, if◌then◌else◌, refl, ◌∙◌, ap, arith, rules}
 use Rattle.std.proofs.lemmas.{Grind.common_steps, List.length-replicate, Bool.and_parts, Bool.Decides.nat_tests}
 use Rattle.std.proofs.Math.Nat.{mod-lt}
 use Rattle.std.specs.Prelude.{nat_lt}
@@ -16,7 +16,7 @@ use Rattle.list_machine.specs.declared.state.{Binner.Binner, Item.Item, Kept.Kep
 use Rattle.list_machine.specs.Lists.{Lists, Turned, quiet, with_binner, with_kept, with_work, past, incremented, flushed}
 use Rattle.list_machine.specs.Binner.{configured, with_word, started, clear_plan, begin_plan, work_of, drawn, draw_plan, halted, is_unknown, packet_plan, read_plan, one_done, fetched_with, not_due, started_with, chosen_tile, tile_plan, item_plan, work_plan, binner_by, binner_plan, item_may, work_may, binner_may, binner_ready}
 use Rattle.list_machine.specs.{Blocks.tiles_of, Fetch.fetch_plan, Start.start_plan, Start.can_start}
-use Rattle.list_law.specs.Binning.{passed_of, Allocates, DrawsSo, OnWay, WorkFine, LogFine, IsOnly, NotYet, Only}
+use Rattle.list_law.specs.Binning.{passed_of, Allocates, DrawsSo, OnWay, WorkFine, LogFine, IsOnly, Only}
 use Rattle.list_law.specs.Lists.{ListsFine, TurnedFine}
 use Rattle.list_law.proofs.Bytes.{none_left, bytes_front, bytes_behind, byte_front, front_inside, behind_inside, behind_ends}
 use Rattle.list_law.proofs.{Safe.write_safe, Safe.keeps_if, Logs.same, Logs.not_same, Logs.put_keeps}
@@ -26,17 +26,7 @@ use Rattle.list_law.proofs.Fetching.{AnyEnd, fetch_keeps, start_fine}
 pub binner_set : (r : Rights) (K : List ℕ → Type 0) (O : Launch → Type 0) (c : Config) (f : Frame) (s : Lists) (b : Binner) → ListsFine r K O c f s
     → OnWay r K O c b.place b.end b.kept → IfSome b.work (WorkFine r K O) → IsOnly c b.kept.config → (s.closed ≡ true → b.kept.config ≡ Some c)
     → ListsFine r K O c f (with_binner s b)
-binner_set r K O c f s b fine way work configs closed = record {
-  waited = fine.waited;
-  binner = way;
-  work = work;
-  configs = configs;
-  log = fine.log;
-  renderer = fine.renderer;
-  counted = fine.counted;
-  passed = fine.passed;
-  closed = closed;
-}
+binner_set r K O c f s b fine way work configs closed = search (rules, arith)
 
 -- another primitive in work, or none
 pub work_set : (r : Rights) (K : List ℕ → Type 0) (O : Launch → Type 0) (c : Config) (f : Frame) (s : Lists) (work : Option Work) → ListsFine r K O c f s → IfSome work (WorkFine r K O)
@@ -47,17 +37,7 @@ work_set r K O c f s work fine one = binner_set r K O c f s (record (s.binner) {
 pub items_set : (r : Rights) (K : List ℕ → Type 0) (O : Launch → Type 0) (c : Config) (f : Frame) (s : Lists) (pending semaphore : ℕ) (closed : Bool) (blocks : ℕ) (items : List Item)
     → (fine : ListsFine r K O c f s) → LogFine r K O c items → (semaphore ≡ 0) ⊎ (closed ≡ true) → (fine.waited ≡ true → closed ≡ true) → (closed ≡ true → s.binner.kept.config ≡ Some c)
     → ListsFine r K O c f (record s { pending = pending; semaphore = semaphore; closed = closed; blocks = blocks; items = items })
-items_set r K O c f s pending semaphore closed blocks items fine log counted passed only = record {
-  waited = fine.waited;
-  binner = fine.binner;
-  work = fine.work;
-  configs = fine.configs;
-  log = log;
-  renderer = fine.renderer;
-  counted = counted;
-  passed = passed;
-  closed = only;
-}
+items_set r K O c f s pending semaphore closed blocks items fine log counted passed only = search (rules, arith)
 
 log_set : (r : Rights) (K : List ℕ → Type 0) (O : Launch → Type 0) (c : Config) (f : Frame) (s : Lists) (blocks : ℕ) (items : List Item) → ListsFine r K O c f s → LogFine r K O c items
     → ListsFine r K O c f (record s { blocks = blocks; items = items })
@@ -101,13 +81,7 @@ way_behind : (r : Rights) (K : List ℕ → Type 0) (O : Launch → Type 0) (c :
     → place + length (packet ++ joined packets) ≡ end → Walks c (DrawsSo r K O) (kept_after (passed_of kept) packet) packets
     → ((m : List ℕ) → K m → bytes_at m place (length (packet ++ joined packets)) ≡ packet ++ joined packets) → Inside r.region place (length (packet ++ joined packets))
     → kept_after (passed_of kept) packet ≡ passed_of after → OnWay r K O c (place + length packet) end after
-way_behind r K O c place end kept after packet packets ends walks stands reads is = record {
-  rest = packets;
-  ends = behind_ends place end packet (joined packets) ends;
-  walks = subst (λ (passed : Passed). Walks c (DrawsSo r K O) passed packets) is walks;
-  stands = λ m here. bytes_behind m place packet (joined packets) (stands m here);
-  reads = behind_inside r.region place packet (joined packets) reads;
-}
+way_behind r K O c place end kept after packet packets ends walks stands reads is = grind (arith, common_steps, nat_tests, behind_ends, bytes_behind, behind_inside)
 
 -- The packet plan from each test on.
 abbrev pub plan_flush : Lists → List ℕ → Plan Lists
@@ -135,32 +109,24 @@ plan_halt s p = if slice_index p 0 == halt then Done (halted s) else plan_config
 clear_keeps : (who : Who) (r : Rights) (L : ℕ → ℕ → Type 0) (P : List ℕ → Lists → Type 0) (c : Config) (s : Lists) (config : Option Config) (m : List ℕ)
     → Allocates r c → config ≡ Some c → ((k : List ℕ) → P k (started s)) → Keeps who L (IsSafeIn r) P (begin_plan s config) m
 unfolding clear_plan
-clear_keeps who r L P c s None m allocates is ends = absurd cc
-clear_keeps who r L P c s (Some one) m allocates is ends = search (arith, length-replicate, write_safe)
+clear_keeps who r L P c s config m allocates is ends = search (rules, arith, length-replicate, write_safe)
 
 -- a primitive is drawn under the state word, behind the start
 draw_keeps_by : (who : Who) (G : Access → Type 0) (L : ℕ → ℕ → Type 0) (P : List ℕ → Lists → Type 0) (s : Lists) (packet m : List ℕ) (on : Bool) (kept : Option ℕ) (word : ℕ)
     → kept ≡ Some word → on ≡ true → P m (with_work s (Some (work_of word packet))) → Keeps who L G P (if on then drawn s kept packet else Wilds) m
-draw_keeps_by who G L P s packet m true None word is begun ends = absurd cc
-draw_keeps_by who G L P s packet m true (Some one) word is begun ends =
-    subst (λ w. P m (with_work s (Some (work_of w packet)))) (sym (ap (λ o. unwrap_or o word) is)) ends
-draw_keeps_by who G L P s packet m false kept word is begun ends = absurd cc
+draw_keeps_by who G L P s packet m on kept word is begun ends = search (rules, arith)
 
 draw_keeps : (who : Who) (r : Rights) (K : List ℕ → Type 0) (O : Launch → Type 0) (c : Config) (f : Frame) (L : ℕ → ℕ → Type 0) (s : Lists) (packet m : List ℕ)
     → Drawing (DrawsSo r K O) (passed_of s.binner.kept) packet → ListsFine r K O c f s
     → Keeps who L (IsSafeIn r) (λ k next. ListsFine r K O c f next) (draw_plan s packet) m
 unfolding draw_plan work_of
-draw_keeps who r K O c f L s packet m drawing fine =
-    draw_keeps_by who (IsSafeIn r) L (λ k next. ListsFine r K O c f next) s packet m s.binner.kept.started s.binner.kept.word drawing.word drawing.kept_word drawing.started
-    (work_set r K O c f s (Some (work_of drawing.word packet)) fine (record { few = omega arith; uses = drawing.allowed }))
+draw_keeps who r K O c f L s packet m drawing fine = search (rules, arith, draw_keeps_by, work_set)
 
 both_off : (a b : Bool) → (a || b) ≡ true → (a ≡ true) ⊎ (b ≡ true)
-both_off true b h = inl refl
-both_off false b h = inr h
+both_off a b h = search (rules, arith)
 
 clash : (b : Bool) → b ≡ true → b ≡ false → ⊥
-clash true on off = cc
-clash false on off = cc
+clash b on off = search (rules, arith)
 
 passed_config : (kept : Kept) (packet : List ℕ) → kept_after (passed_of kept) packet ≡ passed_by (passed_of kept) packet true false false
     → kept_after (passed_of kept) packet ≡ passed_of (record kept { config = Some (config_in packet) })
@@ -226,9 +192,7 @@ read_step who r K O c f s m (packet ∷ packets) allocates here fine below ends 
 
 -- A primitive in work.
 pub ready_item : (due more start item : Bool) → due ≡ false → more ≡ false → (if due then start else (if more then true else item)) ≡ true → item ≡ true
-ready_item true more start item off all ready = absurd cc
-ready_item false true start item off all ready = absurd cc
-ready_item false false start item off all ready = ready
+ready_item due more start item off all ready = search (rules, arith)
 
 pub tile_below : (c : Config) (words : List ℕ) → (chosen_tile c words == tiles_of c) ≡ false → chosen_tile c words < tiles_of c
 unfolding chosen_tile
@@ -238,10 +202,7 @@ item_keeps : (who : Who) (r : Rights) (K : List ℕ → Type 0) (O : Launch → 
     → Allocates r c → ListsFine r K O c f s → WorkFine r K O w → IsOnly c config → item_may s config ≡ true
     → Keeps who L (IsSafeIn r) (λ k next. ListsFine r K O c f next) (item_plan s config w words) m
 unfolding tile_plan
-item_keeps who r K O c f L s w words m None allocates fine work only ready = fine
-item_keeps who r K O c f L s w words m (Some one) allocates fine work (NotYet e) ready = absurd cc
-item_keeps who r K O c f L s w words m (Some one) allocates fine work (Only e) ready =
-    search (arith, keeps_if, work_set, put_keeps, tile_below, and_parts, log_set)
+item_keeps who r K O c f L s w words m config allocates fine work only ready = search (rules, arith, keeps_if, work_set, put_keeps, tile_below, and_parts, log_set)
 
 work_keeps : (who : Who) (r : Rights) (K : List ℕ → Type 0) (O : Launch → Type 0) (c : Config) (f : Frame) (s : Lists) (w : Work) (free : Free) (words m : List ℕ)
     → Allocates r c → K m → ListsFine r K O c f s → WorkFine r K O w → work_may s w free ≡ true

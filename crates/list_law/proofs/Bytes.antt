@@ -1,5 +1,5 @@
 -- The bytes of a packet in memory, and those behind it.
-use Rattle.std.proofs.Common.{◌≡◌, ◌≤◌, ◌<◌, ℕ, suc, ◌+◌, List, [], ◌∷◌, ◌++◌, length, slice_index, refl, ◌∙◌, ap, arith}
+use Rattle.std.proofs.Common.{◌≡◌, ◌≤◌, ◌<◌, ℕ, suc, ◌+◌, List, [], ◌∷◌, ◌++◌, length, slice_index, refl, ◌∙◌, ap, arith, rules}
 use Rattle.std.proofs.lemmas.List.{length-append}
 use Rattle.machine_plan.specs.{Memory.bytes_at, Regions.Interval, Regions.Inside}
 use Rattle.machine_plan.proofs.Memory.{inside_part}
@@ -21,12 +21,10 @@ bytes_behind m p (b ∷ front) rest e = ap (λ q. bytes_at m q (length rest)) (o
 -- the first byte
 pub byte_front : (m : List ℕ) (p : ℕ) (text : List ℕ) → 1 ≤ length text → bytes_at m p (length text) ≡ text → slice_index m p ≡ slice_index text 0
 unfolding bytes_at
-byte_front m p [] some e = absurd (omega (arith, some))
-byte_front m p (b ∷ text) some e = cc
+byte_front m p text some e = search (rules, arith)
 
 pub front_inside : (region : List Interval) (p : ℕ) (front rest : List ℕ) → Inside region p (length (front ++ rest)) → Inside region p (length front)
-front_inside region p front rest inside =
-    inside_part region p (length (front ++ rest)) p (length front) inside (omega arith) (omega (arith, length-append front rest))
+front_inside region p front rest inside = search (rules, arith, inside_part, length-append)
 
 pub behind_inside : (region : List Interval) (p : ℕ) (front rest : List ℕ) → Inside region p (length (front ++ rest)) → Inside region (p + length front) (length rest)
 behind_inside region p front rest inside = search (arith, length-append, inside_part)

@@ -1,5 +1,5 @@
 -- What emission promises is what a fetch and a start need.
-use Rattle.std.proofs.Common.{◌≡◌, ◌≤◌, ◌<◌, ◌⊎◌, inl, inr, ℕ, ◌+◌, ◌*◌, ◌/◌, ◌%◌, ◌^◌, ◌==◌, not, Bool, true, false, List, slice_index, if◌then◌else◌, refl, sym, ◌∙◌, ap, subst, arith}
+use Rattle.std.proofs.Common.{◌≡◌, ◌≤◌, ◌<◌, ◌⊎◌, ℕ, ◌+◌, ◌*◌, ◌/◌, ◌%◌, ◌^◌, ◌==◌, not, Bool, true, false, List, slice_index, if◌then◌else◌, refl, sym, ◌∙◌, ap, subst, arith, rules}
 use Rattle.std.proofs.{Math.Nat.mul_comm, Math.Nat.mul-le-mul_right, lemmas.Grind.common_steps, lemmas.Bool.Decides.nat_tests}
 use Rattle.field_words.specs.Words.{u32_at}
 use Rattle.emitted_facts.specs.Records.{address_word, extension_word, attribute_size, attribute_stride, is_single, code_word, stream_word}
@@ -45,9 +45,7 @@ size_is region m word t stands below = grind (arith, common_steps, nat_tests, lo
 
 extension_by : (m : List ℕ) (word t : ℕ) (b : Bool) → 256 * ((if b then u32_at (bytes_at m (extension_place word t) 4) 0 else 0) / 256) ≡ (if b then 256 * (words_in m word (extension_word t) / 256) else 0)
 unfolding extension_place
-extension_by m word t true =
-    ap (λ n. 256 * (n / 256)) (word_read m (record_place word + 100 + 4 * t) 4 (omega arith) ∙ ap (λ p. u32_at m p) (omega arith))
-extension_by m word t false = refl
+extension_by m word t b = search (rules, arith, word_read)
 
 stride_is : (region : List Interval) (m : List ℕ) (state word t : ℕ) → RecordStands region m word → IsStateOf state word → t < attribute_count word
     → stride_of (attribute_at m word t) (extension_at m word t) ≡ attribute_stride state (words_in m word) t
@@ -66,13 +64,11 @@ vertex_in : (IsNamed : ℕ → ℕ → Type 0) (region : List Interval) (m : Lis
     → IsAttributeIn IsNamed state (words_in m word) most t → index ≤ most
     → Inside region (data_place (attribute_at m word t) (extension_at m word t) index) (data_size (attribute_at m word t))
 unfolding data_place
-vertex_in IsNamed region m state word most t index names stands is below attribute few =
-    search (arith, address_is, size_is, stride_is, mul_comm, inside_part)
+vertex_in IsNamed region m state word most t index names stands is below attribute few = grind (arith, common_steps, nat_tests, address_is, size_is, stride_is, mul_comm, inside_part)
 
 -- The indexes of a primitive.
 wide_by : (b : Bool) (one two : ℕ) → (if not b then two else one) ≡ (if b then one else two)
-wide_by true one two = refl
-wide_by false one two = refl
+wide_by b one two = search (rules, arith)
 
 is_indexed : (packet : List ℕ) → (primitive_of packet).indexed ≡ true → slice_index packet 0 ≡ 32
 unfolding primitive_of
@@ -80,13 +76,11 @@ is_indexed packet on = same (slice_index packet 0) 32 on
 
 is_array : (packet : List ℕ) → (slice_index packet 0 ≡ 32) ⊎ (slice_index packet 0 ≡ 33) → (primitive_of packet).indexed ≡ false → slice_index packet 0 ≡ 33
 unfolding primitive_of
-is_array packet (inl e) off = absurd (not_same (slice_index packet 0) 32 off e)
-is_array packet (inr e) off = e
+is_array packet h1 off = search (rules, arith, not_same)
 
 size_in : (packet : List ℕ) → (primitive_of packet).indexed ≡ true → index_size (primitive_of packet) ≡ (if slice_index packet 1 / 16 == 0 then 1 else 2)
 unfolding primitive_of index_size
-size_in packet on =
-    ap (λ b. if (if b then not (slice_index packet 1 / 16 == 0) else false) then 2 else 1) on ∙ wide_by (slice_index packet 1 / 16 == 0) 1 2
+size_in packet on = search (rules, arith, wide_by)
 
 length_in : (packet : List ℕ) → (primitive_of packet).length ≡ u32_at packet 2
 unfolding primitive_of
@@ -136,9 +130,7 @@ words_at : (m : List ℕ) (word offset i : ℕ) → offset ≡ 4 * i → u32_at 
 words_at m word offset i is = word_read m (record_place word + offset) 4 (omega arith) ∙ ap (λ n. u32_at m (record_place word + n)) is
 
 launched_is : (m : List ℕ) (word : ℕ) (program : Program) (threaded : Bool) (s : ℕ) → code_offset program ≡ 4 * code_word s → code_offset program + 4 ≡ 4 * stream_word s → launched m program threaded word ≡ program_in m word threaded s
-launched_is m word program threaded s code stream =
-    let b = word_read m (record_place word + (code_offset program) + 4) 4 (omega arith) ∙ ap (λ p. u32_at m p) (omega (arith, stream)) in
-    λ i. record { threaded = threaded; code = (words_at m word (code_offset program) (code_word s) code) i; uniforms = b i }
+launched_is m word program threaded s code stream = search (rules, arith, word_read, words_at)
 
 threaded_is : (m : List ℕ) (word : ℕ) → threaded_by m word ≡ not (is_single (words_in m word))
 unfolding is_threaded is_single

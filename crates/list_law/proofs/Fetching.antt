@@ -1,16 +1,14 @@
 -- Vertices are fetched and programs started safely.
-use Rattle.std.proofs.Common.{◌≡◌, ◌≤◌, ◌<◌, ℕ, zero, suc, ◌+◌, ◌*◌, ◌%◌, ◌^◌, ◌&&◌, Bool, true, false, List, IfSome, if◌then◌else◌, refl, subst, arith}
-use Rattle.std.proofs.lemmas.{Grind.common_steps, Bool.Decides.nat_tests}
-use Rattle.std.specs.Prelude.{nat_lt}
+use Rattle.std.proofs.Common.{◌≡◌, ◌≤◌, ◌<◌, ℕ, zero, suc, ◌+◌, ◌*◌, ◌%◌, ◌^◌, Bool, true, false, List, IfSome, if◌then◌else◌, refl, arith, rules}
 use Rattle.field_words.specs.Words.{u32_at}
-use Rattle.packets.specs.StateWord.{attribute_count, is_extended}
+use Rattle.packets.specs.StateWord.{attribute_count}
 use Rattle.machine_plan.specs.declared.{who.Who.Who, launch.Free.Free, launch.Launch.Launch}
 use Rattle.machine_plan.specs.{Memory.bytes_at, Plan.Done, Plan.Reads, Plan.Keeps, Regions.Inside, Regions.Rights, Regions.IsSafeIn}
 use Rattle.machine_plan.proofs.{Memory.inside_part, Safe.read_safe, Worlds.keeps_followed}
-use Rattle.list_machine.specs.declared.state.Program.{Program, TheVariants.Fragment, TheVariants.Vertex, TheVariants.Coordinate}
-use Rattle.list_machine.specs.Fetch.{index_size, index_in, index_plan, draws_nothing, record_place, attribute_place, extension_place, data_size, data_place, data_plan, extended_plan, attribute_plan, attributes_plan, indexed_plan, fetch_plan}
+use Rattle.list_machine.specs.declared.state.Program.{Program}
+use Rattle.list_machine.specs.Fetch.{index_size, index_in, index_plan, draws_nothing, record_place, extension_place, data_size, data_place, data_plan, extended_plan, attribute_plan, attributes_plan, indexed_plan, fetch_plan}
 use Rattle.list_machine.specs.{declared.state.Primitive.Primitive, Start.code_offset, Start.launch_plan, Start.start_as, Start.start_plan}
-use Rattle.list_law.specs.Uses.{Fetches, launched, threaded_by, Programs}
+use Rattle.list_law.specs.Uses.{Fetches, launched, Programs}
 use Rattle.list_law.proofs.Safe.{keeps_if}
 
 -- any end will do
@@ -36,11 +34,7 @@ attribute_keeps : (who : Who) (r : Rights) (m : List ℕ) (P : List ℕ → ℕ 
     → t < attribute_count word → index ≤ fetches.most → P m index
     → Keeps who (Inside r.region) (IsSafeIn r) P (attribute_plan word index t) m
 unfolding attribute_plan extended_plan
-attribute_keeps who r m P word p index t fetches below most ends = (
-  read_safe r who (attribute_place word t) 8 (fetches.entries t below),
-  extended_keeps_by who r m P word index t (bytes_at m (attribute_place word t) 8) (is_extended word)
-      (λ on. fetches.extensions on t below) (fetches.vertices t below index most) ends,
-)
+attribute_keeps who r m P word p index t fetches below most ends = search (rules, arith, read_safe, extended_keeps_by)
 
 attributes_keep : (who : Who) (r : Rights) (m : List ℕ) (word : ℕ) (p : Primitive) (index t n : ℕ) (fetches : Fetches r.region m word p)
     → t + n ≤ attribute_count word → index ≤ fetches.most
@@ -64,8 +58,7 @@ indexed_keeps who r m word p index fetches most =
 
 counts_indexed : (p : Primitive) (index most : ℕ) → p.indexed ≡ true → p.most ≤ most → draws_nothing p index ≡ false → index ≤ most
 unfolding draws_nothing
-counts_indexed p index most indexed greatest off =
-    grind (arith, common_steps, nat_tests, subst (λ b. (b && nat_lt p.most index) ≡ false) indexed off, greatest)
+counts_indexed p index most indexed greatest off = search (rules, arith)
 
 index_keeps_by : (who : Who) (r : Rights) (m : List ℕ) (word : ℕ) (p : Primitive) (k : ℕ) (fetches : Fetches r.region m word p) → k < p.length
     → (b : Bool) → p.indexed ≡ b
@@ -82,9 +75,7 @@ index_keeps_by who r m word p k fetches below false e =
 pub fetch_keeps : (who : Who) (r : Rights) (m : List ℕ) (word : ℕ) (p : Primitive) (k : ℕ) → Fetches r.region m word p → k < p.length
     → Keeps who (Inside r.region) (IsSafeIn r) AnyEnd (fetch_plan p word k) m
 unfolding fetch_plan index_plan
-fetch_keeps who r m word p k fetches below =
-    keeps_followed (indexed_plan p word) who (Inside r.region) (IsSafeIn r) AnyEnd (index_plan p k) m
-    (index_keeps_by who r m word p k fetches below p.indexed refl)
+fetch_keeps who r m word p k fetches below = search (rules, arith, keeps_followed, index_keeps_by)
 
 -- The start of a program.
 launch_keeps : (who : Who) (r : Rights) (O : Launch → Type 0) (m : List ℕ) (program : Program) (threaded : Bool) (word : ℕ)
@@ -103,9 +94,4 @@ pub start_fine : (who : Who) (r : Rights) (O : Launch → Type 0) (m : List ℕ)
     → Programs r.region O m word
     → Keeps who (Inside r.region) (IsSafeIn r) (λ n launch. IfSome launch O) (start_plan program free word) m
 unfolding start_plan
-start_fine who r O m Fragment free word programs = (
-  inside_part r.region (record_place word) 36 (record_place word) 2 programs.header (omega arith) (omega arith),
-  start_keeps_as who r O m Fragment (threaded_by m word) free word programs.header (omega arith) programs.fragment,
-)
-start_fine who r O m Vertex free word programs = start_keeps_as who r O m Vertex false free word programs.header (omega arith) programs.vertex
-start_fine who r O m Coordinate free word programs = start_keeps_as who r O m Coordinate false free word programs.header (omega arith) programs.coordinate
+start_fine who r O m program free word programs = search (rules, arith, inside_part, start_keeps_as)

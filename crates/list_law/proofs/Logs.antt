@@ -1,12 +1,12 @@
 -- The items of tile lists, and the blocks in which they lie.
-use Rattle.std.proofs.Common.{◌≡◌, ◌≢◌, ◌≤◌, ◌<◌, ℕ, ◌+◌, ◌*◌, ◌-◌, ◌%◌, ◌==◌, Bool, true, false, List, [], ◌∷◌, ◌++◌, if◌then◌else◌, refl, sym, subst, arith}
+use Rattle.std.proofs.Common.{◌≡◌, ◌≢◌, ◌≤◌, ◌<◌, ℕ, ◌+◌, ◌*◌, ◌-◌, ◌%◌, ◌==◌, Bool, true, false, List, [], ◌∷◌, ◌++◌, if◌then◌else◌, refl, sym, subst, arith, rules}
 use Rattle.std.proofs.lemmas.{Grind.common_steps, List.length-replicate, Bool.Decides.nat_tests}
 use Rattle.field_words.specs.declared.access.Way.TheVariants.{Write}
 use Rattle.machine_plan.specs.declared.{who.Who.Who, launch.Launch.Launch}
 use Rattle.machine_plan.specs.{Memory.stored, Regions.Rights, Regions.IsSafeIn, Plan.Keeps, Plan.access}
 use Rattle.machine_plan.proofs.{Memory.inside_part, Runs.every-append}
 use Rattle.packets.specs.declared.config.Config.{Config}
-use Rattle.list_machine.specs.Blocks.{tiles_of, further_offset, block_place, has_room, no_spot, one_more, spotted, spot_in, spot_of, is_full, next_place, link_place, item_of, zeros, put_here, put_plan}
+use Rattle.list_machine.specs.Blocks.{tiles_of, further_offset, block_place, has_room, one_more, spotted, spot_in, spot_of, is_full, next_place, link_place, item_of, zeros, put_here, put_plan}
 use Rattle.list_machine.specs.declared.state.{Item.Item, Spot.Spot, Work.Work}
 use Rattle.list_machine.specs.Lists.{Lists, with_item, with_block}
 use Rattle.list_law.specs.{May.MayWrite, Binning.Allocates, Binning.ItemFine, Binning.FitsIn, Binning.LogFine, Binning.WorkFine}
@@ -24,25 +24,16 @@ spot_last tile spot [] item = refl
 spot_last tile spot (one ∷ items) item = spot_last tile (spotted tile spot one) items item
 
 fits_by : (c : Config) (spot : Spot) (place : ℕ) (b : Bool) → FitsIn c spot → (b ≡ true → FitsIn c (one_more spot place)) → FitsIn c (if b then one_more spot place else spot)
-fits_by c spot place true fits more = more refl
-fits_by c spot place false fits more = fits
+fits_by c spot place b fits more = search (rules, arith)
 
 -- one more item
 pub log_more : (r : Rights) (K : List ℕ → Type 0) (O : Launch → Type 0) (c : Config) (log : List Item) (item : Item) → LogFine r K O c log → ItemFine r K O item → FitsIn c (one_more (spot_of item.tile log) item.place)
     → LogFine r K O c (log ++ item ∷ [])
-log_more r K O c log item fine one fits = record {
-  items = every-append (ItemFine r K O) log (item ∷ []) fine.items (one, tt);
-  spots = λ tile. subst (FitsIn c) (sym (spot_last tile no_spot log item))
-      (fits_by c (spot_of tile log) item.place (item.tile == tile) (fine.spots tile)
-      (λ on. subst (λ t. FitsIn c (one_more (spot_of t log) item.place)) (same item.tile tile on) fits));
-}
+log_more r K O c log item fine one fits = search (rules, arith, every-append, spot_last, fits_by, same)
 
 -- Places in the allocation.
 may_part : (r : Rights) (p n q k : ℕ) → MayWrite r p n → p ≤ q → q + k ≤ p + n → MayWrite r q k
-may_part r p n q k may low high = record {
-  region = inside_part r.region p n q k may.region low high;
-  writable = inside_part r.writable p n q k may.writable low high;
-}
+may_part r p n q k may low high = search (rules, arith, inside_part)
 
 some_full : (count : ℕ) → count % 7 ≡ 1 → 0 < count
 some_full count full = omega (arith, full)
@@ -64,8 +55,7 @@ put_at who r K O c L P s w tile place m allocates log work from upto ends =
 
 next_by : (c : Config) (tile : ℕ) (spot : Spot) → 32 * tiles_of c ≤ c.size → tile < tiles_of c → FitsIn c spot → spot.count % 7 ≢ 1 → (b : Bool) → (spot.count == 0) ≡ b
     → (c.address ≤ (if b then c.address + 32 * tile else spot.last + 16)) × ((if b then c.address + 32 * tile else spot.last + 16) + 16 * (8 - (spot.count + 1 + 5) % 7) ≤ c.address + c.size)
-next_by c tile spot first below fits free true e = grind (arith, common_steps, nat_tests, same)
-next_by c tile spot first below fits free false e = grind (arith, common_steps, nat_tests, not_same)
+next_by c tile spot first below fits free b e = search (rules, arith, same, not_same)
 
 next_at : (c : Config) (tile : ℕ) (spot : Spot) → 32 * tiles_of c ≤ c.size → tile < tiles_of c → FitsIn c spot → spot.count % 7 ≢ 1
     → (c.address ≤ next_place c tile spot) × (next_place c tile spot + 16 * (8 - (spot.count + 1 + 5) % 7) ≤ c.address + c.size)
@@ -90,5 +80,4 @@ pub put_keeps : (who : Who) (r : Rights) (K : List ℕ → Type 0) (O : Launch �
     → ((k : List ℕ) (place : ℕ) → LogFine r K O c (s.items ++ item_of w tile place ∷ []) → P k (with_item s (item_of w tile place)) × P k (with_item (with_block s) (item_of w tile place)))
     → Keeps who L (IsSafeIn r) P (put_plan s c w tile (spot_of tile s.items)) m
 unfolding put_plan link_place block_place
-put_keeps who r K O c L P s w tile m allocates log work below room ends =
-    search (arith, keeps_if, full_is, some_full, may_part, length-replicate, write_safe, put_at, room_is, next_at, free_is)
+put_keeps who r K O c L P s w tile m allocates log work below room ends = search (rules, arith, keeps_if, full_is, some_full, may_part, length-replicate, write_safe, put_at, room_is, next_at, free_is)

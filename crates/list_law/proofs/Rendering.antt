@@ -1,9 +1,9 @@
 -- One step of the renderer keeps all that stands.
-use Rattle.std.proofs.Common.{◌≡◌, ◌≢◌, ◌≤◌, ◌<◌, ◌⊎◌, inl, inr, ℕ, zero, suc, ◌+◌, ◌*◌, ◌-◌, ◌/◌, ◌%◌, ◌==◌, Bool, true, false, min, Option, Some, if◌then◌else◌, refl, sym, subst, arith, List, [], ◌∷◌, length, drop, slice_index, None, IfSome, ◌∙◌, ap}
+use Rattle.std.proofs.Common.{◌≡◌, ◌≢◌, ◌≤◌, ◌<◌, ◌⊎◌, ℕ, zero, suc, ◌+◌, ◌*◌, ◌-◌, ◌/◌, ◌%◌, ◌==◌, Bool, true, false, min, Option, Some, if◌then◌else◌, refl, sym, subst, arith, List, [], ◌∷◌, length, drop, slice_index, None, IfSome, ◌∙◌, ap, rules}
 use Rattle.std.proofs.Math.Nat.{mul-le-mul_right, div-add-mod, mod-lt, mul_comm}
 use Rattle.std.proofs.lemmas.{Nat.div_below, Grind.common_steps, Bool.Decides.nat_tests}
 use Rattle.std.specs.{Int.div_ceil, Prelude.option_map, Prelude.is_some}
-use Rattle.field_words.specs.{Words.bits_of, declared.access.Way.TheVariants.Write}
+use Rattle.field_words.specs.{Words.bits_of}
 use Rattle.field_words.proofs.Numbers.{rounded}
 use Rattle.texture_layouts.specs.declared.surface.Tiling.{Tiling, TheVariants.Raster, TheVariants.T, TheVariants.Lt}
 use Rattle.texture_layouts.specs.Surface.{microtile_width_of, microtile_height_of, unit_across, unit_down, size_for}
@@ -13,16 +13,16 @@ use Rattle.texture_layouts.proofs.Places.{width_some, height_some, across_parts,
 use Rattle.texture_layouts.proofs.Styles.{short_pixel}
 use Rattle.machine_plan.specs.{Regions.Inside, Regions.Rights, Regions.Every, Regions.IsSafeIn, World.mapped}
 use Rattle.machine_plan.specs.declared.{who.Who.Who, launch.Free.Free, launch.Launch.Launch}
-use Rattle.machine_plan.specs.{Choice.word_at, Memory.bytes_at, Memory.stored, Plan.Done, Plan.Wilds, Plan.Keeps, Plan.access}
+use Rattle.machine_plan.specs.{Choice.word_at, Memory.bytes_at, Plan.Done, Plan.Wilds, Plan.Keeps}
 use Rattle.machine_plan.specs.Glance.{Glance, Now, At, glanced, GlancesIn}
 use Rattle.machine_plan.proofs.{Memory.inside_part, Safe.read_safe, Plans.keeps_weaker, Worlds.keeps_mapped}
 use Rattle.list_machine.specs.declared.state.{Frame.Frame, Item.Item, Renderer.Renderer, Found.Found, SubList.SubList}
-use Rattle.list_machine.specs.Cover.{raster_cover, tiled_cover, cover_in, cover_for, part_count, part_offset, part_place, cover_by}
+use Rattle.list_machine.specs.Cover.{raster_cover, tiled_cover, cover_in, cover_for, part_count, part_offset, part_place}
 use Rattle.list_machine.specs.declared.{state.Load.Load, state.Load.TheVariants.Full, state.Load.TheVariants.General, surface.Cover.Cover}
-use Rattle.list_machine.specs.declared.state.Program.{Program, TheVariants.Fragment, TheVariants.Vertex}
+use Rattle.list_machine.specs.declared.state.Program.{Program}
 use Rattle.list_machine.specs.Surfaces.{cover_written, cover_read, aligned, names_none, general_written, general_read, frame_written, whole_size, whole_written, whole_read, waiting_read}
-use Rattle.list_machine.specs.Renderer.{beyond, with_load, with_inside, wait_plan, tile_named, enter_plan, tile_by, branch_plan, tile_plan, act, first_of_tile, item_at, at_item, vertex_plan, program_plan, choice_plan, found_plan, renderer_plan, may_pass, ready_in, renderer_ready}
-use Rattle.list_machine.specs.{Store.tile_side, Store.covered, Store.chosen, Blocks.tiles_of, Start.start_plan}
+use Rattle.list_machine.specs.Renderer.{beyond, with_load, with_inside, wait_plan, tile_named, enter_plan, tile_by, branch_plan, tile_plan, act, first_of_tile, item_at, vertex_plan, program_plan, choice_plan, found_plan, renderer_plan, may_pass, ready_in, renderer_ready}
+use Rattle.list_machine.specs.{Store.tile_side, Store.covered, Blocks.tiles_of, Start.start_plan}
 use Rattle.list_machine.specs.Lists.{Lists, Turned, turned_to, quiet, with_renderer, with_taken}
 use Rattle.list_machine.specs.{Fetch.fetch_plan, Renderer.at_tile, Renderer.fetched, Renderer.plan_in}
 use Rattle.list_law.specs.Rendering.{surface_size, StoresSurface, LoadsSurface, PartsMeet, IsTileList, MayDo, SetsOnly, AllSet, load_packet, view_of, NoMatter, RenderWay}
@@ -70,8 +70,7 @@ raster_by cpp wide high left top side i false e below =
 
 -- Microtiles: one that begins in the surface lies in it.
 side_by : (b : Bool) (side : ℕ) → side ≡ (if b then 32 else 64) → (side ≡ 32) ⊎ (side ≡ 64)
-side_by true side e = inl e
-side_by false side e = inr e
+side_by b side e = search (rules, arith)
 
 side_is : (bits : ℕ) → (tile_side bits ≡ 32) ⊎ (tile_side bits ≡ 64)
 unfolding tile_side
@@ -79,34 +78,20 @@ side_is bits = side_by (bits_of bits 0 0 == 1) (tile_side bits) refl
 
 whole_across : (cpp x side : ℕ) → IsShort cpp → (side ≡ 32) ⊎ (side ≡ 64) → x * side / microtile_width_of cpp * microtile_width_of cpp ≡ x * side
 unfolding microtile_width_of
-whole_across cpp x side (inl e) (inl d) = subst (λ c. x * side / microtile_width_of c * microtile_width_of c ≡ x * side) (sym e) (subst (λ n. x * n / 8 * 8 ≡ x * n) (sym d) (omega arith))
-whole_across cpp x side (inl e) (inr d) = subst (λ c. x * side / microtile_width_of c * microtile_width_of c ≡ x * side) (sym e) (subst (λ n. x * n / 8 * 8 ≡ x * n) (sym d) (omega arith))
-whole_across cpp x side (inr e) (inl d) = subst (λ c. x * side / microtile_width_of c * microtile_width_of c ≡ x * side) (sym e) (subst (λ n. x * n / 4 * 4 ≡ x * n) (sym d) (omega arith))
-whole_across cpp x side (inr e) (inr d) = subst (λ c. x * side / microtile_width_of c * microtile_width_of c ≡ x * side) (sym e) (subst (λ n. x * n / 4 * 4 ≡ x * n) (sym d) (omega arith))
+whole_across cpp x side h3 h4 = search (rules, arith)
 
 whole_down : (cpp y side : ℕ) → IsShort cpp → (side ≡ 32) ⊎ (side ≡ 64) → y * side / microtile_height_of cpp * microtile_height_of cpp ≡ y * side
 unfolding microtile_height_of
-whole_down cpp y side (inl e) (inl d) = subst (λ c. y * side / microtile_height_of c * microtile_height_of c ≡ y * side) (sym e) (subst (λ n. y * n / 4 * 4 ≡ y * n) (sym d) (omega arith))
-whole_down cpp y side (inl e) (inr d) = subst (λ c. y * side / microtile_height_of c * microtile_height_of c ≡ y * side) (sym e) (subst (λ n. y * n / 4 * 4 ≡ y * n) (sym d) (omega arith))
-whole_down cpp y side (inr e) (inl d) = subst (λ c. y * side / microtile_height_of c * microtile_height_of c ≡ y * side) (sym e) (subst (λ n. y * n / 4 * 4 ≡ y * n) (sym d) (omega arith))
-whole_down cpp y side (inr e) (inr d) = subst (λ c. y * side / microtile_height_of c * microtile_height_of c ≡ y * side) (sym e) (subst (λ n. y * n / 4 * 4 ≡ y * n) (sym d) (omega arith))
+whole_down cpp y side h3 h4 = search (rules, arith)
 
 unit_by : (n unit k whole rest : ℕ) → 0 < unit → unit * whole + rest ≡ n → k < whole + min 1 rest → k * unit < n
-unit_by n unit k whole zero some all below =
-    let next : k + 1 ≤ whole = omega (arith, below) in
-    let times : (k + 1) * unit ≤ whole * unit = mul-le-mul_right unit next in
-    omega (arith, times, all, some)
-unit_by n unit k whole (suc rest) some all below =
-    let most : k ≤ whole = omega (arith, below) in
-    let times : k * unit ≤ whole * unit = mul-le-mul_right unit most in
-    omega (arith, times, all)
+unit_by n unit k whole rest some all below = grind (arith, common_steps, nat_tests, mul-le-mul_right)
 
 lower : (a b unit : ℕ) → a * unit < b * unit → a < b
 lower a b unit below = grind (arith, below)
 
 some_across : (across down i : ℕ) → i < across * down → 0 < across
-some_across zero down i below = absurd (omega (arith, below))
-some_across (suc across) down i below = omega arith
+some_across across down i below = search (rules, arith)
 
 -- a unit that counts for a length begins in it
 unit_begins : (n unit k : ℕ) → 0 < unit → k < div_ceil n unit → k * unit < n
@@ -146,12 +131,7 @@ eight n some = omega (arith, some)
 part_inside : (tiling : Tiling) (cpp : ℕ) (f : Frame) (base x y i : ℕ) → IsShort cpp → i < part_count (cover_in tiling cpp f base x y)
     → part_offset (cover_in tiling cpp f base x y).tiling f.width cpp ((cover_in tiling cpp f base x y).left + i % (cover_in tiling cpp f base x y).across) ((cover_in tiling cpp f base x y).top + i / (cover_in tiling cpp f base x y).across) + (cover_in tiling cpp f base x y).size ≤ size_for tiling f.width f.height cpp
 unfolding raster_cover tiled_cover covered
-part_inside Raster cpp f base x y i short below =
-    raster_by cpp f.width f.height (x * tile_side f.bits) (y * tile_side f.bits) (tile_side f.bits) i (min (tile_side f.bits) (f.width - x * tile_side f.bits) == 0) refl below
-part_inside T cpp f base x y i short below =
-    tiled_inside T (inl refl) cpp f.width f.height x y (tile_side f.bits) i short (side_is f.bits) (eight (microtile_width_of cpp) (width_some cpp)) (eight (microtile_height_of cpp) (height_some cpp)) below
-part_inside Lt cpp f base x y i short below =
-    tiled_inside Lt (inr refl) cpp f.width f.height x y (tile_side f.bits) i short (side_is f.bits) (width_some cpp) (height_some cpp) below
+part_inside tiling cpp f base x y i short below = grind (arith, common_steps, nat_tests, raster_by, tiled_inside, side_is, eight, width_some, height_some)
 
 record PlaceIs (tiling : Tiling) (cpp : ℕ) (f : Frame) (base x y i : ℕ) : Type 0 where
   pub from : base ≤ part_place (cover_in tiling cpp f base x y) i
@@ -159,56 +139,29 @@ record PlaceIs (tiling : Tiling) (cpp : ℕ) (f : Frame) (base x y i : ℕ) : Ty
 
 place_is : (tiling : Tiling) (cpp : ℕ) (f : Frame) (base x y i : ℕ) → IsShort cpp → i < part_count (cover_in tiling cpp f base x y) → PlaceIs tiling cpp f base x y i
 unfolding part_place raster_cover tiled_cover
-place_is Raster cpp f base x y i short below = let h = part_inside Raster cpp f base x y i short below in record { from = omega arith; upto = omega (arith, h) }
-place_is T cpp f base x y i short below = let h = part_inside T cpp f base x y i short below in record { from = omega arith; upto = omega (arith, h) }
-place_is Lt cpp f base x y i short below = let h = part_inside Lt cpp f base x y i short below in record { from = omega arith; upto = omega (arith, h) }
+place_is tiling cpp f base x y i short below = search (rules, arith, part_inside)
 
 parts_styled : (M : ℕ → ℕ → Type 0) (style : Option Style) (one : Style) (f : Frame) (base x y : ℕ) → style ≡ Some one → IsShort one.cpp
     → ((p n : ℕ) → base ≤ p → p + n ≤ base + surface_size one f → M p n) → PartsMeet M (cover_for style (Some f) base x y)
-parts_styled M style one f base x y is short lies =
-    subst (λ s. PartsMeet M (cover_by s f base x y)) (sym is)
-    (λ i below.
-    let place = place_is one.tiling one.cpp f base x y i short below in
-    lies (part_place (cover_in one.tiling one.cpp f base x y) i) (cover_in one.tiling one.cpp f base x y).size place.from place.upto)
+parts_styled M style one f base x y is short lies = search (rules, arith, place_is)
 
 pub store_fine : (r : Rights) (style : Option Style) (f : Frame) (base x y : ℕ) → StoresSurface r style f base → PartsMeet (MayWrite r) (cover_for style (Some f) base x y)
-store_fine r style f base x y stores =
-    let size : ℕ = surface_size stores.style_is f in
-    parts_styled (MayWrite r) style stores.style_is f base x y stores.styled stores.pixel
-    (λ p n from upto. record {
-      region = inside_part r.region base size p n stores.writes.region from upto;
-      writable = inside_part r.writable base size p n stores.writes.writable from upto;
-    })
+store_fine r style f base x y stores = search (rules, arith, parts_styled, inside_part)
 
 pub load_fine : (r : Rights) (style : Option Style) (f : Frame) (base x y : ℕ) → LoadsSurface r style f base → PartsMeet (Inside r.region) (cover_for style (Some f) base x y)
-load_fine r style f base x y loads =
-    let size : ℕ = surface_size loads.style_is f in
-    parts_styled (Inside r.region) style loads.style_is f base x y loads.styled loads.pixel
-    (λ p n from upto. inside_part r.region base size p n loads.reads from upto)
+load_fine r style f base x y loads = search (rules, arith, parts_styled, inside_part)
 
 -- The same with another renderer.
 pub render_set : (r : Rights) (K : List ℕ → Type 0) (O : Launch → Type 0) (c : Config) (f : Frame) (s : Lists) (renderer : Renderer) (waited : Bool) → ListsFine r K O c f s
     → RenderWay r K c f renderer waited → (waited ≡ true → s.closed ≡ true) → ListsFine r K O c f (with_renderer s renderer)
-render_set r K O c f s renderer waited fine way passed = record {
-  waited = waited;
-  binner = fine.binner;
-  work = fine.work;
-  configs = fine.configs;
-  log = fine.log;
-  renderer = way;
-  counted = fine.counted;
-  passed = passed;
-  closed = fine.closed;
-}
+render_set r K O c f s renderer waited fine way passed = search (rules, arith)
 
 -- one less on the semaphore
 less : (n : ℕ) (b : Bool) → (n ≡ 0) ⊎ (b ≡ true) → (n - 1 ≡ 0) ⊎ (b ≡ true)
-less n b (inl e) = inl (omega (arith, e))
-less n b (inr e) = inr e
+less n b h2 = search (rules, arith)
 
 taken_fine : (r : Rights) (K : List ℕ → Type 0) (O : Launch → Type 0) (c : Config) (f : Frame) (s : Lists) → ListsFine r K O c f s → ListsFine r K O c f (with_taken s)
-taken_fine r K O c f s fine =
-    items_set r K O c f s s.pending (s.semaphore - 1) s.closed s.blocks s.items fine fine.log (less s.semaphore s.closed fine.counted) fine.passed fine.closed
+taken_fine r K O c f s fine = search (rules, arith, items_set, less)
 
 still : (r : Rights) (K : List ℕ → Type 0) (O : Launch → Type 0) (c : Config) (f : Frame) (s : Lists) → ListsFine r K O c f s → TurnedFine r K O c f (quiet s)
 still r K O c f s fine = record { lists = fine; launch = tt }
@@ -217,29 +170,21 @@ still r K O c f s fine = record { lists = fine; launch = tt }
 covered_written : (who : Who) (r : Rights) (L : ℕ → ℕ → Type 0) (P : List ℕ → Lists → Type 0) (cover : Option Cover) (words : List ℕ) (s : Lists) (m : List ℕ)
     → PartsMeet (MayWrite r) cover → ((k : List ℕ) → P k s) → Keeps who L (IsSafeIn r) P (cover_written cover words (Done s)) m
 unfolding cover_written
-covered_written who r L P None words s m parts ends = absurd parts
-covered_written who r L P (Some cover) words s m parts ends =
-    written_keep who L (IsSafeIn r) P cover words s 0 (part_count cover) m (λ k low high. write_safe r who (part_place cover k) cover.size (parts k (omega (arith, high)))) ends
+covered_written who r L P cover words s m parts ends = search (rules, arith, written_keep, write_safe)
 
 covered_read : (who : Who) (r : Rights) (L : ℕ → ℕ → Type 0) (P : List ℕ → Lists → Type 0) (cover : Option Cover) (s : Lists) (m : List ℕ)
     → PartsMeet (Inside r.region) cover → P m s → Keeps who L (IsSafeIn r) P (cover_read cover (Done s)) m
 unfolding cover_read
-covered_read who r L P None s m parts ends = absurd parts
-covered_read who r L P (Some cover) s m parts ends =
-    read_keep who L (IsSafeIn r) P cover s 0 (part_count cover) m (λ k low high. read_safe r who (part_place cover k) cover.size (parts k (omega (arith, high)))) ends
+covered_read who r L P cover s m parts ends = search (rules, arith, read_keep, read_safe)
 
 whole_stored : (who : Who) (r : Rights) (L : ℕ → ℕ → Type 0) (P : List ℕ → Lists → Type 0) (address : ℕ) (words : List ℕ) (s : Lists) (m : List ℕ)
     → MayWrite r (aligned address) whole_size → ((k : List ℕ) → P k s) → Keeps who L (IsSafeIn r) P (whole_written address words (Done s)) m
 unfolding whole_written
-whole_stored who r L P address words s m may ends = (
-  subst (λ n. IsSafeIn r (access who Write (aligned address) n)) (sym (chosen_size words 0 whole_size)) (write_safe r who (aligned address) whole_size may),
-  ends (stored m (aligned address) (chosen words 0 whole_size)),
-)
+whole_stored who r L P address words s m may ends = search (rules, arith, chosen_size, write_safe)
 
 -- the frame that is set is the job's one
 frame_is : (f : Frame) (frame : Option Frame) → is_some frame ≡ true → IfSome frame (λ one. one ≡ f) → frame ≡ Some f
-frame_is f None framed only = absurd cc
-frame_is f (Some one) framed only = ap Some only
+frame_is f frame framed only = search (rules, arith)
 
 frame_stored : (who : Who) (r : Rights) (L : ℕ → ℕ → Type 0) (P : List ℕ → Lists → Type 0) (f : Frame) (frame : Option Frame) (x y : ℕ) (words : List ℕ) (s : Lists) (m : List ℕ)
     → frame ≡ Some f → StoresSurface r (frame_style f.bits) f f.address → ((k : List ℕ) → P k s) → Keeps who L (IsSafeIn r) P (frame_written frame x y words (Done s)) m
@@ -249,8 +194,7 @@ frame_stored who r L P f frame x y words s m is stores ends =
     (covered_written who r L P (cover_for (frame_style f.bits) (Some f) f.address x y) words s m (store_fine r (frame_style f.bits) f f.address x y stores) ends)
 
 off_surface : (A : Type 0) (b : Bool) → (b ≡ true) ⊎ A → b ≡ false → A
-off_surface A b (inl e) off = absurd cc
-off_surface A b (inr a) off = a
+off_surface A b h2 off = search (rules, arith)
 
 general_stored : (who : Who) (r : Rights) (L : ℕ → ℕ → Type 0) (P : List ℕ → Lists → Type 0) (f : Frame) (frame : Option Frame) (bits address x y : ℕ) (words : List ℕ) (s : Lists) (m : List ℕ)
     → frame ≡ Some f → (names_none bits ≡ true) ⊎ StoresSurface r (general_style bits) f (aligned address) → ((k : List ℕ) → P k s)
@@ -279,14 +223,11 @@ waiting_loaded : (who : Who) (r : Rights) (c : Config) (f : Frame) (L : ℕ → 
     → frame ≡ Some f → IsDoneAt (MayDo r c f) (option_map load_packet waiting) x y → P m s
     → Keeps who L (IsSafeIn r) P (waiting_read waiting frame x y (Done s)) m
 unfolding whole_read
-waiting_loaded who r c f L P frame None x y s m is may ends = ends
-waiting_loaded who r c f L P frame (Some (Full address)) x y s m is may ends = (read_safe r who (aligned address) whole_size may, ends)
-waiting_loaded who r c f L P frame (Some (General bits address)) x y s m is may ends = general_loaded who r L P f frame bits address x y s m is may ends
+waiting_loaded who r c f L P frame waiting x y s m is may ends = search (rules, arith, read_safe, general_loaded)
 
 -- no load waits
 idle : (waiting : Option Load) → option_map load_packet waiting ≡ None → waiting ≡ None
-idle None e = refl
-idle (Some load) e = absurd cc
+idle waiting e = search (rules, arith)
 
 tile_is : (c : Config) (address tile : ℕ) → address ≡ c.address + 32 * tile → tile < tiles_of c → tile_named c address ≡ Some tile
 unfolding tile_named
@@ -317,37 +258,23 @@ record Ahead (r : Rights) (K : List ℕ → Type 0) (c : Config) (f : Frame) (pl
 way_on : (r : Rights) (K : List ℕ → Type 0) (c : Config) (f : Frame) (renderer : Renderer) (waited : Bool) (rest : List (Option Packet))
     → Ahead r K c f renderer.place renderer.end (view_of renderer waited) rest → IfSome renderer.frame (λ one. one ≡ f) → IfSome renderer.inside (λ sub. (sub.tile < tiles_of c) × (waited ≡ true))
     → RenderWay r K c f renderer waited
-way_on r K c f renderer waited rest ahead frame inside = record {
-  rest = rest;
-  ends = ahead.ends;
-  walks = ahead.walks;
-  fit = ahead.fit;
-  sets = ahead.sets;
-  stands = ahead.stands;
-  reads = ahead.reads;
-  frame = frame;
-  inside = inside;
-}
+way_on r K c f renderer waited rest ahead frame inside = search (rules, arith)
 
 -- so all stands again, behind a packet
 still_on : (r : Rights) (K : List ℕ → Type 0) (O : Launch → Type 0) (c : Config) (f : Frame) (s : Lists) (fine : ListsFine r K O c f s) (renderer : Renderer) (rest : List (Option Packet))
     → Ahead r K c f renderer.place renderer.end (view_of renderer fine.waited) rest → IfSome renderer.frame (λ one. one ≡ f) → IfSome renderer.inside (λ sub. (sub.tile < tiles_of c) × (fine.waited ≡ true))
     → TurnedFine r K O c f (quiet (with_renderer s renderer))
-still_on r K O c f s fine renderer rest ahead frame inside =
-    still r K O c f (with_renderer s renderer) (render_set r K O c f s renderer fine.waited fine (way_on r K c f renderer fine.waited rest ahead frame inside) fine.passed)
+still_on r K O c f s fine renderer rest ahead frame inside = search (rules, arith, still, render_set, way_on)
 
 raised_when : (n : ℕ) (b : Bool) → (n ≡ 0) ⊎ (b ≡ true) → n ≢ 0 → b ≡ true
-raised_when n b (inl e) some = absurd (some e)
-raised_when n b (inr e) some = e
+raised_when n b h2 some = search (rules, arith)
 
 inside_again : (c : Config) (inside : Option SubList) (waited : Bool) → inside ≡ None → IfSome inside (λ sub. (sub.tile < tiles_of c) × (waited ≡ true))
-inside_again c None waited e = tt
-inside_again c (Some sub) waited e = absurd cc
+inside_again c inside waited e = search (rules, arith)
 
 wait_keeps : (who : Who) (r : Rights) (L : ℕ → ℕ → Type 0) (P : List ℕ → Lists → Type 0) (s : Lists) (waiting : Option Load) (load : Load) (m : List ℕ)
     → waiting ≡ None → P m (with_load s load) → Keeps who L (IsSafeIn r) P (wait_plan s waiting load) m
-wait_keeps who r L P s None load m is ends = ends
-wait_keeps who r L P s (Some other) load m is ends = absurd cc
+wait_keeps who r L P s waiting load m is ends = search (rules, arith)
 
 -- What a packet of the list says is done safely, and all stands again.
 act_keeps : (who : Who) (r : Rights) (K : List ℕ → Type 0) (O : Launch → Type 0) (c : Config) (f : Frame) (L : ℕ → ℕ → Type 0) (s : Lists) (words m : List ℕ) (packet : Packet) (rest : List (Option Packet))
@@ -414,22 +341,11 @@ act_keeps who r K O c f L s words m (TileCoordinates x y) rest fine outside rais
 -- The renderer reads its next packet.
 waits : (s : Lists) (packet : Packet) → may_pass s (slice_index (packet_text packet) 0) ≡ true → packet ≡ WaitOnSemaphore → s.semaphore ≢ 0
 unfolding may_pass packet_text
-waits s packet passes is none =
-    grind (arith, common_steps, nat_tests, subst (λ p. may_pass s (slice_index (packet_text p) 0) ≡ true) is passes, none)
+waits s packet passes is none = search (rules, arith)
 
 pub some_text : (packet : Packet) → 1 ≤ length (packet_text packet)
 unfolding packet_text
-some_text WaitOnSemaphore = omega arith
-some_text (BranchToSubList address) = omega arith
-some_text StoreTileColor = omega arith
-some_text StoreTileColorAndEnd = omega arith
-some_text (StoreFullResolution address) = omega arith
-some_text (LoadFullResolution address) = omega arith
-some_text (StoreTileBuffer bits address) = omega arith
-some_text (LoadTileBuffer bits address) = omega arith
-some_text (TileRenderingMode address width height bits) = omega arith
-some_text (ClearColors first second z stencil) = omega arith
-some_text (TileCoordinates x y) = omega arith
+some_text packet = search (rules, arith)
 
 packet_step : (who : Who) (r : Rights) (K : List ℕ → Type 0) (O : Launch → Type 0) (c : Config) (f : Frame) (s : Lists) (free : Free) (words m : List ℕ) (rest : List (Option Packet))
     → K m → (fine : ListsFine r K O c f s) → s.renderer.inside ≡ None → s.renderer.place < s.renderer.end → may_pass s (slice_index m s.renderer.place) ≡ true
@@ -471,8 +387,7 @@ every_drop P (suc n) (item ∷ items) all = every_drop P n items all.1
 
 found_by : (P : Item → Type 0) (tile n : ℕ) (item : Item) (later : Option Found) (b : Bool) → P item → IfSome later (λ found. P found.item)
     → IfSome (if b then Some (record { number = n; item = item }) else later) (λ found. P found.item)
-found_by P tile n item later true one rest = one
-found_by P tile n item later false one rest = rest
+found_by P tile n item later b one rest = search (rules, arith)
 
 found_fine : (P : Item → Type 0) (tile n : ℕ) (items : List Item) → Every P items → IfSome (first_of_tile tile n items) (λ found. P found.item)
 found_fine P tile n [] all = tt
@@ -485,11 +400,7 @@ item_fine P sub items all = found_fine P sub.tile sub.at (drop sub.at items) (ev
 -- the renderer stands elsewhere in the same tile's list, or has left it
 moved_fine : (r : Rights) (K : List ℕ → Type 0) (O : Launch → Type 0) (c : Config) (f : Frame) (s : Lists) (inside : Option SubList) → (fine : ListsFine r K O c f s)
     → IfSome inside (λ sub. (sub.tile < tiles_of c) × (fine.waited ≡ true)) → ListsFine r K O c f (with_inside s inside)
-moved_fine r K O c f s inside fine there =
-    let way = fine.renderer in
-    render_set r K O c f s (record (s.renderer) { inside = inside }) fine.waited fine
-    (record { rest = way.rest; ends = way.ends; walks = way.walks; fit = way.fit; sets = way.sets; stands = way.stands; reads = way.reads; frame = way.frame; inside = there })
-    fine.passed
+moved_fine r K O c f s inside fine there = search (rules, arith, render_set)
 
 vertex_keeps : (who : Who) (r : Rights) (K : List ℕ → Type 0) (O : Launch → Type 0) (c : Config) (f : Frame) (s : Lists) (item : Item) (words m : List ℕ)
     → K m → ListsFine r K O c f s → ItemFine r K O item
@@ -525,21 +436,7 @@ choice_keeps : (who : Who) (r : Rights) (K : List ℕ → Type 0) (O : Launch �
     → K m → (fine : ListsFine r K O c f s) → (sub.tile < tiles_of c) × (fine.waited ≡ true) → ItemFine r K O found.item
     → Keeps who (Inside r.region) (IsSafeIn r) (λ k turned. TurnedFine r K O c f turned) (choice_plan s free words sub found) m
 unfolding choice_plan
-choice_keeps who r K O c f s free words m sub found here fine tile one =
-    let L = Inside r.region in
-    let G = IsSafeIn r in
-    let P = λ (k : List ℕ) (turned : Turned). TurnedFine r K O c f turned in
-    let at : Lists = at_item s sub.tile found.number in
-    let next : Lists = at_item s sub.tile (found.number + 1) in
-    let choice : ℕ = word_at words 0 % 4 in
-    let stands : ListsFine r K O c f at = moved_fine r K O c f s (Some (record { tile = sub.tile; at = found.number })) fine tile in
-    keeps_if who L G P m (choice == 0) (vertex_plan at found.item words) (if choice == 1 then program_plan at Vertex free found.item else (if choice == 2 then program_plan at Fragment free found.item else Done (quiet next)))
-    (λ on. vertex_keeps who r K O c f at found.item words m here stands one)
-    (λ off. keeps_if who L G P m (choice == 1) (program_plan at Vertex free found.item) (if choice == 2 then program_plan at Fragment free found.item else Done (quiet next))
-    (λ on. program_keeps who r K O c f at Vertex free found.item m here stands one)
-    (λ off. keeps_if who L G P m (choice == 2) (program_plan at Fragment free found.item) (Done (quiet next))
-    (λ on. program_keeps who r K O c f at Fragment free found.item m here stands one)
-    (λ off. still r K O c f next (moved_fine r K O c f s (Some (record { tile = sub.tile; at = found.number + 1 })) fine tile))))
+choice_keeps who r K O c f s free words m sub found here fine tile one = search (rules, arith, moved_fine, keeps_if, vertex_keeps, program_keeps, still)
 
 found_keeps : (who : Who) (r : Rights) (K : List ℕ → Type 0) (O : Launch → Type 0) (c : Config) (f : Frame) (s : Lists) (free : Free) (words m : List ℕ) (sub : SubList) (found : Option Found)
     → K m → (fine : ListsFine r K O c f s) → (sub.tile < tiles_of c) × (fine.waited ≡ true) → IfSome found (λ one. ItemFine r K O one.item)
@@ -551,8 +448,7 @@ found_keeps who r K O c f s free words m sub (Some found) here fine tile one =
 -- Where the renderer may step.
 pass_by : (below : Bool) (s : Lists) (m : List ℕ) → glanced (if below then At s.renderer.place 1 (λ head. Now (may_pass s (slice_index head 0))) else Now false) m ≡ true → may_pass s (slice_index m s.renderer.place) ≡ true
 unfolding bytes_at
-pass_by true s m ready = ready
-pass_by false s m ready = absurd cc
+pass_by below s m ready = search (rules, arith)
 
 ready_pass : (s : Lists) (m : List ℕ) → s.renderer.inside ≡ None → glanced (renderer_ready s) m ≡ true → may_pass s (slice_index m s.renderer.place) ≡ true
 unfolding renderer_ready bytes_at
@@ -579,12 +475,10 @@ renderer_keeps who r K O c f s free words m here fine ready = renderer_keeps_by 
 
 -- By which look it sees whether it may.
 looks_by : (L : ℕ → ℕ → Type 0) (place : ℕ) (next : List ℕ → Glance Bool) (m : List ℕ) (below : Bool) → ((bytes : List ℕ) → GlancesIn L (next bytes) m) → (below ≡ true → L place 1) → GlancesIn L (if below then At place 1 next else Now false) m
-looks_by L place next m true later look = (look refl, later (bytes_at m place 1))
-looks_by L place next m false later look = tt
+looks_by L place next m below later look = search (rules, arith)
 
 looks_in : (r : Rights) (s : Lists) (m : List ℕ) (inside : Option SubList) → (s.renderer.place < s.renderer.end → Inside r.region s.renderer.place 1) → GlancesIn (Inside r.region) (ready_in s inside) m
-looks_in r s m None look = search (arith, looks_by)
-looks_in r s m (Some sub) look = tt
+looks_in r s m inside look = search (rules, arith, looks_by)
 
 pub renderer_looks : (r : Rights) (K : List ℕ → Type 0) (O : Launch → Type 0) (c : Config) (f : Frame) (s : Lists) (m : List ℕ) → ListsFine r K O c f s → GlancesIn (Inside r.region) (renderer_ready s) m
 unfolding renderer_ready

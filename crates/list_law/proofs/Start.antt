@@ -1,9 +1,9 @@
 -- All stands at the start.
-use Rattle.std.proofs.Common.{◌≡◌, ◌⊎◌, inl, inr, ℕ, zero, suc, ◌+◌, Bool, true, false, List, [], ◌∷◌, ◌++◌, length, Option, Some, None, if◌then◌else◌, bit_or, refl, arith}
+use Rattle.std.proofs.Common.{◌≡◌, ◌⊎◌, ℕ, zero, suc, ◌+◌, Bool, List, [], ◌∷◌, ◌++◌, length, Option, Some, None, if◌then◌else◌, bit_or, arith, rules}
 use Rattle.std.proofs.{lemmas.Bool.false≢true, Common.◌&&◌}
 use Rattle.field_words.specs.Pieces.{joined}
 use Rattle.job_format.specs.declared.file.Frame.{Frame as JobFrame}
-use Rattle.packets.specs.declared.packet.Packet.TheVariants.{WaitOnSemaphore, BranchToSubList, StoreTileColor, StoreTileColorAndEnd, StoreFullResolution, LoadFullResolution, StoreTileBuffer, LoadTileBuffer, TileRenderingMode, ClearColors, TileCoordinates}
+use Rattle.packets.specs.declared.packet.Packet.TheVariants.{StoreTileColor, StoreTileColorAndEnd, LoadFullResolution, LoadTileBuffer, TileCoordinates}
 use Rattle.packets.specs.declared.{packet.Packet.Packet, config.Config.Config}
 use Rattle.packets.specs.{Opcode.indexed_primitive_list, Opcode.array_primitive_list, Packet.slots_text}
 use Rattle.bin_list.specs.Packets.{opcode}
@@ -11,10 +11,10 @@ use Rattle.machine_plan.specs.{declared.launch.Launch.Launch, Regions.Rights}
 use Rattle.bin_walks.specs.Walks.{Kept as Passed, kept_after, Drawing, Tame, Walks}
 use Rattle.render_list.specs.Text.{packet_where, head_packet, clear_packet, clear_slots, front_slots, load_packet, load_slot, wait_slot, list_slot, full_store, full_store_slot, zs_store, zs_store_slot, color_store, color_store_slot, load_slots, list_slots, write_slots, tile_slots, span_slots, render_slots}
 use Rattle.render_list.specs.Text.{is_there, more_after_multisample_color, more_after_multisample_zs, some_before_zs, some_before_color}
-use Rattle.render_list.specs.Frame.{surface_at, is_full, full_place, is_first_tile, is_last_tile, place_at}
+use Rattle.render_list.specs.Frame.{place_at}
 use Rattle.render_walks.specs.Walks.{View, pass, IsDoneAt, Tame as Harmless, WalksTo}
 use Rattle.list_machine.specs.{declared.state.Frame.Frame, Lists.lists_start}
-use Rattle.list_law.specs.{Binning.FitsIn, Binning.NotYet, Lists.ListsFine, Rendering.NoMatter, Rendering.SetsOnly, Rendering.AllSet}
+use Rattle.list_law.specs.{Binning.FitsIn, Lists.ListsFine, Rendering.NoMatter, Rendering.SetsOnly, Rendering.AllSet}
 use Rattle.list_law.specs.Start.{frame_of, BinnerBegins, RendererBegins}
 
 -- nothing is in a tile's list
@@ -24,17 +24,7 @@ empty_fits c = record { from = λ some. absurd (omega (arith, some)); upto = λ 
 pub lists_begin : (r : Rights) (K : List ℕ → Type 0) (O : Launch → Type 0) (c : Config) (f : Frame) (bin_place render_place : ℕ) (packets : List (List ℕ)) (slots : List (Option Packet))
     → BinnerBegins r K O c bin_place packets → RendererBegins r K c f render_place slots
     → ListsFine r K O c f (lists_start bin_place (length (joined packets)) render_place (length (slots_text slots)))
-lists_begin r K O c f bin_place render_place packets slots bin render = record {
-  waited = false;
-  binner = record { rest = packets; ends = refl; walks = bin.walks; stands = bin.stands; reads = bin.reads };
-  work = tt;
-  configs = NotYet refl;
-  log = record { items = tt; spots = λ tile. empty_fits c };
-  renderer = record { rest = slots; ends = refl; walks = render.walks; fit = render.fit; sets = render.sets; stands = render.stands; reads = render.reads; frame = tt; inside = tt };
-  counted = inl refl;
-  passed = λ e. absurd (false≢true e);
-  closed = λ e. absurd (false≢true e);
-}
+lists_begin r K O c f bin_place render_place packets slots bin render = search (rules, arith, empty_fits, false≢true)
 
 -- Where lists walk by one condition, they walk by another that follows from it of each packet that draws.
 abbrev pub Follows : (R Q : ℕ → List ℕ → Type 0) → Type 0
@@ -44,38 +34,17 @@ drawing_so : (R Q : ℕ → List ℕ → Type 0) → Follows R Q → (kept : Pas
 drawing_so R Q follows kept packet kind one = record { word = one.word; kept_word = one.kept_word; started = one.started; allowed = follows one.word packet one.allowed kind }
 
 tame_so : (c : Config) (R Q : ℕ → List ℕ → Type 0) → Follows R Q → (kept : Passed) (packet : List ℕ) → Tame c R kept packet → Tame c Q kept packet
-tame_so c R Q follows kept packet tame = record {
-  whole = tame.whole;
-  known = tame.known;
-  no_halt = tame.no_halt;
-  no_handles = tame.no_handles;
-  configures = tame.configures;
-  starts = tame.starts;
-  indexed = λ is. drawing_so R Q follows kept packet (inl is) (tame.indexed is);
-  array = λ is. drawing_so R Q follows kept packet (inr is) (tame.array is);
-  closes = tame.closes;
-}
+tame_so c R Q follows kept packet tame = search (rules, arith, drawing_so)
 
 pub walks_so : (c : Config) (R Q : ℕ → List ℕ → Type 0) → Follows R Q → (kept : Passed) (packets : List (List ℕ)) → Walks c R kept packets → Walks c Q kept packets
 walks_so c R Q follows kept [] walks = tt
 walks_so c R Q follows kept (packet ∷ packets) walks = (tame_so c R Q follows kept packet walks.0, walks_so c R Q follows (kept_after kept packet) packets walks.1)
 
 done_weaker : (R Q : Packet → ℕ → ℕ → Type 0) → ((p : Packet) (x y : ℕ) → R p x y → Q p x y) → (load : Option Packet) (x y : ℕ) → IsDoneAt R load x y → IsDoneAt Q load x y
-done_weaker R Q weaker None x y h = tt
-done_weaker R Q weaker (Some load) x y h = weaker load x y h
+done_weaker R Q weaker load x y h = search (rules, arith)
 
 harmless_weaker : (R Q : Packet → ℕ → ℕ → Type 0) → ((p : Packet) (x y : ℕ) → R p x y → Q p x y) → (k : View) (packet : Packet) → Harmless R k packet → Harmless Q k packet
-harmless_weaker R Q weaker k WaitOnSemaphore h = h
-harmless_weaker R Q weaker k (BranchToSubList address) h = (h.0, weaker (BranchToSubList address) k.x k.y h.1)
-harmless_weaker R Q weaker k StoreTileColor h = (h.0, weaker StoreTileColor k.x k.y h.1)
-harmless_weaker R Q weaker k StoreTileColorAndEnd h = (h.0, weaker StoreTileColorAndEnd k.x k.y h.1)
-harmless_weaker R Q weaker k (StoreFullResolution address) h = (h.0, weaker (StoreFullResolution address) k.x k.y h.1)
-harmless_weaker R Q weaker k (LoadFullResolution address) h = h
-harmless_weaker R Q weaker k (StoreTileBuffer bits address) h = (h.0, weaker (StoreTileBuffer bits address) k.x k.y h.1)
-harmless_weaker R Q weaker k (LoadTileBuffer bits address) h = h
-harmless_weaker R Q weaker k (TileRenderingMode address width height bits) h = h
-harmless_weaker R Q weaker k (ClearColors first second z stencil) h = h
-harmless_weaker R Q weaker k (TileCoordinates x y) h = (h.0, done_weaker R Q weaker k.waiting x y h.1)
+harmless_weaker R Q weaker k packet h = search (rules, arith, done_weaker)
 
 pub walks_to_weaker : (R Q : Packet → ℕ → ℕ → Type 0) (I : View → Type 0) → ((p : Packet) (x y : ℕ) → R p x y → Q p x y) → (k : View) (slots : List (Option Packet)) → WalksTo R I k slots → WalksTo Q NoMatter k slots
 walks_to_weaker R Q I weaker k [] walks = tt
@@ -95,48 +64,38 @@ sets_span f slots first (suc n) each = sets_append f (slots first) (span_slots s
 
 -- one slot before others
 sets_next : (f : Frame) (slot : Option Packet) (rest : List (Option Packet)) → AllSet f (slot ∷ []) → AllSet f rest → AllSet f (slot ∷ rest)
-sets_next f None rest one two = two
-sets_next f (Some packet) rest one two = (one.0, two)
+sets_next f slot rest one two = search (rules, arith)
 
 sets_where : (f : Frame) (test : Bool) (packet : Packet) → SetsOnly f packet → AllSet f (packet_where test packet ∷ [])
-sets_where f true packet one = (one, tt)
-sets_where f false packet one = tt
+sets_where f test packet one = search (rules, arith)
 
 load_by : (f : Frame) (full : Bool) (far bits place : ℕ) → SetsOnly f (if full then LoadFullResolution far else LoadTileBuffer bits place)
-load_by f true far bits place = tt
-load_by f false far bits place = tt
+load_by f full far bits place = search (rules, arith)
 
 sets_load : (f : Frame) (frame : JobFrame) (k left_out : ℕ) (place : Option ℕ) (x y : ℕ) → AllSet f (load_slot frame k left_out place x y ∷ [])
 unfolding load_packet
-sets_load f frame k left_out None x y = tt
-sets_load f frame k left_out (Some place) x y = (load_by f (is_full k (surface_at frame k)) (bit_or (full_place frame place x y) left_out) (surface_at frame k).bits place, tt)
+sets_load f frame k left_out place x y = search (rules, arith, load_by, bit_or)
 
 sets_wait : (f : Frame) (frame : JobFrame) (grid : Option (ℕ × ℕ)) (x y : ℕ) → AllSet f (wait_slot frame grid x y ∷ [])
-sets_wait f frame None x y = tt
-sets_wait f frame (Some grid) x y = sets_where f (is_first_tile frame x y) WaitOnSemaphore tt
+sets_wait f frame grid x y = search (rules, arith, sets_where)
 
 sets_list : (f : Frame) (grid : Option (ℕ × ℕ)) (slot x y : ℕ) → AllSet f (list_slot grid slot x y ∷ [])
-sets_list f None slot x y = tt
-sets_list f (Some grid) slot x y = (tt, tt)
+sets_list f grid slot x y = search (rules, arith)
 
 sets_full : (f : Frame) (frame : JobFrame) (place : Option ℕ) (left_out : ℕ) (more : Bool) (x y : ℕ) → AllSet f (full_store_slot frame place left_out more x y ∷ [])
 unfolding full_store
-sets_full f frame None left_out more x y = tt
-sets_full f frame (Some place) left_out more x y = (tt, tt)
+sets_full f frame place left_out more x y = search (rules, arith)
 
 sets_zs : (f : Frame) (frame : JobFrame) (place : Option ℕ) (more : Bool) (x y : ℕ) → AllSet f (zs_store_slot frame place more x y ∷ [])
 unfolding zs_store
-sets_zs f frame None more x y = tt
-sets_zs f frame (Some place) more x y = (tt, tt)
+sets_zs f frame place more x y = search (rules, arith)
 
 color_by : (f : Frame) (last : Bool) → SetsOnly f (if last then StoreTileColorAndEnd else StoreTileColor)
-color_by f true = tt
-color_by f false = tt
+color_by f last = search (rules, arith)
 
 sets_color : (f : Frame) (frame : JobFrame) (place : Option ℕ) (x y : ℕ) → AllSet f (color_store_slot frame place x y ∷ [])
 unfolding color_store
-sets_color f frame None x y = tt
-sets_color f frame (Some place) x y = (color_by f (is_last_tile frame x y), tt)
+sets_color f frame place x y = search (rules, arith, color_by)
 
 sets_loads : (f : Frame) (frame : JobFrame) (places : List (Option ℕ)) (x y : ℕ) → AllSet f (load_slots frame places x y)
 unfolding load_slots

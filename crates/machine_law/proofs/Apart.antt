@@ -1,22 +1,21 @@
 -- Clients are apart: what one client's jobs access, and what its memory ends as, is the same in all runs in which they take the same steps.
-use Rattle.std.proofs.Common.{◌≡◌, ℕ, zero, suc, ◌+◌, ◌⊎◌, inl, inr, Bool, true, false, if◌then◌else◌, List, [], ◌∷◌, ◌++◌, refl, sym, ◌∙◌, ap, subst, arith, IsTrue, map, slice_index, Some, None}
+use Rattle.std.proofs.Common.{◌≡◌, ℕ, zero, suc, ◌+◌, ◌⊎◌, inl, inr, Bool, true, false, if◌then◌else◌, List, [], ◌∷◌, ◌++◌, refl, sym, ◌∙◌, ap, subst, arith, IsTrue, map, slice_index, Some, None, rules}
 use Rattle.std.proofs.lemmas.{Bool.false≢true, Option.slice_get-map}
-use Rattle.machine_plan.specs.Regions.{Interval, Inside, Rights, rights_of, IsIn, Every, IsSafeAccess, HasReadOnly, Agree, Misses}
+use Rattle.machine_plan.specs.Regions.{Interval, Inside, Rights, rights_of, IsIn, IsSafeAccess, HasReadOnly, Agree, Misses}
 use Rattle.machine_plan.specs.Others.{Happening, Steps, Changes, MayHappen, happen, AllMayHappen, IsLeft}
-use Rattle.machine_plan.specs.{Plan.Keeps, World.Turn, Runs.reached}
+use Rattle.machine_plan.specs.{World.Turn, Runs.reached}
 use Rattle.apart_law.specs.Part.{Client, accesses_of, UnitsAlike, StatesAlike}
 use Rattle.apart_law.specs.{Steps.StaysIn, Steps.StepsAlike, Tied.AreTied, Tied.RestsFresh}
 use Rattle.apart_law.specs.Trail.{Entry, entry_of, own_entry, happening_entry, with_entry, entries_of}
 use Rattle.machine_law.specs.Apart.{regions_of, IsUnshared, Beginning, AreNeighbours, BeginsSoundly, AreLeft, ClientsApart, ClientsApartAnywhere, ClientsApartWithOthers}
-use Rattle.machine_law.specs.{Jobs.facts_of, Laws.AreFine, Units.QpuFine}
-use Rattle.std.specs.Prelude.{option_map}
+use Rattle.machine_law.specs.{Jobs.facts_of, Laws.AreFine, Units.Facts, Units.QpuFine, Units.UnitsFine}
 use Rattle.machine_plan.proofs.{Memory.inside_part, Runs.every-weaker, Others.Holds, Others.run_holds, Others.run_others}
 use Rattle.machine_plan.proofs.Plans.{kept, length-carried, keeps_accesses, keeps_of, keeps_weaker}
-use Rattle.machine.specs.State.{Units, State, start_of, job_start}
+use Rattle.machine.specs.State.{Units, State, start_of}
 use Rattle.machine.specs.Step.{Event, job_of, may, step, ready, turn}
 use Rattle.apart_law.proofs.{Own.own_alike_law, Tied.idle_tied, Turns.turn_job, Silent.others_silent_law, Silent.keep_tied_law}
 use Rattle.apart_law.proofs.{Parts.some_same, Parts.some_none, Trails.AllMay, Trails.trails_alike}
-use Rattle.machine_law.proofs.{Begins.each_begins, Owes.units_owe_law, Owes.start_fine}
+use Rattle.machine_law.proofs.{Begins.each_begins, Owes.AllKeep, Owes.units_owe_law, Owes.start_fine}
 
 -- The regions of a client's jobs, joined: they have the region of each of its jobs, and nothing else.
 
@@ -35,22 +34,18 @@ inside_either (r ∷ rs) qs p n (inl lies) = inl (inl lies)
 inside_either (r ∷ rs) qs p n (inr lies) = elim (inside_either rs qs p n lies) [ inl first ↦ inl (inr first) | inr later ↦ inr later ]
 
 first_in : (own : Bool) (one rest : List Interval) (p n : ℕ) → own ≡ true → Inside one p n → Inside (if own then one ++ rest else rest) p n
-first_in true one rest p n is lies = inside_left one rest p n lies
-first_in false one rest p n is lies = absurd (false≢true is)
+first_in own one rest p n is lies = search (rules, arith, inside_left, false≢true)
 
 rest_in : (own : Bool) (one rest : List Interval) (p n : ℕ) → Inside rest p n → Inside (if own then one ++ rest else rest) p n
-rest_in true one rest p n lies = inside_right one rest p n lies
-rest_in false one rest p n lies = lies
+rest_in own one rest p n lies = search (rules, arith, inside_right)
 
 own_region_from : (mine : Client) (n j k : ℕ) (rights : List Rights) (p size : ℕ) → k ≡ n + j → mine k ≡ true → Inside (rights_of rights j).region p size → Inside (regions_of mine n rights) p size
 own_region_from mine n j k [] p size is own lies = absurd lies
-own_region_from mine n zero k (one ∷ others) p size is own lies =
-    first_in (mine n) one.region (regions_of mine (n + 1) others) p size (ap mine (omega (arith, is)) ∙ own) lies
-own_region_from mine n (suc j) k (one ∷ others) p size is own lies =
-    rest_in (mine n) one.region (regions_of mine (n + 1) others) p size (own_region_from mine (n + 1) j k others p size (omega (arith, is)) own lies)
+own_region_from mine n zero k (one ∷ others) p size is own lies = search (rules, arith, first_in)
+own_region_from mine n (suc j) k (one ∷ others) p size is own lies = search (rules, arith, rest_in, own_region_from mine (n + 1) j k others p size (omega (arith, is)) own lies)
 
 -- the region of a job of the client's
-record LiesInOwn (mine : Client) (n : ℕ) (rights : List Rights) (p size : ℕ) : Type 0 where
+pub record LiesInOwn (mine : Client) (n : ℕ) (rights : List Rights) (p size : ℕ) : Type 0 where
   pub j : ℕ
   pub own : mine (n + j) ≡ true
   pub lies : Inside (rights_of rights j).region p size
@@ -63,58 +58,48 @@ first_own mine n one others p size own lies = record { j = 0; own = ap mine (ome
 
 in_own_by : (mine : Client) (n : ℕ) (own : Bool) (one : Rights) (others : List Rights) (p size : ℕ) → mine n ≡ own → (Inside (regions_of mine (n + 1) others) p size → LiesInOwn mine (n + 1) others p size)
     → Inside (if own then one.region ++ regions_of mine (n + 1) others else regions_of mine (n + 1) others) p size → LiesInOwn mine n (one ∷ others) p size
-in_own_by mine n true one others p size is later lies =
-    elim (inside_either one.region (regions_of mine (n + 1) others) p size lies) [ inl first ↦ first_own mine n one others p size is first | inr rest ↦ next_own mine n one others p size (later rest) ]
-in_own_by mine n false one others p size is later lies = next_own mine n one others p size (later lies)
+in_own_by mine n own one others p size is later lies = search (rules, arith, inside_either, first_own, next_own)
 
-in_own : (mine : Client) (n : ℕ) (rights : List Rights) (p size : ℕ) → Inside (regions_of mine n rights) p size → LiesInOwn mine n rights p size
+pub in_own : (mine : Client) (n : ℕ) (rights : List Rights) (p size : ℕ) → Inside (regions_of mine n rights) p size → LiesInOwn mine n rights p size
 in_own mine n [] p size lies = absurd lies
 in_own mine n (one ∷ others) p size lies = in_own_by mine n (mine n) one others p size refl (λ later. in_own mine (n + 1) others p size later) lies
+
+pub own_at : (mine : Client) (rights : List Rights) (p size : ℕ) → (one : LiesInOwn mine 0 rights p size) → mine one.j ≡ true
+own_at mine rights p size one = sym (ap mine (omega arith)) ∙ one.own
 
 -- These intervals have the regions of the client's jobs, and no job of another client may write a byte of them.
 pub record HasRegions (mine : Client) (rights : List Rights) (all : List Interval) : Type 0 where
   pub covers : (j p size : ℕ) → mine j ≡ true → Inside (rights_of rights j).region p size → Inside all p size
   pub apart : (k p : ℕ) → mine k ≡ false → Inside all p 1 → Inside (rights_of rights k).writable p 1 → ⊥
 
-covered : (mine : Client) (rights : List Rights) (j p size : ℕ) → mine j ≡ true → Inside (rights_of rights j).region p size → Inside (regions_of mine 0 rights) p size
+pub covered : (mine : Client) (rights : List Rights) (j p size : ℕ) → mine j ≡ true → Inside (rights_of rights j).region p size → Inside (regions_of mine 0 rights) p size
 covered mine rights j p size own lies = own_region_from mine 0 j j rights p size (omega arith) own lies
 
 pub has_regions : (mine : Client) (rights : List Rights) → IsUnshared mine rights → HasRegions mine rights (regions_of mine 0 rights)
-has_regions mine rights unshared = record {
-  covers = λ j p size own lies. covered mine rights j p size own lies;
-  apart = λ k p others lies writes.
-      let one = in_own mine 0 rights p 1 lies in
-      unshared one.j k p (sym (ap mine (omega arith)) ∙ one.own) others one.lies writes;
-}
+has_regions mine rights unshared = search (rules, arith, covered, in_own)
 
 -- the same intervals are the client's among its other neighbours
 pub neighbour_has : (mine : Client) (b c : Beginning) → AreNeighbours mine b c → HasRegions mine c.rights (regions_of mine 0 b.rights)
-neighbour_has mine b c near = record {
-  covers = λ j p size own lies. covered mine b.rights j p size own (subst (λ (r : Rights). Inside r.region p size) (sym (near.rights j own)) lies);
-  apart = λ k p others lies writes.
-      let one = in_own mine 0 b.rights p 1 lies in
-      let own : mine one.j ≡ true = sym (ap mine (omega arith)) ∙ one.own in
-      near.other_unshared one.j k p own others (subst (λ (r : Rights). Inside r.region p 1) (near.rights one.j own) one.lies) writes;
-}
+neighbour_has mine b c near = search (rules, arith, covered, in_own)
 
 -- states that are alike to a client
-units_then : (mine : Client) (u v w : Units) → UnitsAlike mine u v → UnitsAlike mine v w → UnitsAlike mine u w
-units_then mine u v w first second = record { jobs = λ j own. first.jobs j own ∙ second.jobs j own; qpus = first.qpus ∙ second.qpus }
+pub units_same : (mine : Client) (u : Units) → UnitsAlike mine u u
+units_same mine u = record { jobs = λ j own. refl; qpus = refl }
 
-units_back : (mine : Client) (u v : Units) → UnitsAlike mine u v → UnitsAlike mine v u
-units_back mine u v alike = record { jobs = λ j own. sym (alike.jobs j own); qpus = sym alike.qpus }
+pub agree_same : (all : List Interval) (m : List ℕ) → Agree all m m
+agree_same all m = record { long = refl; same = λ p lies. refl }
 
-agree_then : (all : List Interval) (m k l : List ℕ) → Agree all m k → Agree all k l → Agree all m l
-agree_then all m k l first second = record { long = first.long ∙ second.long; same = λ p lies. first.same p lies ∙ second.same p lies }
+pub states_then : (mine : Client) (all : List Interval) (s t r : State) → StatesAlike mine all s t → StatesAlike mine all t r → StatesAlike mine all s r
+states_then mine all s t r first second = record {
+  units = record { jobs = λ j own. first.units.jobs j own ∙ second.units.jobs j own; qpus = first.units.qpus ∙ second.units.qpus };
+  memory = record { long = first.memory.long ∙ second.memory.long; same = λ p lies. first.memory.same p lies ∙ second.memory.same p lies };
+}
 
-agree_back : (all : List Interval) (m k : List ℕ) → Agree all m k → Agree all k m
-agree_back all m k agree = record { long = sym agree.long; same = λ p lies. sym (agree.same p lies) }
-
-states_then : (mine : Client) (all : List Interval) (s t r : State) → StatesAlike mine all s t → StatesAlike mine all t r → StatesAlike mine all s r
-states_then mine all s t r first second = record { units = units_then mine s.units t.units r.units first.units second.units; memory = agree_then all s.memory t.memory r.memory first.memory second.memory }
-
-states_back : (mine : Client) (all : List Interval) (s t : State) → StatesAlike mine all s t → StatesAlike mine all t s
-states_back mine all s t alike = record { units = units_back mine s.units t.units alike.units; memory = agree_back all s.memory t.memory alike.memory }
+pub states_back : (mine : Client) (all : List Interval) (s t : State) → StatesAlike mine all s t → StatesAlike mine all t s
+states_back mine all s t alike = record {
+  units = record { jobs = λ j own. sym (alike.units.jobs j own); qpus = sym alike.units.qpus };
+  memory = record { long = sym alike.memory.long; same = λ p lies. sym (alike.memory.same p lies) };
+}
 
 -- what is known of each state of a run
 record Known (b : Beginning) (s : State) : Type 0 where
@@ -127,12 +112,10 @@ MayApart b all s (Steps event) = IsTrue (may s event)
 MayApart b all s (Changes m) = HasReadOnly b.rights s.memory m × ((p : ℕ) → Inside all p 1 → slice_index m p ≡ slice_index s.memory p)
 
 may_happen : (b : Beginning) (all : List Interval) (s : State) (one : Happening Event) → MayApart b all s one → MayHappen ready b.rights s one
-may_happen b all s (Steps event) can = can
-may_happen b all s (Changes m) can = can.0
+may_happen b all s one can = search (rules, arith)
 
 tied_after : (s : State) (one : Happening Event) → AreTied s.units.qpus → AreTied (happen turn s one).state.units.qpus
-tied_after s (Steps event) tied = keep_tied_law s event tied
-tied_after s (Changes m) tied = tied
+tied_after s one tied = search (rules, arith, keep_tied_law)
 
 known_after : (b : Beginning) (all : List Interval) → BeginsSoundly b → (s : State) (one : Happening Event) → Known b s → MayApart b all s one → Known b (happen turn s one).state
 known_after b all sound s one known can = record {
@@ -140,45 +123,51 @@ known_after b all sound s one known can = record {
   tied = tied_after s one known.tied;
 }
 
-rest_fresh : (b : Beginning) (s : State) → Known b s → Every RestsFresh s.units.qpus
-rest_fresh b s known = every-weaker (QpuFine (facts_of b.rights b.plains b.memory)) RestsFresh (λ q fine. fine.rests) s.units.qpus known.holds.units.qpus
-
 -- what a step owes, by the rights of its job
-abbrev StepKeeps : Beginning → State → Event → Type 0
-StepKeeps b s event =
-    Keeps (turn s.units event).who (Inside (rights_of b.rights (turn s.units event).who.job).region) (IsSafeAccess b.rights) (λ k next. AreFine b.rights b.plains b.memory next) (turn s.units event).plan s.memory
+abbrev pub StepKeeps : List Rights → Facts → State → Event → Type 0
+StepKeeps rights f s event = AllKeep rights f (turn s.units event).who (turn s.units event).plan s.memory
 
-step_keeps : (b : Beginning) → BeginsSoundly b → (s : State) (event : Event) → Known b s → IsTrue (may s event) → StepKeeps b s event
+step_keeps : (b : Beginning) → BeginsSoundly b → (s : State) (event : Event) → Known b s → IsTrue (may s event) → StepKeeps b.rights (facts_of b.rights b.plains b.memory) s event
 step_keeps b sound s event known can = (units_owe_law b.rights b.plains b.memory sound.plain).keeps s.units s.memory event known.holds.units known.holds.has can
 
 -- a step for another client's job writes no byte of the client's
-others_leave : (mine : Client) (all : List Interval) (b : Beginning) → HasRegions mine b.rights all → (s : State) (event : Event) → mine (turn s.units event).who.job ≡ false → StepKeeps b s event → (p : ℕ) → Inside all p 1
+others_leave : (mine : Client) (all : List Interval) (rights : List Rights) (f : Facts) → HasRegions mine rights all → (s : State) (event : Event) → mine (turn s.units event).who.job ≡ false → StepKeeps rights f s event → (p : ℕ) → Inside all p 1
     → slice_index (step s event).state.memory p ≡ slice_index s.memory p
-others_leave mine all b has s event others keeps p lies =
+others_leave mine all rights f has s event others keeps p lies =
     let t : Turn Units = turn s.units event in
-    let L = Inside (rights_of b.rights t.who.job).region in
-    let P : List ℕ → Units → Type 0 = λ k next. AreFine b.rights b.plains b.memory next in
+    let L = Inside (rights_of rights t.who.job).region in
+    let P : List ℕ → Units → Type 0 = λ k next. UnitsFine f next in
     kept t.who t.plan s.memory p
     (keeps_accesses t.who L (Misses p) P t.plan s.memory
-    (keeps_of t.who L (IsSafeAccess b.rights) (Misses p) P
-    (λ way q n safe writes from before. has.apart t.who.job p others lies (inside_part (rights_of b.rights t.who.job).writable q n p 1 (safe.writes writes) from (omega (arith, before))))
+    (keeps_of t.who L (IsSafeAccess rights) (Misses p) P
+    (λ way q n safe writes from before. has.apart t.who.job p others lies (inside_part (rights_of rights t.who.job).writable q n p 1 (safe.writes writes) from (omega (arith, before))))
     t.plan s.memory keeps))
 
--- a step for its own job stays in what is the client's
-own_stays : (mine : Client) (all : List Interval) (b : Beginning) → HasRegions mine b.rights all → (s : State) (event : Event) → mine (turn s.units event).who.job ≡ true → StepKeeps b s event → StaysIn all (turn s.units event) s.memory
-own_stays mine all b has s event own keeps =
+-- so it is silent
+pub step_silent : (mine : Client) (all : List Interval) (rights : List Rights) (f : Facts) → HasRegions mine rights all → (s : State) (event : Event) → mine (job_of s event.unit) ≡ false → AreTied s.units.qpus → UnitsFine f s.units → StepKeeps rights f s event
+    → (accesses_of mine (step s event).accesses ≡ []) × StatesAlike mine all (step s event).state s
+step_silent mine all rights f has s event others tied fine keeps =
     let t : Turn Units = turn s.units event in
-    let L = Inside (rights_of b.rights t.who.job).region in
-    let P : List ℕ → Units → Type 0 = λ k next. AreFine b.rights b.plains b.memory next in
+    let still = others_silent_law mine s event others tied (every-weaker (QpuFine f) RestsFresh (λ q known. known.rests) s.units.qpus fine.qpus) in
+    let same = others_leave mine all rights f has s event (ap mine (turn_job s event) ∙ others) keeps in
+    (still.0, record { units = still.1; memory = record { long = length-carried t.who t.plan s.memory; same = same } })
+
+-- a step for its own job stays in what is the client's
+pub own_stays : (mine : Client) (all : List Interval) (rights : List Rights) (f : Facts) → HasRegions mine rights all → (s : State) (event : Event) → mine (job_of s event.unit) ≡ true → StepKeeps rights f s event → StaysIn all (turn s.units event) s.memory
+own_stays mine all rights f has s event is keeps =
+    let t : Turn Units = turn s.units event in
+    let own : mine t.who.job ≡ true = ap mine (turn_job s event) ∙ is in
+    let L = Inside (rights_of rights t.who.job).region in
+    let P : List ℕ → Units → Type 0 = λ k next. UnitsFine f next in
     keeps_weaker t.who L (Inside all) (IsIn all) (IsIn all) P (λ k next. Unit {0}) (λ q n lies. has.covers t.who.job q n own lies) (λ a lies. lies) (λ k next fine. tt) t.plan s.memory
-    (keeps_of t.who L (IsSafeAccess b.rights) (IsIn all) P (λ way q n safe. has.covers t.who.job q n own safe.inside) t.plan s.memory keeps)
+    (keeps_of t.who L (IsSafeAccess rights) (IsIn all) P (λ way q n safe. has.covers t.who.job q n own safe.inside) t.plan s.memory keeps)
 
 -- entries
-entry_none : (own : Bool) (entry : Entry) → (if own then Some entry else None) ≡ None → own ≡ false
+pub entry_none : {X : Type 0} (own : Bool) (entry : X) → (if own then Some entry else None) ≡ None → own ≡ false
 entry_none true entry is = absurd (some_none entry is)
 entry_none false entry is = refl
 
-entry_some : (own : Bool) (entry x : Entry) → (if own then Some entry else None) ≡ Some x → (own ≡ true) × (entry ≡ x)
+pub entry_some : {X : Type 0} (own : Bool) (entry x : X) → (if own then Some entry else None) ≡ Some x → (own ≡ true) × (entry ≡ x)
 entry_some true entry x is = (refl, some_same entry x is)
 entry_some false entry x is = absurd (some_none x (sym is))
 
@@ -186,18 +175,8 @@ entry_some false entry x is = absurd (some_none x (sym is))
 silent : (mine : Client) (all : List Interval) (b : Beginning) → BeginsSoundly b → HasRegions mine b.rights all → (s : State) (one : Happening Event) → Known b s → MayApart b all s one → happening_entry mine s one ≡ None
     → (accesses_of mine (happen turn s one).accesses ≡ []) × StatesAlike mine all (happen turn s one).state s
 silent mine all b sound has s (Steps event) known can none =
-    let others : mine (job_of s event.unit) ≡ false = entry_none (mine (job_of s event.unit)) (entry_of s event) none in
-    let still = others_silent_law mine s event others known.tied (rest_fresh b s known) in (
-      still.0,
-      record {
-        units = still.1;
-        memory = record {
-          long = length-carried (turn s.units event).who (turn s.units event).plan s.memory;
-          same = others_leave mine all b has s event (ap mine (turn_job s event) ∙ others) (step_keeps b sound s event known can);
-        };
-      },
-    )
-silent mine all b sound has s (Changes m) known can none = (refl, record { units = record { jobs = λ j own. refl; qpus = refl }; memory = record { long = can.0.long; same = can.1 } })
+    step_silent mine all b.rights (facts_of b.rights b.plains b.memory) has s event (entry_none (mine (job_of s event.unit)) (entry_of s event) none) known.tied known.holds.units (step_keeps b sound s event known can)
+silent mine all b sound has s (Changes m) known can none = (refl, record { units = units_same mine s.units; memory = record { long = can.0.long; same = can.1 } })
 
 -- what leaves one entry is alike
 both_alike : (mine : Client) (all : List Interval) (b : Beginning) → BeginsSoundly b → HasRegions mine b.rights all → (s t : State) (one other : Happening Event) (c : Beginning) (x : Entry) → Known b s → MayApart b all s one → MayApart c all t other
@@ -209,7 +188,7 @@ both_alike mine all b sound has s t (Steps event) (Steps other) c x known can co
     let one = entry_some (mine (job_of s event.unit)) (entry_of s event) x first in
     let two = entry_some (mine (job_of t other.unit)) (entry_of t other) x second in
     let gave = own_alike_law mine all s t event other can could one.0 two.0 alike (one.1 ∙ sym two.1)
-    (own_stays mine all b has s event (ap mine (turn_job s event) ∙ one.0) (step_keeps b sound s event known can)) in
+    (own_stays mine all b.rights (facts_of b.rights b.plains b.memory) has s event one.0 (step_keeps b sound s event known can)) in
     (ap (accesses_of mine) gave.accesses, gave.states)
 
 steps_alike : (mine : Client) (b c : Beginning) → AreNeighbours mine b c
@@ -231,25 +210,15 @@ steps_alike mine b c near =
 
 -- the beginning
 begins_known : (b : Beginning) → BeginsSoundly b → (m : List ℕ) → HasReadOnly b.rights b.memory m → Known b (start_of m b.starts)
-begins_known b sound m has = record {
-  holds = record { units = start_fine b.rights b.plains b.memory b.starts (each_begins b.rights b.plains b.memory 0 b.starts sound.jobs); has = has };
-  tied = idle_tied 12;
-}
+begins_known b sound m has = search (rules, arith, start_fine, each_begins, idle_tied)
 
 begin_alike : (mine : Client) (b c : Beginning) → AreNeighbours mine b c → (m n : List ℕ) → Agree (regions_of mine 0 b.rights) m n → StatesAlike mine (regions_of mine 0 b.rights) (start_of m b.starts) (start_of n c.starts)
-begin_alike mine b c near m n agree = record {
-  units = record {
-    jobs = λ j own. slice_get-map job_start b.starts j ∙ (ap (option_map job_start) (near.starts j own) ∙ sym (slice_get-map job_start c.starts j));
-    qpus = refl;
-  };
-  memory = agree;
-}
+begin_alike mine b c near m n agree = search (rules, arith, slice_get-map)
 
 all_apart : (b : Beginning) (all : List Interval) (happenings : List (Happening Event)) (s : State) → AllMayHappen ready turn b.rights s happenings → AreLeft all s happenings → AllMay (happen turn) (MayApart b all) s happenings
 all_apart b all [] s can left = tt
 all_apart b all (Steps event ∷ later) s can left = (can.0, all_apart b all later (step s event).state can.1 left)
-all_apart b all (Changes m ∷ later) s can left =
-    ((can.0, λ p lies. (left p lies).0), all_apart b all later (record { memory = m; units = s.units }) can.1 (λ p lies. (left p lies).1))
+all_apart b all (Changes m ∷ later) s can left = search (rules, arith, all_apart b all later (record { memory = m; units = s.units }) can.1 (λ p lies. (left p lies).1))
 
 pub apart_with_others_law : ClientsApartWithOthers
 apart_with_others_law mine b c m n near has also agree happenings others found there s t run other left also_left trails =

@@ -1,8 +1,8 @@
 -- What jobs may only read stays: homes, primitives that may be drawn, and the texts of lists. So what jobs begin with is known of their units.
-use Rattle.std.proofs.Common.{◌≡◌, ◌≤◌, ◌<◌, ℕ, ◌+◌, ◌-◌, ◌*◌, List, length, ◌∙◌, ap, subst, arith, ◌%◌, ◌==◌, not, Bool, false, refl, sym, [], ◌∷◌}
+use Rattle.std.proofs.Common.{◌≡◌, ◌≤◌, ◌<◌, ℕ, ◌+◌, ◌-◌, ◌*◌, List, length, ◌∙◌, ap, subst, arith, ◌%◌, ◌==◌, not, Bool, false, refl, sym, [], ◌∷◌, rules}
 use Rattle.std.specs.Int.{from_le_bytes, w64}
 use Rattle.field_words.specs.{Words.u32_at, Pieces.joined as joined_bytes}
-use Rattle.machine_plan.specs.Regions.{Inside, Rights, rights_of, joined, IsOutside, HasReadOnly, Interval}
+use Rattle.machine_plan.specs.Regions.{Inside, Rights, rights_of, IsOutside, HasReadOnly, Interval}
 use Rattle.machine_plan.specs.{Memory.bytes_at, declared.launch.Launch.Launch}
 use Rattle.machine_plan.proofs.{Memory.inside_part, Memory.bytes_same, Safe.joined_covers, Words.word_read}
 use Rattle.uniform_stream.specs.Stream.{uniforms_of}
@@ -26,14 +26,12 @@ fixed_inside rights place size q n fixed from upto i below =
     subst (λ p. IsOutside rights p) (omega (arith, from)) (fixed (q - place + i) (omega (arith, from, upto, below)))
 
 pub fixed_stays_law : FixedStays
-fixed_stays_law rights first m place size fixed lies has =
-    bytes_same m first place place size (λ i below. has.same (place + i) (inside_part (joined rights) place size (place + i) 1 lies (omega arith) (omega (arith, below))) (fixed i below))
+fixed_stays_law rights first m place size fixed lies has = search (rules, arith, bytes_same, inside_part)
 
 -- it stays, where it lies in a job's region
 pub fixed_part : (rights : List Rights) (first m : List ℕ) (j place size q n : ℕ) → IsFixed rights place size → HasReadOnly rights first m → place ≤ q → q + n ≤ place + size → Inside (rights_of rights j).region q n
     → bytes_at m q n ≡ bytes_at first q n
-fixed_part rights first m j place size q n fixed has from upto lies =
-    fixed_stays_law rights first m q n (fixed_inside rights place size q n fixed from upto) (joined_covers rights j q n lies) has
+fixed_part rights first m j place size q n fixed has from upto lies = search (rules, arith, fixed_stays_law, fixed_inside, joined_covers)
 
 pub home_stays : (rights : List Rights) (first m : List ℕ) (j : ℕ) (home : Home) → IsFixed rights home.place (8 * length home.code) → IsFixed rights home.stream (4 * uniforms_of home.code) → HasReadOnly rights first m
     → IsHome first (rights_of rights j).region home → IsHome m (rights_of rights j).region home
@@ -52,11 +50,7 @@ home_stays rights first m j home code stream has stands = record {
 }
 
 pub homes_stay_law : HomesStay
-homes_stay_law rights plains first j home buffers begins = record {
-  stands = λ m has. home_stays rights first m j home begins.code begins.stream has begins.stands;
-  samples = begins.samples;
-  named = begins.named;
-}
+homes_stay_law rights plains first j home buffers begins = search (rules, arith, home_stays)
 
 -- a word of the record is the first memory's
 pub word_stays : (rights : List Rights) (first m : List ℕ) (j word i : ℕ) → RecordStands (rights_of rights j).region first word → IsFixed rights (record_place word) (record_size word) → HasReadOnly rights first m → 4 * i + 4 ≤ record_size word
@@ -68,30 +62,15 @@ word_stays rights first m j word i stands fixed has room =
     sym (word_read m p 4 (omega arith)) ∙ ap (λ b. u32_at b 0) bytes ∙ word_read first p 4 (omega arith)
 
 pub record_stays : (rights : List Rights) (first m : List ℕ) (j word : ℕ) → IsFixed rights (record_place word) (record_size word) → HasReadOnly rights first m → RecordStands (rights_of rights j).region first word → RecordStands (rights_of rights j).region m word
-record_stays rights first m j word fixed has stands = record {
-  inside = stands.inside;
-  bytes = λ i below.
-      let p : ℕ = record_place word + i in
-      let lies = inside_part (rights_of rights j).region (record_place word) (record_size word) p 1 stands.inside (omega arith) (omega (arith, below)) in
-      subst (λ b. b < 256) (sym (has.same p (joined_covers rights j p 1 lies) (fixed i below))) (stands.bytes i below);
-}
+record_stays rights first m j word fixed has stands = search (rules, arith, inside_part, joined_covers)
 
 -- a program of the record, which may be started
 launch_stays : (rights : List Rights) (plains : ℕ → List Interval) (first : List ℕ) (j : ℕ) (launch : Launch) → LaunchBegins rights plains first j launch → LaunchFine rights plains first j launch
-launch_stays rights plains first j launch begins = record {
-  home = begins.home;
-  buffers = begins.buffers;
-  fine = homes_stay_law rights plains first j begins.home begins.buffers begins.begins;
-  code = begins.code;
-  uniforms = begins.uniforms;
-  threaded = begins.threaded;
-}
+launch_stays rights plains first j launch begins = search (rules, arith, homes_stay_law)
 
 program_stays : (rights : List Rights) (plains : ℕ → List Interval) (first m : List ℕ) (j word : ℕ) (threaded there : Bool) (s : ℕ) → threaded ≡ there → words_in m word (code_word s) ≡ words_in first word (code_word s) → words_in m word (stream_word s) ≡ words_in first word (stream_word s)
     → LaunchBegins rights plains first j (program_in first word there s) → LaunchFine rights plains first j (program_in m word threaded s)
-program_stays rights plains first m j word threaded there s same code stream begins =
-    let is : program_in m word threaded s ≡ program_in first word there s = λ i. record { threaded = same i; code = code i; uniforms = stream i } in
-    subst (LaunchFine rights plains first j) (sym is) (launch_stays rights plains first j (program_in first word there s) begins)
+program_stays rights plains first m j word threaded there s same code stream begins = search (rules, arith, launch_stays)
 
 pub single_stays : (v w : ℕ → ℕ) → v 0 ≡ w 0 → not (is_single v) ≡ not (is_single w)
 unfolding is_single
@@ -123,14 +102,10 @@ programs_stay rights plains first m j word packet begins has =
     (program_stays rights plains first m j word false false 2 refl (stays 7 (omega arith)) (stays 8 (omega arith)) begins.coordinate)
 
 pub draws_stay_law : DrawsStay
-draws_stay_law rights plains first j word packet begins = record {
-  fetches = λ m has. fetches_stay rights plains first m j word packet begins has;
-  programs = λ m has. programs_stay rights plains first m j word packet begins has;
-}
+draws_stay_law rights plains first j word packet begins = search (rules, arith, fetches_stay, programs_stay)
 
 pub text_stays : (rights : List Rights) (first : List ℕ) (j place : ℕ) (text : List ℕ) → TextBegins rights first j place text → (m : List ℕ) → HasReadOnly rights first m → bytes_at m place (length text) ≡ text
-text_stays rights first j place text begins m has =
-    fixed_stays_law rights first m place (length text) begins.fixed (joined_covers rights j place (length text) begins.reads) has ∙ begins.stands
+text_stays rights first j place text begins m has = search (rules, arith, fixed_stays_law, joined_covers)
 
 job_begins : (rights : List Rights) (plains : ℕ → List Interval) (first : List ℕ) (j : ℕ) (start : Start) → JobBegins rights plains first j start → JobFine rights plains first j (job_start start)
 job_begins rights plains first j start begins =

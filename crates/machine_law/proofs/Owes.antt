@@ -1,7 +1,7 @@
 -- All units of the machine owe what makes runs safe, from what each owes for one job, which the units' laws give.
-use Rattle.std.proofs.Common.{◌≡◌, ℕ, zero, suc, ◌+◌, Bool, List, [], ◌∷◌, Option, Some, subst, arith, ◌≢◌, true, false, if◌then◌else◌, ◌++◌, None, refl, ap, IsTrue, ◌<◌, map, replicate, sym}
+use Rattle.std.proofs.Common.{◌≡◌, ℕ, zero, suc, ◌+◌, Bool, List, [], ◌∷◌, Option, Some, subst, arith, ◌≢◌, true, false, if◌then◌else◌, None, refl, IsTrue, ◌<◌, map, replicate, sym, rules}
 use Rattle.std.proofs.lemmas.Bool.{false≢true}
-use Rattle.std.specs.Prelude.{IfSome, drop, ◌==◌, ◌&&◌, ◌||◌, is_some, is_none, option_map, nat_lt}
+use Rattle.std.specs.Prelude.{IfSome, ◌==◌, ◌&&◌, ◌||◌, is_some, is_none, option_map}
 use Rattle.machine_plan.specs.Regions.{Every, Inside, Rights, rights_of, IsSafeAccess, IsSafeIn, HasReadOnly, Interval}
 use Rattle.machine_plan.specs.declared.{launch.Launch.Launch, launch.Free.Free, who.Who.Who}
 use Rattle.machine_plan.specs.Glance.{Glance, Now, glanced, GlancesIn}
@@ -11,12 +11,12 @@ use Rattle.machine.specs.Step.{with_launch, with_lists, with_qpu, is_ahead, binn
 use Rattle.machine.specs.declared.job.Start.{Start}
 use Rattle.apart_law.proofs.Places.{chosen, drop_every, put_every}
 use Rattle.machine_law.specs.Units.{EachAt, Facts, IsFresh, AskOf, QpuFine, ThreadTurned, UnitsFine, ListsTurned, KeepsFor, UnitLaws}
-use Rattle.machine_law.specs.Jobs.{ArePlain, HomeFine, LaunchFine, ThreadFine, JobFine, facts_of}
+use Rattle.machine_law.specs.Jobs.{ArePlain, LaunchFine, ThreadFine, JobFine, facts_of}
 use Rattle.machine_law.specs.Laws.{AreFine, UnitsOwe}
 use Rattle.machine_plan.proofs.{Runs.every-append, Safe.safe_of, Worlds.keeps_mapped, Plans.keeps_of, Plans.keeps_weaker}
 use Rattle.qpu_machine.specs.declared.state.{Asked.Asked, Thread.Thread, Qpu.Qpu, Ask.Ask, Request.Request}
-use Rattle.qpu_machine.specs.declared.state.Fate.{Fate, TheVariants.GoesOn, TheVariants.Switches, TheVariants.Ends}
-use Rattle.qpu_machine.specs.Qpu.{active_of, left_by, gives_way, woken_slot, queue_with, settled, went, oldest, queue_of, with_result, dropped, given, served, takes_first, takes_other, in_first, in_other, started_in, launched, job_of_thread, queued, ready_by, plan_by, job_of_request, tmu_ready, serving, free_in, idle_qpu}
+use Rattle.qpu_machine.specs.declared.state.Fate.{Fate, TheVariants.Switches, TheVariants.Ends}
+use Rattle.qpu_machine.specs.Qpu.{active_of, left_by, gives_way, woken_slot, queue_with, settled, went, oldest, queue_of, with_result, dropped, given, served, in_first, in_other, started_in, launched, job_of_thread, ready_by, plan_by, job_of_request, serving, free_in, idle_qpu}
 use Rattle.qpu_machine.specs.{Start.thread_of, Request.ask_plan, Step.ThreadTurn, Step.thread_plan, Step.thread_ready}
 use Rattle.field_words.specs.declared.access.Actor.TheVariants.{Binner as TheBinner, Renderer as TheRenderer, Qpu as TheQpu, Tmu as TheTmu}
 use Rattle.field_words.specs.declared.access.Actor.{Actor}
@@ -70,72 +70,40 @@ unfolding thread_of
 begins_fresh job launch = refl
 
 first_rests : (second : Bool) (t : Thread) (other first : Option Thread) → IsFresh t → SlotFresh (if second then first else other) → SlotFresh (if second && is_some other then Some t else other)
-first_rests true t None first fresh rests = tt
-first_rests true t (Some o) first fresh rests = fresh
-first_rests false t other first fresh rests = rests
+first_rests second t other first fresh rests = search (rules, arith)
 
 in_first_fine : (f : Facts) (q : Qpu) (t : Thread) → f.OfThread t → IsFresh t → QpuFine f q → QpuFine f (in_first q t)
 unfolding in_first
-in_first_fine f q t thread fresh fine = record {
-  first = thread;
-  other = fine.other;
-  rests = first_rests q.second t q.other q.first fresh fine.rests;
-  queue0 = fine.queue0;
-  queue1 = fine.queue1;
-}
+in_first_fine f q t thread fresh fine = search (rules, arith, first_rests)
 
 other_rests : (second : Bool) (t : Thread) (first other : Option Thread) → IsFresh t → SlotFresh (if second then first else other) → SlotFresh (if second || is_none first then first else Some t)
-other_rests true t first other fresh rests = rests
-other_rests false t None other fresh rests = tt
-other_rests false t (Some o) other fresh rests = fresh
+other_rests second t first other fresh rests = search (rules, arith)
 
 in_other_fine : (f : Facts) (q : Qpu) (t : Thread) → f.OfThread t → IsFresh t → QpuFine f q → QpuFine f (in_other q t)
 unfolding in_other
-in_other_fine f q t thread fresh fine = record {
-  first = fine.first;
-  other = thread;
-  rests = other_rests q.second t q.first q.other fresh fine.rests;
-  queue0 = fine.queue0;
-  queue1 = fine.queue1;
-}
+in_other_fine f q t thread fresh fine = search (rules, arith, other_rests)
 
 started_fine : (f : Facts) (threaded : Bool) (t : Thread) (qpus : List Qpu) → f.OfThread t → IsFresh t → Every (QpuFine f) qpus → Every (QpuFine f) (started_in threaded t qpus)
 started_fine f threaded t [] thread fresh all = tt
-started_fine f threaded t (q ∷ qpus) thread fresh all =
-    let All = Every (QpuFine f) in
-    chosen All (takes_first threaded q) (in_first q t ∷ qpus) (if takes_other threaded q then in_other q t ∷ qpus else q ∷ started_in threaded t qpus)
-    (in_first_fine f q t thread fresh all.0, all.1)
-    (chosen All (takes_other threaded q) (in_other q t ∷ qpus) (q ∷ started_in threaded t qpus)
-    (in_other_fine f q t thread fresh all.0, all.1)
-    (all.0, started_fine f threaded t qpus thread fresh all.1))
+started_fine f threaded t (q ∷ qpus) thread fresh all = search (rules, arith, chosen, in_first_fine, in_other_fine, started_fine f threaded t qpus thread fresh all.1)
 
 pub launched_fine : (f : Facts) (j : ℕ) (launch : Launch) (qpus : List Qpu) → f.OfThread (thread_of j launch) → Every (QpuFine f) qpus → Every (QpuFine f) (launched j launch qpus)
 launched_fine f j launch qpus thread all = started_fine f launch.threaded (thread_of j launch) qpus thread (begins_fresh j launch) all
 
 woken_fine : (f : Facts) (over : Bool) (slot : Option Thread) → SlotFresh slot → SlotFine f slot → SlotFine f (woken_slot over slot)
-woken_fine f false slot fresh fine = fine
-woken_fine f true None fresh fine = tt
-woken_fine f true (Some t) fresh fine = subst f.OfThread (ap (λ b. record t { fresh = b }) fresh) fine
+woken_fine f over slot fresh fine = search (rules, arith)
 
 -- the thread that rests after a step
 rest_first : (over : Bool) (first own : Option Thread) → SlotFresh first → (over ≡ true → SlotFresh own) → SlotFresh (if (if over && is_some first then false else true) then woken_slot over first else own)
-rest_first false first own rests switched = rests
-rest_first true None own rests switched = tt
-rest_first true (Some t) own rests switched = switched refl
+rest_first over first own rests switched = search (rules, arith)
 
 rest_other : (over : Bool) (other own : Option Thread) → SlotFresh other → (over ≡ true → SlotFresh own) → SlotFresh (if (if over && is_some other then true else false) then own else woken_slot over other)
-rest_other false other own rests switched = rests
-rest_other true None own rests switched = tt
-rest_other true (Some t) own rests switched = switched refl
+rest_other over other own rests switched = search (rules, arith)
 
 -- a queue with what was asked
 queue_fine : (f : Facts) (tmu : ℕ) (second : Bool) (job : ℕ) (asked : Option Asked) (requests : List Request) → ((one : Asked) → asked ≡ Some one → f.OfAsk job one.ask) → Every (AskOf f) requests
     → Every (AskOf f) (queue_with tmu second job asked requests)
-queue_fine f tmu second job None requests fine all = all
-queue_fine f tmu second job (Some asked) requests fine all =
-    let more : List Request = requests ++ (record { second = second; job = job; ask = asked.ask }) ∷ [] in
-    let each : Every (AskOf f) more = every-append (AskOf f) requests ((record { second = second; job = job; ask = asked.ask }) ∷ []) all (fine asked refl, tt) in
-    chosen (Every (AskOf f)) (asked.tmu == tmu) more requests each all
+queue_fine f tmu second job asked requests fine all = search (rules, arith, every-append, chosen)
 
 -- a processor after a step of its active thread, which left this of it
 record LeftFine (f : Facts) (job : ℕ) (own : Option Thread) (over : Bool) (asked : Option Asked) : Type 0 where
@@ -146,20 +114,7 @@ record LeftFine (f : Facts) (job : ℕ) (own : Option Thread) (over : Bool) (ask
 settled_by_second : (f : Facts) (q : Qpu) (second : Bool) (job : ℕ) (own : Option Thread) (over : Bool) (asked : Option Asked) → QpuFine f (record q { second = second }) → LeftFine f job own over asked
     → QpuFine f (settled (record q { second = second }) job own over asked)
 unfolding settled
-settled_by_second f q true job own over asked fine left = record {
-  first = woken_fine f over q.first fine.rests fine.first;
-  other = left.thread;
-  rests = rest_first over q.first own fine.rests left.rests;
-  queue0 = queue_fine f 0 true job asked q.queue0.items left.asks fine.queue0;
-  queue1 = queue_fine f 1 true job asked q.queue1.items left.asks fine.queue1;
-}
-settled_by_second f q false job own over asked fine left = record {
-  first = left.thread;
-  other = woken_fine f over q.other fine.rests fine.other;
-  rests = rest_other over q.other own fine.rests left.rests;
-  queue0 = queue_fine f 0 false job asked q.queue0.items left.asks fine.queue0;
-  queue1 = queue_fine f 1 false job asked q.queue1.items left.asks fine.queue1;
-}
+settled_by_second f q second job own over asked fine left = search (rules, arith, woken_fine, rest_first, queue_fine, rest_other)
 
 settled_fine : (f : Facts) (q : Qpu) (job : ℕ) (own : Option Thread) (over : Bool) (asked : Option Asked) → QpuFine f q → LeftFine f job own over asked → QpuFine f (settled q job own over asked)
 settled_fine f q job own over asked fine left = settled_by_second f q q.second job own over asked fine left
@@ -167,61 +122,39 @@ settled_fine f q job own over asked fine left = settled_by_second f q q.second j
 -- what an instruction left of its thread
 left_fine : (f : Facts) (job : ℕ) (t : Thread) (fate : Fate) (asked : Option Asked) → (fate ≢ Ends → f.OfThread t) → (fate ≡ Switches → IsFresh t) → ((one : Asked) → asked ≡ Some one → f.OfAsk job one.ask)
     → LeftFine f job (left_by fate t) (gives_way fate) asked
-left_fine f job t GoesOn asked thread rests asks = record { thread = thread (λ e. cc); rests = λ e. absurd cc; asks = asks }
-left_fine f job t Switches asked thread rests asks = record { thread = thread (λ e. cc); rests = λ e. rests refl; asks = asks }
-left_fine f job t Ends asked thread rests asks = record { thread = tt; rests = λ e. tt; asks = asks }
+left_fine f job t fate asked thread rests asks = search (rules, arith)
 
 pub went_fine : (f : Facts) (q : Qpu) (t : Thread) (turn : ThreadTurn) → QpuFine f q → ThreadTurned f t turn → QpuFine f (went q t turn)
-went_fine f q t turn fine turned =
-    settled_fine f q t.job (left_by turn.leaves.fate turn.thread) (gives_way turn.leaves.fate) turn.leaves.asked fine
-    (left_fine f t.job turn.thread turn.leaves.fate turn.leaves.asked turned.thread turned.rests turned.asked)
+went_fine f q t turn fine turned = search (rules, arith, settled_fine, left_fine)
 
 -- the oldest request of a queue
 pub oldest_fine : (f : Facts) (requests : List Request) → Every (AskOf f) requests → IfSome (oldest requests) (AskOf f)
-oldest_fine f [] all = tt
-oldest_fine f (r ∷ requests) all = all.0
+oldest_fine f requests all = search (rules, arith)
 
 pub queue_of_fine : (f : Facts) (q : Qpu) (tmu : ℕ) → QpuFine f q → Every (AskOf f) (queue_of q tmu)
 queue_of_fine f q tmu fine = chosen (Every (AskOf f)) (tmu == 0) q.queue0.items q.queue1.items fine.queue0 fine.queue1
 
 dropped_fine : (f : Facts) (q : Qpu) (tmu : ℕ) → QpuFine f q → QpuFine f (dropped q tmu)
 unfolding dropped
-dropped_fine f q tmu fine = record {
-  first = fine.first;
-  other = fine.other;
-  rests = fine.rests;
-  queue0 = chosen (Every (AskOf f)) (tmu == 0) (drop 1 q.queue0.items) q.queue0.items (drop_every (AskOf f) q.queue0.items fine.queue0) fine.queue0;
-  queue1 = chosen (Every (AskOf f)) (tmu == 0) q.queue1.items (drop 1 q.queue1.items) fine.queue1 (drop_every (AskOf f) q.queue1.items fine.queue1);
-}
+dropped_fine f q tmu fine = search (rules, arith, chosen, drop_every)
 
 -- a finished result changes nothing of what is known
 abbrev pub Gets : Facts → Type 0
 Gets f = (tmu : ℕ) (row : Option (List ℕ)) (t : Thread) → f.OfThread t → f.OfThread (with_result tmu row t)
 
 got_fine : (f : Facts) (tmu : ℕ) (row : Option (List ℕ)) (slot : Option Thread) → Gets f → SlotFine f slot → SlotFine f (option_map (with_result tmu row) slot)
-got_fine f tmu row None gets fine = tt
-got_fine f tmu row (Some t) gets fine = gets tmu row t fine
+got_fine f tmu row slot gets fine = search (rules, arith)
 
 got_fresh : (tmu : ℕ) (row : Option (List ℕ)) (slot : Option Thread) → SlotFresh slot → SlotFresh (option_map (with_result tmu row) slot)
-got_fresh tmu row None fresh = tt
-got_fresh tmu row (Some t) fresh = fresh
+got_fresh tmu row slot fresh = search (rules, arith)
 
 given_rests : (second active : Bool) (tmu : ℕ) (row : Option (List ℕ)) (first other : Option Thread) → SlotFresh (if active then first else other)
     → SlotFresh (if active then (if second then first else option_map (with_result tmu row) first) else (if second then option_map (with_result tmu row) other else other))
-given_rests true true tmu row first other fresh = fresh
-given_rests true false tmu row first other fresh = got_fresh tmu row other fresh
-given_rests false true tmu row first other fresh = got_fresh tmu row first fresh
-given_rests false false tmu row first other fresh = fresh
+given_rests second active tmu row first other fresh = search (rules, arith, got_fresh)
 
 given_fine : (f : Facts) (q : Qpu) (tmu : ℕ) (second : Bool) (row : Option (List ℕ)) → Gets f → QpuFine f q → QpuFine f (given q tmu second row)
 unfolding given
-given_fine f q tmu second row gets fine = record {
-  first = chosen (SlotFine f) second q.first (option_map (with_result tmu row) q.first) fine.first (got_fine f tmu row q.first gets fine.first);
-  other = chosen (SlotFine f) second (option_map (with_result tmu row) q.other) q.other (got_fine f tmu row q.other gets fine.other) fine.other;
-  rests = given_rests second q.second tmu row q.first q.other fine.rests;
-  queue0 = fine.queue0;
-  queue1 = fine.queue1;
-}
+given_fine f q tmu second row gets fine = search (rules, arith, chosen, got_fine, given_rests)
 
 pub served_fine : (f : Facts) (q : Qpu) (tmu : ℕ) (request : Request) (row : Option (List ℕ)) → Gets f → QpuFine f q → QpuFine f (served q tmu request row)
 served_fine f q tmu request row gets fine = given_fine f (dropped q tmu) tmu request.second row gets (dropped_fine f q tmu fine)
@@ -243,22 +176,17 @@ lifts rights f who put P puts plan m keeps =
 
 -- what a list unit came to
 launch_fine : (rights : List Rights) (K : List ℕ → Type 0) (f : Facts) → UnitLaws rights K f → (j : ℕ) (launch : Option Launch) (qpus : List Qpu) → IfSome launch (f.OfLaunch j) → Every (QpuFine f) qpus → Every (QpuFine f) (with_launch j launch qpus)
-launch_fine rights K f laws j None qpus fine all = all
-launch_fine rights K f laws j (Some launch) qpus fine all = launched_fine f j launch qpus (laws.start j launch fine) all
+launch_fine rights K f laws j launch qpus fine all = search (rules, arith, launched_fine)
 
 lists_fine : (rights : List Rights) (K : List ℕ → Type 0) (f : Facts) → UnitLaws rights K f → (u : Units) (j : ℕ) (turned : Turned) → UnitsFine f u → ListsTurned f j turned → UnitsFine f (with_lists u j turned)
-lists_fine rights K f laws u j turned fine known = record {
-  jobs = put_each f.OfJob 0 j j u.jobs turned.lists (omega arith) known.lists fine.jobs;
-  qpus = launch_fine rights K f laws j turned.launch u.qpus known.launch fine.qpus;
-}
+lists_fine rights K f laws u j turned fine known = search (rules, arith, put_each, launch_fine)
 
 qpu_fine : (f : Facts) (u : Units) (k : ℕ) (q : Qpu) → UnitsFine f u → QpuFine f q → UnitsFine f (with_qpu u k q)
 qpu_fine f u k q fine known = record { jobs = fine.jobs; qpus = put_every (QpuFine f) u.qpus k q known fine.qpus }
 
 -- a list unit that isn't held is ready
 pub not_held : (held : Bool) (glance : Glance Bool) (m : List ℕ) → IsTrue (glanced (if held then Now false else glance) m) → glanced glance m ≡ true
-not_held true glance m on = absurd (false≢true on)
-not_held false glance m on = on
+not_held held glance m on = search (rules, arith, false≢true)
 
 binner_owes : (rights : List Rights) (K : List ℕ → Type 0) (f : Facts) → UnitLaws rights K f → (u : Units) (found : Option (Picked Lists)) (words m : List ℕ)
     → K m → UnitsFine f u → IfSome found (PickedFine f.OfJob) → IsTrue (glanced (binner_may u found) m) → AllKeep rights f (binner_turn u found words).who (binner_turn u found words).plan m
@@ -294,8 +222,7 @@ slot_owes rights K f laws u k q (Some t) words m here fine known thread may =
 
 qpu_owes : (rights : List Rights) (K : List ℕ → Type 0) (f : Facts) → UnitLaws rights K f → (u : Units) (k : ℕ) (found : Option Qpu) (words m : List ℕ)
     → K m → UnitsFine f u → IfSome found (QpuFine f) → IsTrue (glanced (qpu_may found) m) → AllKeep rights f (qpu_turn u k found words).who (qpu_turn u k found words).plan m
-qpu_owes rights K f laws u k None words m here fine known may = absurd (false≢true may)
-qpu_owes rights K f laws u k (Some q) words m here fine known may = slot_owes rights K f laws u k q (active_of q) words m here fine known (active_fine f q known) may
+qpu_owes rights K f laws u k found words m here fine known may = search (rules, arith, false≢true, slot_owes, active_fine)
 
 -- a TMU by its oldest request
 request_owes : (rights : List Rights) (K : List ℕ → Type 0) (f : Facts) → UnitLaws rights K f → (u : Units) (k n : ℕ) (q : Qpu) (found : Option Request) (words m : List ℕ)
@@ -315,9 +242,7 @@ request_owes rights K f laws u k n q (Some request) words m here fine known aske
 
 tmu_owes : (rights : List Rights) (K : List ℕ → Type 0) (f : Facts) → UnitLaws rights K f → (u : Units) (k n : ℕ) (found : Option Qpu) (words m : List ℕ)
     → K m → UnitsFine f u → IfSome found (QpuFine f) → IsTrue (glanced (tmu_may found n) m) → AllKeep rights f (tmu_turn u k n found words).who (tmu_turn u k n found words).plan m
-tmu_owes rights K f laws u k n None words m here fine known may = absurd (false≢true may)
-tmu_owes rights K f laws u k n (Some q) words m here fine known may =
-    request_owes rights K f laws u k n q (oldest (queue_of q n)) words m here fine known (oldest_fine f (queue_of q n) (queue_of_fine f q n known))
+tmu_owes rights K f laws u k n found words m here fine known may = search (rules, arith, false≢true, request_owes, oldest_fine, queue_of_fine)
 
 -- each unit
 unit_owes : (rights : List Rights) (K : List ℕ → Type 0) (f : Facts) → UnitLaws rights K f → (u : Units) (unit : Actor) (words m : List ℕ)
@@ -329,43 +254,33 @@ unit_owes rights K f laws u (TheTmu k n) words m here fine may = tmu_owes rights
 
 -- by which looks a unit sees whether it may step
 held_looks : (L : ℕ → ℕ → Type 0) (held : Bool) (glance : Glance Bool) (m : List ℕ) → GlancesIn L glance m → GlancesIn L (if held then Now false else glance) m
-held_looks L true glance m looks = tt
-held_looks L false glance m looks = looks
+held_looks L held glance m looks = search (rules, arith)
 
 there_looks : (L : ℕ → ℕ → Type 0) (there : Bool) (glance : Glance Bool) (m : List ℕ) → GlancesIn L glance m → GlancesIn L (if there then glance else Now false) m
-there_looks L true glance m looks = looks
-there_looks L false glance m looks = tt
+there_looks L there glance m looks = search (rules, arith)
 
 binner_looks : (L : ℕ → ℕ → Type 0) (u : Units) (found : Option (Picked Lists)) (m : List ℕ) → GlancesIn L (binner_may u found) m
 unfolding binner_ready
-binner_looks L u None m = tt
-binner_looks L u (Some b) m = held_looks L (is_ahead b.number (renderer_job u)) (binner_ready b.item (free_in u.qpus)) m tt
+binner_looks L u found m = search (rules, arith, held_looks)
 
 renderer_looks_in : (rights : List Rights) (K : List ℕ → Type 0) (f : Facts) → UnitLaws rights K f → (u : Units) (found : Option (Picked Lists)) (words m : List ℕ)
     → K m → IfSome found (PickedFine f.OfJob) → GlancesIn (Inside (rights_of rights (renderer_turn u found words).who.job).region) (renderer_may found) m
-renderer_looks_in rights K f laws u None words m here known = tt
-renderer_looks_in rights K f laws u (Some r) words m here known = laws.renderer_looks r.number r.item m here known
+renderer_looks_in rights K f laws u found words m here known = search (rules, arith)
 
 slot_looks : (rights : List Rights) (K : List ℕ → Type 0) (f : Facts) → UnitLaws rights K f → (q : Qpu) (slot : Option Thread) (m : List ℕ)
     → K m → SlotFine f slot → GlancesIn (Inside (rights_of rights (job_of_thread slot)).region) (ready_by slot q) m
-slot_looks rights K f laws q None m here thread = tt
-slot_looks rights K f laws q (Some t) m here thread = laws.thread_looks t (queued q.second q.queue0.items) (queued q.second q.queue1.items) m here thread
+slot_looks rights K f laws q slot m here thread = search (rules, arith)
 
 qpu_looks : (rights : List Rights) (K : List ℕ → Type 0) (f : Facts) → UnitLaws rights K f → (u : Units) (k : ℕ) (found : Option Qpu) (words m : List ℕ)
     → K m → IfSome found (QpuFine f) → GlancesIn (Inside (rights_of rights (qpu_turn u k found words).who.job).region) (qpu_may found) m
-qpu_looks rights K f laws u k None words m here known = tt
-qpu_looks rights K f laws u k (Some q) words m here known = slot_looks rights K f laws q (active_of q) m here (active_fine f q known)
+qpu_looks rights K f laws u k found words m here known = search (rules, arith, slot_looks, active_fine)
 
 tmu_looks : (L : ℕ → ℕ → Type 0) (found : Option Qpu) (n : ℕ) (m : List ℕ) → GlancesIn L (tmu_may found n) m
-tmu_looks L None n m = tt
-tmu_looks L (Some q) n m = there_looks L (nat_lt n 2) (tmu_ready q n) m tt
+tmu_looks L found n m = search (rules, arith, there_looks)
 
 unit_looks : (rights : List Rights) (K : List ℕ → Type 0) (f : Facts) → UnitLaws rights K f → (u : Units) (unit : Actor) (words m : List ℕ)
     → K m → UnitsFine f u → GlancesIn (Inside (rights_of rights (unit_turn u unit words).who.job).region) (unit_ready u unit) m
-unit_looks rights K f laws u TheBinner words m here fine = binner_looks (Inside (rights_of rights (binner_turn u (binner_job u) words).who.job).region) u (binner_job u) m
-unit_looks rights K f laws u TheRenderer words m here fine = renderer_looks_in rights K f laws u (renderer_job u) words m here (first_fine f.OfJob has_renderer_work 0 u.jobs fine.jobs)
-unit_looks rights K f laws u (TheQpu k) words m here fine = qpu_looks rights K f laws u k (item_at u.qpus k) words m here (item_fine (QpuFine f) u.qpus k fine.qpus)
-unit_looks rights K f laws u (TheTmu k n) words m here fine = tmu_looks (Inside (rights_of rights (tmu_turn u k n (item_at u.qpus k) words).who.job).region) (item_at u.qpus k) n m
+unit_looks rights K f laws u unit words m here fine = search (rules, arith, binner_looks, renderer_looks_in, first_fine, qpu_looks, item_fine, tmu_looks)
 
 -- All units owe it.
 pub units_owe : (rights : List Rights) (first : List ℕ) (f : Facts) → UnitLaws rights (HasReadOnly rights first) f → Owes ready turn rights first (UnitsFine f)
@@ -378,10 +293,7 @@ units_owe rights first f laws = record {
 -- what a step of a list unit of job j came to
 turned_known : (rights : List Rights) (plains : ℕ → List Interval) (first : List ℕ) (j : ℕ) (s : Lists) (known : JobFine rights plains first j s) (turned : Turned)
     → TurnedFine (rights_of rights j) (HasReadOnly rights first) (LaunchFine rights plains first j) known.config known.frame turned → ListsTurned (facts_of rights plains first) j turned
-turned_known rights plains first j s known turned fine = record {
-  lists = record { config = known.config; frame = known.frame; allocates = known.allocates; lists = fine.lists };
-  launch = fine.launch;
-}
+turned_known rights plains first j s known turned fine = search (rules, arith)
 
 binner_law : (rights : List Rights) (plains : ℕ → List Interval) (first : List ℕ) (j : ℕ) (s : Lists) (free : Free) (words m : List ℕ) → HasReadOnly rights first m → JobFine rights plains first j s → glanced (binner_ready s free) m ≡ true
     → KeepsFor rights j (binner_of j) (ListsTurned (facts_of rights plains first) j) (binner_plan s free words) m
@@ -408,16 +320,7 @@ renderer_looks_law rights plains first j s m here known = renderer_looks (rights
 
 -- what an instruction left
 left_known : (rights : List Rights) (plains : ℕ → List Interval) (first : List ℕ) (t : Thread) (known : ThreadFine rights plains first t) (m k : List ℕ) (turn : ThreadTurn) → Left known.home known.buffers t m k turn → ThreadTurned (facts_of rights plains first) t turn
-left_known rights plains first t known m k turn left = record {
-  thread = λ on. record {
-    home = known.home;
-    buffers = known.buffers;
-    fine = subst (λ j. HomeFine rights plains first j known.home known.buffers) (sym left.job) known.fine;
-    stands = left.stands on;
-  };
-  asked = λ asked is. let ask = left.asks asked is in record { place = ask.place; size = ask.size; named = known.fine.named ask.place ask.size ask.named; reads = ask.reads };
-  rests = left.rests;
-}
+left_known rights plains first t known m k turn left = search (rules, arith)
 
 thread_law : (rights : List Rights) (plains : ℕ → List Interval) (first : List ℕ) (t : Thread) (who : Who) (words m : List ℕ) → HasReadOnly rights first m → ThreadFine rights plains first t
     → KeepsFor rights t.job who (ThreadTurned (facts_of rights plains first) t) (thread_plan t words) m
@@ -446,12 +349,7 @@ start_law rights plains first j launch known = record {
 }
 
 gets_law : (rights : List Rights) (plains : ℕ → List Interval) (first : List ℕ) (tmu : ℕ) (row : Option (List ℕ)) (t : Thread) → ThreadFine rights plains first t → ThreadFine rights plains first (with_result tmu row t)
-gets_law rights plains first tmu row t known = record {
-  home = known.home;
-  buffers = known.buffers;
-  fine = known.fine;
-  stands = record { index = known.stands.index; is = results_keep_law known.home known.stands.index tmu row t known.stands.is };
-}
+gets_law rights plains first tmu row t known = search (rules, arith, results_keep_law)
 
 -- whether a thread may step is seen at its instruction
 pub looks_there : (h : Home) (n : ℕ) (m : List ℕ) (t : Thread) (one : Rights) (queued0 queued1 : ℕ) → IsHome m one.region h → IsThread h n t → GlancesIn (Inside one.region) (thread_ready t queued0 queued1) m
@@ -466,16 +364,7 @@ thread_looks_law rights plains first t queued0 queued1 m here known = looks_ther
 
 -- all of them
 unit_laws : (rights : List Rights) (plains : ℕ → List Interval) (first : List ℕ) → ArePlain rights plains → UnitLaws rights (HasReadOnly rights first) (facts_of rights plains first)
-unit_laws rights plains first plain = record {
-  binner = λ j s free words m here known on. binner_law rights plains first j s free words m here known on;
-  renderer = λ j s free words m here known on. renderer_law rights plains first j s free words m here known on;
-  renderer_looks = λ j s m here known. renderer_looks_law rights plains first j s m here known;
-  thread = λ t who words m here known. thread_law rights plains first t who words m here known;
-  thread_looks = λ t queued0 queued1 m here known. thread_looks_law rights plains first t queued0 queued1 m here known;
-  request = λ j ask who words m here fine. request_law rights plains plain j ask who words m fine;
-  start = λ j launch known. start_law rights plains first j launch known;
-  gets = λ tmu row t known. gets_law rights plains first tmu row t known;
-}
+unit_laws rights plains first plain = search (rules, arith, binner_law, renderer_law, renderer_looks, renderer_looks_law, thread_law, thread_looks_law, request_law, start_law, gets_law)
 
 pub units_owe_law : UnitsOwe
 units_owe_law rights plains first plain = units_owe rights first (facts_of rights plains first) (unit_laws rights plains first plain)

@@ -1,17 +1,17 @@
 -- The machine of any jobs is sound. Where texture units read: by what is known of their requests.
-use Rattle.std.proofs.Common.{◌≡◌, ℕ, Bool, true, false, IsTrue, if◌then◌else◌, List, Option, Some, None, sym, subst}
+use Rattle.std.proofs.Common.{◌≡◌, ℕ, Bool, true, false, IsTrue, if◌then◌else◌, List, Option, Some, None, sym, subst, arith, rules}
 use Rattle.std.proofs.lemmas.Bool.{false≢true}
-use Rattle.std.specs.Prelude.{IfSome, is_some, nat_lt}
+use Rattle.std.specs.Prelude.{IfSome, is_some}
 use Rattle.field_words.specs.declared.access.Actor.TheVariants.{Tmu as TheTmu}
 use Rattle.machine_plan.specs.{declared.who.Who.Who, World.mapped, Glance.Glance, Glance.Now, Glance.glanced}
 use Rattle.machine_plan.specs.{Plan.Plan, Plan.carried, Regions.Interval}
 use Rattle.machine_plan.proofs.{Plans.keeps_accesses, Worlds.keeps_mapped}
 use Rattle.machine_plan.proofs.Others.{run_holds, safe_law, same_law, safe_alone, same_alone}
 use Rattle.qpu_machine.specs.{declared.state.Qpu.Qpu, declared.state.Ask.Ask, declared.state.Request.Request, Request.ask_plan}
-use Rattle.qpu_machine.specs.Qpu.{oldest, queue_of, job_of_request, tmu_ready, served, serving}
+use Rattle.qpu_machine.specs.Qpu.{job_of_request, served, serving}
 use Rattle.qpu_law.specs.Asks.{IsFineAsk, IsOneOf, IsReadIn}
 use Rattle.qpu_law.proofs.Reading.{asks_stay_in_law}
-use Rattle.machine.specs.State.{Units, State, units_start, item_at}
+use Rattle.machine.specs.State.{Units, State, item_at}
 use Rattle.machine.specs.Step.{with_qpu, tmu_may, tmu_turn, tmu_job, enabled, job_of, ready, turn}
 use Rattle.machine_law.specs.{Units.AskOf, Units.Facts, Units.QpuFine, Units.UnitsFine, Jobs.facts_of, Laws.AreFine}
 use Rattle.machine_law.specs.Sound.{ReadInOne, TexturesReadIn, MachineSound, JobsSound, SoundJobsAreSafe}
@@ -43,14 +43,11 @@ request_reads f plains in_one u k n q (Some request) words m known on =
     }
 
 pub there_on : (there : Bool) (glance : Glance Bool) (m : List ℕ) → IsTrue (glanced (if there then glance else Now false) m) → glanced glance m ≡ true
-there_on true glance m on = on
-there_on false glance m on = absurd (false≢true on)
+there_on there glance m on = search (rules, arith, false≢true)
 
 tmu_reads : (f : Facts) (plains : ℕ → List Interval) → ReadsIn f plains → (u : Units) (k n : ℕ) (found : Option Qpu) (words m : List ℕ) → IfSome found (QpuFine f) → IsTrue (glanced (tmu_may found n) m)
     → ReadInOne (plains (tmu_job found n)) (carried (tmu_turn u k n found words).who (tmu_turn u k n found words).plan m).accesses
-tmu_reads f plains in_one u k n None words m known on = absurd (false≢true on)
-tmu_reads f plains in_one u k n (Some q) words m known on =
-    request_reads f plains in_one u k n q (oldest (queue_of q n)) words m (oldest_fine f (queue_of q n) (queue_of_fine f q n known)) (there_on (nat_lt n 2) (tmu_ready q n) m on)
+tmu_reads f plains in_one u k n found words m known on = search (rules, arith, false≢true, request_reads, oldest_fine, queue_of_fine, there_on)
 
 pub textures_read : (f : Facts) (plains : ℕ → List Interval) → ReadsIn f plains → (s : State) → UnitsFine f s.units → TexturesReadIn plains s
 unfolding turn enabled job_of
@@ -70,8 +67,7 @@ machine_sound_law rights plains first m u plain has fine =
     }
 
 pub jobs_sound_law : JobsSound
-jobs_sound_law rights plains first m starts plain has all =
-    machine_sound_law rights plains first m (units_start starts) plain has (start_fine rights plains first starts (each_begins rights plains first 0 starts all))
+jobs_sound_law rights plains first m starts plain has all = search (rules, arith, machine_sound_law, start_fine, each_begins)
 
 pub sound_jobs_are_safe_law : SoundJobsAreSafe
 sound_jobs_are_safe_law rights plains m u sound = (safe_alone ready turn rights m u sound.safe, same_alone ready turn rights m u sound.safe sound.same)

@@ -1,5 +1,5 @@
 -- Where a thread goes, and what its marks say then.
-use Rattle.std.proofs.Common.{◌≡◌, ◌<◌, ◌≤◌, ℕ, ◌+◌, false, List, length, arith, refl, inl, inr, ◌-◌, Bool, ◌&&◌, ◌||◌, sym, ap, ◌∙◌, ◌≢◌, ◌⊎◌, zero, suc, ◌*◌, ◌/◌, ◌%◌, ◌^◌, true, ◌==◌, not, [], ◌∷◌, Option, Some, None, subst, nat_lt, nat_le, if◌then◌else◌}
+use Rattle.std.proofs.Common.{◌≡◌, ◌<◌, ◌≤◌, ℕ, ◌+◌, false, List, length, arith, refl, inl, inr, ◌-◌, Bool, ◌&&◌, ◌||◌, sym, ap, ◌∙◌, ◌≢◌, ◌⊎◌, zero, suc, ◌*◌, ◌/◌, ◌%◌, ◌^◌, true, ◌==◌, not, [], ◌∷◌, Option, Some, None, subst, nat_lt, nat_le, if◌then◌else◌, rules}
 use Rattle.std.proofs.lemmas.Bool.{or_from, or_parts, le-leb, and_from, or_left, or_right, or_cases, cases_Bool, eqb-true, false_from_ne_true, true≢false, not-false, not_from_false, and_parts, lt-ltb, not_from_true}
 use Rattle.std.proofs.lemmas.{Grind.common_steps, Bool.Decides.nat_tests}
 use Rattle.field_words.specs.Questions.{each, answered}
@@ -12,7 +12,7 @@ use Rattle.shader_check.specs.Rules.{s2, s16, s24, s26, index_questions, questio
 use Rattle.qpu_law.specs.Home.{HasNoFault, readied, done, Home, IsQuiet, MarkIs, IsAt, IsExact, IsRoot, IsBlank, GoesTo, StaysInCode, ArePending, NeverWild}
 use Rattle.std.specs.Prelude.{unwrap_or}
 use Rattle.qpu_isa.specs.Terms.{is_branch, is_switch, is_address_write, is_end, target_of, reads_upper, names_upper}
-use Rattle.qpu_isa.specs.{Setups.kept, Word.cond_add_of, Word.cond_mul_of, Word.imm_of, Word.cond_of, Word.relative_of, Word.register_of}
+use Rattle.qpu_isa.specs.{Setups.kept, Word.cond_add_of, Word.cond_mul_of, Word.imm_of, Word.cond_of}
 use Rattle.qpu_machine.specs.Writes.{awake, written_at, added, multiplied, written, stored, loaded, went_on, worked, led_to, fate_of, rested, asked, pointer_after, add_address, mul_address}
 use Rattle.qpu_machine.specs.declared.state.Fate.TheVariants.{Ends, Switches, GoesOn}
 use Rattle.qpu_machine.specs.declared.state.{Thread.Thread, Mark.Mark}
@@ -90,10 +90,7 @@ pub record IsFineWhole (code : List ℕ) : Type 0 where
 
 pub fine_whole : (code : List ℕ) → HasNoFault code → IsFineWhole code
 unfolding shader_questions whole_questions
-fine_whole code none =
-    let rest = rest_none (each (questions_at code) 0 (checked_of code)) (answered (fault_at (length code)) (whole_questions code)) none in
-    let rules = none_stands (whole_questions code) (none_answered (fault_at (length code)) (whole_questions code) rest) in
-    record { no2 = rules.1.0; no26 = rules.1.1.0 }
+fine_whole code none = search (rules, arith, rest_none, none_stands, none_answered)
 
 -- so the code has the two instructions after the program end
 pub end_inside : (code : List ℕ) → HasNoFault code → end_of code + 2 < length code
@@ -160,8 +157,7 @@ back_here n k test back none = sym (ap (λ b. b && test (n - k)) (le-leb k n bac
 -- Where a quiet word fails a test, and the instruction k places before fails it, the mark's word fails it.
 pub mark_not : (place : ℕ) (code : List ℕ) (n k : ℕ) (m : Mark) (test : ℕ → Bool) → MarkIs place code n k m
     → (IsQuiet m.word → test m.word ≡ false) → is_back n k (λ j. test (word code j)) ≡ false → test m.word ≡ false
-mark_not place code n k m test (inl exact) quiet none = ap test exact.is ∙ back_here n k (λ j. test (word code j)) exact.back none
-mark_not place code n k m test (inr blank) quiet none = quiet blank.quiet
+mark_not place code n k m test h6 quiet none = search (rules, arith, back_here)
 
 pub no_slots : (h : Home) (n : ℕ) (t : Thread) → IsAt h n t → in_slots h.code n ≡ false → wild.in_slots t ≡ false
 unfolding in_slots wild.in_slots
@@ -196,13 +192,11 @@ no_address h n t at none =
 
 -- where the front test is true, what stands behind it is false
 pub behind : (a b : Bool) → a ≡ true → (a && b) ≡ false → b ≡ false
-behind true b is none = none
-behind false b is none = absurd cc
+behind a b is none = search (rules, arith)
 
 -- where what stands behind is true, the front test is false
 pub before : (a b : Bool) → b ≡ true → (a && b) ≡ false → a ≡ false
-before true b is none = absurd cc
-before false b is none = refl
+before a b is none = search (rules, arith)
 
 -- The program end is the first one.
 pub end_here : (code : List ℕ) → end_of code < length code → is_end (word code (end_of code)) ≡ true
@@ -219,8 +213,7 @@ end_here (first ∷ later) below =
 pub not_end : (code : List ℕ) (j : ℕ) → j < end_of code → is_end (word code j) ≡ false
 unfolding end_of
 not_end [] j below = absurd (omega (arith, below))
-not_end (first ∷ later) zero below =
-    false_from_ne_true (is_end first) (λ is. let e : (if is_end first then 0 else suc (end_of later)) ≡ 0 = ap (λ b. if b then 0 else suc (end_of later)) is in let no : ⊥ = omega (arith, e, below) in no)
+not_end (first ∷ later) zero below = search (rules, arith, false_from_ne_true)
 not_end (first ∷ later) (suc j) below =
     elim (cases_Bool (is_end first)) [
       | inl is ↦ (let e : (if is_end first then 0 else suc (end_of later)) ≡ 0 = ap (λ b. if b then 0 else suc (end_of later)) is in let no : ⊥ = omega (arith, e, below) in absurd no)
@@ -238,16 +231,10 @@ back_at b k test is = and_from (nat_le k (b + k)) (test (b + k - k)) (le-leb k (
 
 slots_at : (code : List ℕ) (b d : ℕ) → (d ≡ 1) ⊎ (d ≡ 2) ⊎ (d ≡ 3) → is_branch (word code b) ≡ true → in_slots code (b + d) ≡ true
 unfolding in_slots
-slots_at code b d (inl one) is = grind (arith, common_steps, nat_tests, or_left, back_at)
-slots_at code b d (inr (inl two)) is = grind (arith, common_steps, nat_tests, or_right, or_left, back_at)
-slots_at code b d (inr (inr three)) is = grind (arith, common_steps, nat_tests, or_right, back_at)
+slots_at code b d h3 is = search (rules, arith, or_left, back_at, or_right)
 
 which : (d : ℕ) → 0 < d → d ≤ 3 → (d ≡ 1) ⊎ (d ≡ 2) ⊎ (d ≡ 3)
-which zero some few = absurd (omega (arith, some))
-which (suc zero) some few = inl refl
-which (suc (suc zero)) some few = inr (inl refl)
-which (suc (suc (suc zero))) some few = inr (inr refl)
-which (suc (suc (suc (suc d)))) some few = absurd (omega (arith, few))
+which d some few = search (rules, arith)
 
 -- Nothing in a branch's slots branches, switches, ends or writes the uniforms' address.
 pub slot_quiet : (code : List ℕ) → HasNoFault code → (b j : ℕ) → b < checked_of code → is_branch (word code b) ≡ true → b < j → j ≤ b + 3 → IsQuiet (word code j)
@@ -277,15 +264,7 @@ pub record IsSound (code : List ℕ) (b : ℕ) : Type 0 where
 
 pub sound_says : (code : List ℕ) (b : ℕ) → is_sound_branch code b ≡ true → IsSound code b
 unfolding is_sound_branch leads_outside
-sound_says code b is =
-    let w = word code b in
-    let halves = and_parts (is_branch w && (relative_of w && not (register_of w))) (imm_of w % 8 == 0 && not (nat_lt (end_of code) (target_of w b))) is in
-    let second = and_parts (imm_of w % 8 == 0) (not (nat_lt (end_of code) (target_of w b))) halves.1 in
-    record {
-      branch = (and_parts (is_branch w) (relative_of w && not (register_of w)) halves.0).0;
-      whole = eqb-true (imm_of w % 8) 0 second.0;
-      inside = (let h : not (nat_lt (end_of code) (target_of w b)) ≡ true = second.1 in grind (arith, h));
-    }
+sound_says code b is = search (rules, arith, and_parts, eqb-true)
 
 -- A target isn't past the program end.
 pub target_inside : (code : List ℕ) → HasNoFault code → (i : ℕ) → is_target code i ≡ true → i ≤ end_of code
@@ -332,9 +311,7 @@ unfolding led_to
 led_none w words place other = grind (arith, common_steps, nat_tests)
 
 led_if : (b c : Bool) (q p : ℕ) → (if b && c then Some q else None) ≡ Some p → (b ≡ true) × (p ≡ q)
-led_if true true q p is = (refl, cc)
-led_if true false q p is = absurd cc
-led_if false c q p is = absurd cc
+led_if b c q p is = search (rules, arith)
 
 led_some : (w : ℕ) (words : List ℕ) (place p : ℕ) → led_to w words place ≡ Some p → (is_branch w ≡ true) × (p ≡ (place + 32 + imm_of w) % 2 ^ 32)
 unfolding led_to
@@ -343,39 +320,21 @@ led_some w words place p is = led_if (is_branch w) (cond_of w == 15 || word_at w
 -- the mark of the instruction just executed
 new_mark : (place : ℕ) (code : List ℕ) (n : ℕ) (words : List ℕ) (at : ℕ) → at ≡ place + 8 * n
     → IsExact place code (n + 1) 1 (record { word = word code n; to = led_to (word code n) words at })
-new_mark place code n words at is =
-    record {
-      back = omega arith;
-      is = ap (word code) (sym (omega arith));
-      leads = λ p led.
-          (let told = led_some (word code n) words at p led in
-          (told.0, told.1 ∙ (let sums : at + 32 ≡ place + 8 * (n + 1 - 1) + 32 = omega (arith, is) in ap (λ s. (s + imm_of (word code n)) % 2 ^ 32) sums)));
-    }
+new_mark place code n words at is = search (rules, arith, led_some)
 
 -- a mark one place further back
 older : (place : ℕ) (code : List ℕ) (n k : ℕ) (m : Mark) → MarkIs place code n k m → MarkIs place code (n + 1) (k + 1) m
-older place code n k m (inl exact) =
-    let e : n - k ≡ n + 1 - (k + 1) = omega arith in
-    inl (record {
-      back = omega (arith, exact.back);
-      is = exact.is ∙ ap (word code) e;
-      leads = λ p led. (let told = exact.leads p led in (told.0, told.1 ∙ ap (λ d. (place + 8 * d + 32 + imm_of m.word) % 2 ^ 32) e));
-    })
-older place code n k m (inr blank) =
-    inr (record { root = blank.root; is = blank.is; from = omega (arith, blank.from); near = omega (arith, blank.near); quiet = blank.quiet; leads = blank.leads })
+older place code n k m h5 = search (rules, arith)
 
 -- where the instruction is quiet, the mark says nothing
 no_way : (m : Mark) (to : Option ℕ) → to ≡ m.to → is_branch m.word ≡ false → ((p : ℕ) → m.to ≡ Some p → is_branch m.word ≡ true) → m.to ≡ None
-no_way m None is quiet leads = sym is
-no_way m (Some p) is quiet leads = absurd (true≢false (sym (leads p (sym is)) ∙ quiet))
+no_way m to is quiet leads = search (rules, arith, true≢false)
 
 says_nothing : (place : ℕ) (code : List ℕ) (n k : ℕ) (m : Mark) → MarkIs place code n k m → (k ≤ n → IsQuiet (word code (n - k))) → IsQuiet m.word × (m.to ≡ None)
-says_nothing place code n k m (inl exact) quiet = grind (arith, common_steps, nat_tests, no_way)
-says_nothing place code n k m (inr blank) quiet = (blank.quiet, blank.leads)
+says_nothing place code n k m h5 quiet = search (rules, arith, no_way)
 
 blank_at : (code : List ℕ) (to k : ℕ) (m : Mark) → is_target code to ≡ true → 0 < k → IsQuiet m.word × (m.to ≡ None) → IsBlank code to k m
-blank_at code to k m target some nothing =
-    record { root = to; is = inr target; from = omega arith; near = omega (arith, some); quiet = nothing.0; leads = nothing.1 }
+blank_at code to k m target some nothing = search (rules, arith)
 
 pub goes_on : (h : Home) (n : ℕ) (words : List ℕ) (t next : Thread) → HasNoFault h.code → IsAt h n t → n ≢ end_of h.code + 2 → t.last3.to ≡ None
     → IsWent (word h.code n) words t next → IsAt h (n + 1) next
@@ -392,11 +351,7 @@ goes_on h n words t next none at more stays went =
 
 -- the mark three back led somewhere: so a branch stands there
 pub led_by : (h : Home) (n : ℕ) (t : Thread) (p : ℕ) → IsAt h n t → t.last3.to ≡ Some p → IsExact h.place h.code n 3 t.last3
-led_by h n t p at led =
-    elim at.mark3 [
-      | inl exact ↦ exact
-      | inr blank ↦ absurd (let no : None ≡ Some p = sym blank.leads ∙ led in cc)
-    ]
+led_by h n t p at led = search (rules, arith)
 
 pub jumps : (h : Home) (n : ℕ) (words : List ℕ) (t next : Thread) (p : ℕ) → HasNoFault h.code → h.place + 8 * length h.code ≤ 2 ^ 32
     → IsAt h n t → t.last3.to ≡ Some p → IsWent (word h.code n) words t next → GoesTo h n t next
@@ -447,8 +402,7 @@ jumps h n words t next p none low at led went =
 
 -- At the second instruction after the program end the thread ends.
 root_inside : (code : List ℕ) → HasNoFault code → (root : ℕ) → IsRoot code root → root ≤ end_of code
-root_inside code none root (inl first) = omega (arith, first)
-root_inside code none root (inr target) = target_inside code none root target
+root_inside code none root h3 = search (rules, arith, target_inside)
 
 pub ends : (h : Home) (n : ℕ) (t : Thread) → HasNoFault h.code → IsAt h n t → n ≡ end_of h.code + 2 → fate_of t ≡ Ends
 unfolding fate_of
@@ -468,17 +422,13 @@ next_index h n words t next none low at lives went None stays =
     record { to = n + 1; way = inl refl; at = goes_on h n words t next none at (λ last. lives (ends h n t none at last)) stays went }
 
 pub stays_in_code_law : StaysInCode
-stays_in_code_law h n uniform uniforms words t none low at lives =
-    next_index h n words t (done (word h.code n) uniform uniforms words t).thread none low at
-    (λ is. lives (fate_is (word h.code n) uniform uniforms words t ∙ is))
-    (is_went (word h.code n) uniform uniforms words t) t.last3.to refl
+stays_in_code_law h n uniform uniforms words t none low at lives = search (rules, arith, next_index, fate_is, is_went)
 
 -- No instruction of a checked shader is wild.
 
 -- the instruction is tame where its front test fails, or what stands behind it does
 front : (a b : Bool) → (a ≡ true → b ≡ false) → (a && b) ≡ false
-front true b later = later refl
-front false b later = refl
+front a b later = search (rules, arith)
 
 word_tame : (code : List ℕ) (n : ℕ) → IsFineAt code n → wild.is_word_wild (word code n) ≡ false
 unfolding s3 s27 s14 s15 s20 s21 wild.is_word_wild wild.is_signal_wild wild.is_mode_wild wild.is_name_wild wild.is_tmu_wild
@@ -486,14 +436,7 @@ word_tame code n fine = grind (arith, common_steps, nat_tests, or_from)
 
 branch_tame : (h : Home) (n : ℕ) (t : Thread) → IsFineAt h.code n → IsAt h n t → wild.is_branch_wild t (word h.code n) ≡ false
 unfolding s4 s5 s6 s12 wild.is_branch_wild
-branch_tame h n t fine at =
-    let w = word h.code n in
-    front (is_branch w) ((register_of w || not (relative_of w)) || (wild.in_slots t || wild.after_switch t))
-    (λ is. or_from (register_of w || not (relative_of w)) (wild.in_slots t || wild.after_switch t)
-    (or_from (register_of w) (not (relative_of w)) (behind (is_branch w) (register_of w) is fine.no5) (behind (is_branch w) (not (relative_of w)) is fine.no6))
-    (or_from (wild.in_slots t) (wild.after_switch t)
-    (no_slots h n t at (behind (is_branch w) (in_slots h.code n) is fine.no4))
-    (no_switch h n t at (behind (is_branch w) (after_switch h.code n) is fine.no12))))
+branch_tame h n t fine at = search (rules, arith, front, or_from, behind, no_slots, no_switch)
 
 switch_threads : (code : List ℕ) (n : ℕ) → n < checked_of code → is_switch (word code n) ≡ true → is_threaded code ≡ true
 unfolding is_threaded
@@ -533,21 +476,11 @@ takes_same code n t inside pending = grind (arith, common_steps, nat_tests, lt-l
 uniform_tame : (h : Home) (n : ℕ) (t : Thread) → n < checked_of h.code → IsFineAt h.code n → IsAt h n t → ArePending h.code n t
     → wild.is_uniform_wild t (word h.code n) ≡ false
 unfolding s18 wild.is_uniform_wild
-uniform_tame h n t inside fine at pending =
-    front (wild.takes_one t (word h.code n)) (is_address_write t.last1.word || is_address_write t.last2.word)
-    (λ is. no_address h n t at (behind (takes h.code n) (after_address_write h.code n) (sym (takes_same h.code n t inside pending) ∙ is) fine.no18))
+uniform_tame h n t inside fine at pending = search (rules, arith, front, no_address, behind, takes_same)
 
 pub never_wild : (h : Home) (n : ℕ) (t : Thread) → HasNoFault h.code → IsAt h n t → ArePending h.code n t → wild.is_wild t (word h.code n) ≡ false
 unfolding wild.is_wild wild.is_order_wild wild.is_use_wild
-never_wild h n t none at pending =
-    let w = word h.code n in
-    let inside : n < checked_of h.code = in_checked h.code n none at.inside in
-    let fine = fine_at h.code none n inside in
-    or_from (wild.is_word_wild w) (wild.is_order_wild t w || wild.is_use_wild t w) (word_tame h.code n fine)
-    (or_from (wild.is_order_wild t w) (wild.is_use_wild t w)
-    (or_from (wild.is_branch_wild t w) (wild.is_switch_wild t w) (branch_tame h n t fine at) (switch_tame h n t inside fine at))
-    (or_from (wild.is_setup_wild t w) (wild.is_register_wild t w || wild.is_uniform_wild t w) (setup_tame h n t fine pending)
-    (or_from (wild.is_register_wild t w) (wild.is_uniform_wild t w) (register_tame h n t inside none at) (uniform_tame h n t inside fine at pending))))
+never_wild h n t none at pending = search (rules, arith, in_checked, fine_at, or_from, word_tame, branch_tame, switch_tame, setup_tame, register_tame, uniform_tame)
 
 pub never_wild_law : NeverWild
 never_wild_law = never_wild

@@ -1,17 +1,17 @@
 -- A step of a thread keeps what is known of it.
-use Rattle.std.proofs.Common.{◌≡◌, ◌<◌, ◌≤◌, inl, inr, ℕ, zero, suc, ◌+◌, ◌-◌, ◌%◌, ◌^◌, Bool, true, false, ◌&&◌, ◌||◌, ◌==◌, not, Option, Some, None, List, [], ◌∷◌, ◌++◌, map, length, refl, sym, ap, subst, arith, ◌∙◌, nat_lt, if◌then◌else◌, ◌≢◌, ◌⊎◌, ◌*◌}
+use Rattle.std.proofs.Common.{◌≡◌, ◌<◌, ◌≤◌, inl, inr, ℕ, zero, suc, ◌+◌, ◌-◌, ◌%◌, ◌^◌, Bool, true, false, ◌&&◌, ◌||◌, ◌==◌, not, Option, Some, None, List, [], ◌∷◌, ◌++◌, map, length, refl, sym, ap, subst, arith, ◌∙◌, nat_lt, if◌then◌else◌, ◌≢◌, ◌⊎◌, ◌*◌, rules}
 use Rattle.std.proofs.lemmas.Bool.{and_from, and_right, or_from, or_cases, or_left, or_right, or_parts, lt-ltb, true≢false, and_parts, not-true}
 use Rattle.std.proofs.lemmas.{List.map-append, Grind.common_steps, Bool.Decides.nat_tests}
 use Rattle.std.specs.{Prelude.slice_index, Prelude.slice_get, Prelude.unwrap_or, Int.from_le_bytes, Int.w64}
 use Rattle.field_words.specs.{Questions.first_of, Words.u32_at}
-use Rattle.qpu_isa.specs.Terms.{writes_s, s_address, names_address, add_names, mul_names, is_add_with_uniform, is_add_packed, first_register, has_small, is_load_imm, is_alu, is_uniform_operand, passes, is_address_write, operand_register}
+use Rattle.qpu_isa.specs.Terms.{writes_s, s_address, names_address, add_names, mul_names, is_add_with_uniform, is_add_packed, first_register, is_load_imm, is_alu, is_uniform_operand, is_address_write, operand_register}
 use Rattle.qpu_isa.specs.{declared.inst.Reg.Reg, Word.add_a_of, Word.add_b_of, Word.op_add_of}
 use Rattle.qpu_isa.specs.Setups.{is_direct, adds_direct, muls_direct}
 use Rattle.shader_flow.specs.{Flow.word, Flow.checked_of, Flow.end_of, Pending.count_of, Pending.pending_of, Pending.takes}
 use Rattle.clamp_facts.specs.Facts.{is_clamped, is_immediate}
 use Rattle.clamp_facts.proofs.Clamps.{clamped_found, clamps_parts}
 use Rattle.shader_check.specs.Info.{held, asks, is_sample, sample_tmu, is_direct_sample, clamp_parts, sample_parts, sample_of}
-use Rattle.shader_check.specs.Rules.{s24, direct_by_add, direct_by_mul, is_clamped_write, is_exact_address_write, has_quiet_signal, adds_address}
+use Rattle.shader_check.specs.Rules.{s24, direct_by_add, direct_by_mul, is_clamped_write, is_exact_address_write}
 use Rattle.shader_check.proofs.{Clean.clean, Parts.directs, Positions.clamp_parts_one, Setups.sets_one, Setups.s_writes}
 use Rattle.shader_check.proofs.Roles.{direct_parts, reads_takes, sets_takes, sum_parts, passed}
 use Rattle.shader_check.proofs.SoundInfo.{address_takes, count_total, total_le}
@@ -46,8 +46,7 @@ word_k words count (x ∷ xs) zero = refl
 word_k words count (x ∷ xs) (suc k) = word_k words count xs k
 
 word_low : (h : Home) (o : Option ℕ) → ((k : ℕ) → slice_index h.words k < 2 ^ 32) → word_or_zero (λ c. slice_index h.words c) o < 2 ^ 32
-word_low h None low = omega arith
-word_low h (Some c) low = low c
+word_low h o low = search (rules, arith)
 
 -- a sample's setup words are the stream's at its parts
 parts_word : (h : Home) (n : ℕ) → ℕ → ℕ
@@ -79,8 +78,7 @@ every_sum P op x y words each =
 
 address_in : (x u source place bound size : ℕ) → x ≤ bound → u ≡ source + place → source + bound + 4 ≤ size → place + size ≤ 2 ^ 32 → place % 4096 ≡ 0
     → (a : ℕ) → a ≡ (x % 2 ^ 32 + u % 2 ^ 32) % 2 ^ 32 → LiesIn (a - a % 4) 4 (record { place = place; size = size })
-address_in x u source place bound size upto u_is room low page a is =
-    record { from = omega (arith, page, upto, u_is, room, low, is); upto = omega (arith, upto, room, u_is, low, is) }
+address_in x u source place bound size upto u_is room low page a is = search (rules, arith)
 
 -- the parts of a clamped write
 record IsClampedWrite (code : List ℕ) (n : ℕ) : Type 0 where
@@ -92,12 +90,7 @@ record IsClampedWrite (code : List ℕ) (n : ℕ) : Type 0 where
 
 clamped_write : (code : List ℕ) (n : ℕ) → is_clamped_write code n ≡ true → IsClampedWrite code n
 unfolding is_clamped_write
-clamped_write code n is =
-    let w = word code n in
-    let halves = and_parts (is_add_with_uniform w && (not (has_small w) && not (is_add_packed w))) (passes (first_register w) (is_clamped code n)) is in
-    let front = and_parts (is_add_with_uniform w) (not (has_small w) && not (is_add_packed w)) halves.0 in
-    let found = passed (first_register w) (is_clamped code n) halves.1 in
-    record { sum = front.0; plain = not-true (is_add_packed w) (and_parts (not (has_small w)) (not (is_add_packed w)) front.1).1; reg = found.0; first = found.1; clamped = found.2 }
+clamped_write code n is = search (rules, arith, and_parts, passed, not-true)
 
 sum_alu : (w : ℕ) → is_add_with_uniform w ≡ true → is_alu w ≡ true
 unfolding is_add_with_uniform
@@ -199,15 +192,10 @@ no_mul code n none = (or_parts (direct_by_add code n && not (is_clamped_write co
 
 no_mul_at : (code : List ℕ) (n tmu : ℕ) → tmu < 2 → direct_by_mul code n ≡ false → muls_direct (word code n) tmu (pending_of code tmu n) ≡ false
 unfolding direct_by_mul
-no_mul_at code n zero small none = (or_parts (muls_direct (word code n) 0 (pending_of code 0 n)) (muls_direct (word code n) 1 (pending_of code 1 n)) none).0
-no_mul_at code n (suc zero) small none = (or_parts (muls_direct (word code n) 0 (pending_of code 0 n)) (muls_direct (word code n) 1 (pending_of code 1 n)) none).1
-no_mul_at code n (suc (suc k)) small none = absurd (omega (arith, small))
+no_mul_at code n tmu small none = search (rules, arith, or_parts)
 
 add_by : (a m z : Bool) → (a || m) ≡ true → z ≡ true → (m && z) ≡ false → a ≡ true
-add_by true m z either is none = refl
-add_by false true true either is none = absurd (true≢false none)
-add_by false true false either is none = absurd (true≢false (sym is))
-add_by false false z either is none = either
+add_by a m z either is none = search (rules, arith, true≢false)
 
 add_writes : (w tmu pending : ℕ) → writes_s w tmu ≡ true → (pending == 0) ≡ true → muls_direct w tmu pending ≡ false → add_names w (s_address tmu) ≡ true
 unfolding writes_s names_address muls_direct
@@ -297,12 +285,7 @@ pub record IsExactSum (code : List ℕ) (n : ℕ) (reg : Reg) : Type 0 where
 
 exact_sum : (code : List ℕ) (n : ℕ) → is_exact_address_write code n ≡ true → (reg : Reg) × IsExactSum code n reg
 unfolding is_exact_address_write first_register
-exact_sum code n is =
-    let w = word code n in
-    let test : Reg → Bool = λ reg. is_immediate code n reg (4 * (count_of code n + 1)) in
-    let halves = and_parts (is_add_with_uniform w && has_quiet_signal w) (adds_address w && passes (first_register w) test) is in
-    let found = passed (first_register w) test (and_parts (adds_address w) (passes (first_register w) test) halves.1).1 in
-    (found.0, record { sum = (and_parts (is_add_with_uniform w) (has_quiet_signal w) halves.0).0; first = found.1; value = found.2 })
+exact_sum code n is = search (rules, arith, and_parts, passed)
 
 whole_sum : (v u stream count most : ℕ) → v ≡ 4 * (count + 1) → u ≡ stream → count < most → stream + 4 * most < 2 ^ 32
     → (v % 2 ^ 32 + u % 2 ^ 32) % 2 ^ 32 % 2 ^ 32 ≡ stream + 4 * (count + 1)
@@ -336,12 +319,10 @@ address_sum h m rights n u p words t home is taken writes =
 setups_goes : (h : Home) (n to : ℕ) (t next : Thread) → IsThread h n t → IsAt h to next → HasNoFault h.code → n + 1 < checked_of h.code
     → (to ≡ n + 1) ⊎ Lands h.code n to t next → AreSetups h (n + 1) next → AreSetups h to next
 setups_goes h n to t next is at none inside (inl on) are = subst (λ i. AreSetups h i next) (sym on) are
-setups_goes h n to t next is at none inside (inr way) are =
-    setups_jump h n to next none (omega (arith, inside)) (in_checked h.code to none at.inside) inside way.jump are
+setups_goes h n to t next is at none inside (inr way) are = search (rules, arith, setups_jump, in_checked)
 
 facts_goes : (h : Home) (n to : ℕ) (t next : Thread) → (to ≡ n + 1) ⊎ Lands h.code n to t next → FactsHold h (n + 1) next → FactsHold h to next
-facts_goes h n to t next (inl on) facts = subst (λ i. FactsHold h i next) (sym on) facts
-facts_goes h n to t next (inr way) facts = facts_jump h to next way.jump.target
+facts_goes h n to t next h5 facts = search (rules, arith, facts_jump)
 
 -- after the instruction, where the thread lives on
 stands_after : (h : Home) (m : List ℕ) (rights : Rights) (n u p : ℕ) (words : List ℕ) (t : Thread) → IsHome m rights.region h → IsThread h n t

@@ -1,10 +1,10 @@
 -- Where a thread's uniform pointer stands.
-use Rattle.std.proofs.Common.{◌≡◌, ◌<◌, ◌≤◌, inl, inr, ◌⊎◌, ℕ, zero, suc, ◌+◌, ◌-◌, Bool, true, false, ◌&&◌, not, List, length, refl, sym, ap, subst, arith, ◌∙◌, nat_lt, ◌==◌, ◌||◌, [], ◌∷◌, ◌++◌, map, if◌then◌else◌, ◌*◌, ◌/◌, ◌%◌, ◌^◌, Some, None}
+use Rattle.std.proofs.Common.{◌≡◌, ◌<◌, ◌≤◌, inl, inr, ◌⊎◌, ℕ, zero, suc, ◌+◌, ◌-◌, Bool, true, false, ◌&&◌, not, List, length, refl, sym, ap, subst, arith, ◌∙◌, nat_lt, ◌==◌, ◌||◌, [], ◌∷◌, ◌++◌, map, if◌then◌else◌, ◌*◌, ◌/◌, ◌%◌, ◌^◌, rules}
 use Rattle.std.proofs.lemmas.Bool.{cases_Bool, cases_eq, and_from, and_right, lt-ltb, false_from_ne_true, true≢false, or_from, leb-true, and_parts, not_from_false, or_parts, eqb-true, leb-false, not-true, not-false}
 use Rattle.std.proofs.lemmas.{List.map-append, List.length-map, Grind.common_steps, Bool.Decides.nat_tests}
 use Rattle.qpu_isa.specs.Terms.{is_backward, is_address_write, writes_s, writes_tmu, is_branch, target_of, add_names, mul_names, names_on_a, names_on_b, is_relative_address_write, is_add_packed}
 use Rattle.qpu_isa.specs.Setups.{takes_with, kept}
-use Rattle.qpu_isa.specs.Word.{ws_of, waddr_add_of, waddr_mul_of, cond_add_of, cond_mul_of}
+use Rattle.qpu_isa.specs.Word.{ws_of, waddr_add_of, waddr_mul_of, cond_add_of}
 use Rattle.shader_flow.specs.{Bounded.some_in, Bounded.is_back, Flow.word, Flow.checked_of, Flow.is_target}
 use Rattle.shader_flow.specs.Pending.{count_of, takes, pending_of}
 use Rattle.shader_flow.proofs.Bounded.{some_below_here, some_below_found, some_in_none, some_in_not}
@@ -18,8 +18,8 @@ use Rattle.qpu_law.specs.Stream.{IsAddressCount, TakesNone, GoesForward, uniform
 use Rattle.qpu_law.specs.Home.{HasNoFault, Home, ArePending, Jumps, done, Lands, readied}
 use Rattle.qpu_law.proofs.Going.{fine_at, behind, makes_on, setups0_are, setups1_are, is_went, uniforms_are}
 use Rattle.shader_check.specs.{Info.held, Rules.s16, Rules.is_exact_address_write, Rules.adds_address}
-use Rattle.qpu_machine.specs.declared.state.{Thread.Thread, Mark.Mark}
-use Rattle.qpu_machine.specs.{Operands.add_row, Operands.mul_row, Row.has_lane, Row.mask_of}
+use Rattle.qpu_machine.specs.declared.state.{Thread.Thread}
+use Rattle.qpu_machine.specs.{Operands.add_row, Row.has_lane, Row.mask_of}
 use Rattle.qpu_machine.specs.Writes.{pointer_after, add_address, mul_address}
 use Rattle.std.specs.Prelude.{slice_index}
 use Rattle.field_words.specs.Sizes.{most_words}
@@ -34,9 +34,7 @@ none_past : (code : List ℕ) (n : ℕ) → checked_of code ≤ n → takes code
 none_past code n past = false_from_ne_true (takes code n) (λ taken. let no : ⊥ = omega (arith, takes_checked code n taken, past) in no)
 
 by : (a k : Bool) → k ≡ false → (not a && not k) ≡ false → a ≡ true
-by true k unknown rule = refl
-by false true unknown rule = absurd (true≢false unknown)
-by false false unknown rule = absurd (true≢false rule)
+by a k unknown rule = search (rules, arith, true≢false)
 
 -- where the position isn't known, only a write of the address takes a uniform
 pub lost_writes : (code : List ℕ) (n : ℕ) → HasNoFault code → is_known code n ≡ false → takes code n ≡ true → writes_address code n ≡ true
@@ -61,11 +59,7 @@ pub unknown_next : (code : List ℕ) (n : ℕ) → is_known code n ≡ false →
 unknown_next code n unknown none = grind (arith, common_steps, nat_tests, cases_Bool, known_not, known_on, restart_next)
 
 none_from : (code : List ℕ) (n : ℕ) → takes code n ≡ false → TakesNone code (n + 1) → TakesNone code n
-none_from code n here later k from =
-    elim (cases_eq k n) [
-      | inl same ↦ subst (λ m. takes code m ≡ false) (sym same) here
-      | inr other ↦ later k (omega (arith, from, other))
-    ]
+none_from code n here later k from = search (rules, arith, cases_eq)
 
 next_taken : (code : List ℕ) → HasNoFault code → (d n : ℕ) → checked_of code ≤ n + d → is_known code n ≡ false → IsAddressCount code (count_of code n) ⊎ TakesNone code n
 next_taken code none zero n past unknown = inr (λ k from. none_past code k (omega (arith, past, from)))
@@ -88,11 +82,7 @@ count_flat code n (suc d) none =
 -- A backward branch with nothing taken after it leaves the stream open.
 opened_by : (code : List ℕ) (b : ℕ) → HasNoFault code → b < checked_of code → is_backward (word code b) ≡ true → TakesNone code (b + 4) → is_open code ≡ true
 unfolding is_open leaves_open
-opened_by code b none inside back later =
-    some_below_here (checked_of code) b (λ k. is_backward (word code k) && not (some_in (k + 4) (checked_of code) (writes_address code))) inside
-    (and_from (is_backward (word code b)) (not (some_in (b + 4) (checked_of code) (writes_address code))) back
-    (not_from_false (some_in (b + 4) (checked_of code) (writes_address code))
-    (some_in_none (b + 4) (checked_of code) (writes_address code) (λ k from to. none_writes code k none (later k from)))))
+opened_by code b none inside back later = search (rules, arith, some_below_here, and_from, not_from_false, some_in_none, none_writes)
 
 pub last_word : (code : List ℕ) (n b : ℕ) → HasNoFault code → n < checked_of code → b < checked_of code → is_backward (word code b) ≡ true → TakesNone code n → n ≤ b + 4 → IsAddressCount code (count_of code n)
 last_word code n b none n_in inside back later near =
@@ -136,9 +126,7 @@ setup_takes code n tmu small inside stays writes = grind (arith, common_steps, n
 
 kept_map_by : (f : ℕ → ℕ) (sends writes : Bool) (n u : ℕ) (xs : List ℕ) → (sends ≡ false → writes ≡ true → u ≡ f n)
     → (if sends then [] else (if writes then map f xs ++ (u ∷ []) else map f xs)) ≡ map f (if sends then [] else (if writes then xs ++ (n ∷ []) else xs))
-kept_map_by f true writes n u xs is = refl
-kept_map_by f false true n u xs is = ap (λ v. map f xs ++ (v ∷ [])) (is refl refl) ∙ sym (map-append f xs (n ∷ []))
-kept_map_by f false false n u xs is = refl
+kept_map_by f sends writes n u xs is = search (rules, arith, map-append)
 
 kept_map : (f : ℕ → ℕ) (w tmu n u : ℕ) (xs : List ℕ) → (writes_s w tmu ≡ false → writes_tmu w tmu ≡ true → u ≡ f n) → kept w tmu u (map f xs) ≡ map f (kept w tmu n xs)
 unfolding kept
@@ -150,10 +138,7 @@ one_kept h n u tmu items small inside taken are = grind (arith, common_steps, na
 
 pub setups_on : (h : Home) (n u uniforms : ℕ) (words : List ℕ) (t : Thread) → n < checked_of h.code → (takes h.code n ≡ true → u ≡ uniform_at h n)
     → AreSetups h n t → AreSetups h (n + 1) (done (word h.code n) u uniforms words t).thread
-setups_on h n u uniforms words t inside taken are = record {
-  tmu0 = setups0_are (word h.code n) u uniforms words t ∙ one_kept h n u 0 t.setups0.items (omega arith) inside taken are.tmu0;
-  tmu1 = setups1_are (word h.code n) u uniforms words t ∙ one_kept h n u 1 t.setups1.items (omega arith) inside taken are.tmu1;
-}
+setups_on h n u uniforms words t inside taken are = search (rules, arith, setups0_are, one_kept, setups1_are)
 
 -- At a target no setup words are kept.
 empty_by : (xs : List ℕ) → length xs ≡ 0 → xs ≡ []
@@ -161,9 +146,7 @@ empty_by [] none = refl
 empty_by (x ∷ xs) none = absurd (omega (arith, none))
 
 none_by : (code : List ℕ) (tmu i : ℕ) → tmu < 2 → pending_of code 0 i ≡ 0 → pending_of code 1 i ≡ 0 → pending_of code tmu i ≡ 0
-none_by code zero i small zero0 zero1 = zero0
-none_by code (suc zero) i small zero0 zero1 = zero1
-none_by code (suc (suc k)) i small zero0 zero1 = absurd (omega (arith, small))
+none_by code tmu i small zero0 zero1 = search (rules, arith)
 
 held_none : (code : List ℕ) (tmu i : ℕ) → HasNoFault code → tmu < 2 → i < checked_of code → is_target code i ≡ true → held code tmu i ≡ []
 unfolding s25
@@ -197,12 +180,7 @@ address_word code k (inl one) = let parts = address_write_at code one.by one.wri
 address_word code k (inr last) = Open last.opened last.is
 
 pub uniform_is : (h : Home) (n : ℕ) (t : Thread) → HasNoFault h.code → HoldsAddresses h → PointerIs h n t → takes h.code n ≡ true → Fetches h n t.uniforms
-uniform_is h n t none holds (inl right) taken = record {
-  at = count_of h.code n;
-  below = (let less = count_total h.code n (takes_checked h.code n taken) taken in let most = total_le h.code in omega (arith, less, most));
-  is = right;
-  same = refl;
-}
+uniform_is h n t none holds (inl right) taken = search (rules, arith, count_total, takes_checked, total_le)
 uniform_is h n t none holds (inr (inl lost)) taken = record {
   at = lost.at;
   below = address_below h.code lost.at (clean h.code none) (address_word h.code lost.at lost.address);
@@ -213,12 +191,10 @@ uniform_is h n t none holds (inr (inr over)) taken = absurd (true≢false (sym t
 
 -- An instruction that doesn't write the address leaves the pointer.
 names_both : (ws a b : Bool) → (if ws then b else a) ≡ false → (if ws then a else b) ≡ false → (a ≡ false) × (b ≡ false)
-names_both true a b on_a on_b = (on_b, on_a)
-names_both false a b on_a on_b = (on_a, on_b)
+names_both ws a b on_a on_b = search (rules, arith)
 
 unnamed : (branch : Bool) (address : ℕ) → (not branch && address == 40) ≡ false → ((if branch then 39 else address) == 40) ≡ false
-unnamed true address none = refl
-unnamed false address none = none
+unnamed branch address none = search (rules, arith)
 
 pointer_kept : (address mask : ℕ) (value : List ℕ) (uniforms : ℕ) → (address == 40) ≡ false → pointer_after address mask value uniforms ≡ uniforms
 unfolding pointer_after
@@ -242,8 +218,7 @@ not_relative code n none inside = (fine_at code none n inside).no15
 
 pub pointer_stays : (code : List ℕ) (n u p : ℕ) (words : List ℕ) (t : Thread) → HasNoFault code → n < checked_of code → is_address_write (word code n) ≡ false
     → (done (word code n) u p words t).thread.uniforms ≡ p
-pointer_stays code n u p words t none inside other =
-    grind (arith, common_steps, nat_tests, unit_names, not_relative, uniforms_are, pointer_kept, mul_other, add_other)
+pointer_stays code n u p words t none inside other = search (rules, arith, unit_names, not_relative, uniforms_are, pointer_kept, mul_other, add_other)
 
 -- A write of the address is the add unit's, to all elements.
 pub record IsAdded (w : ℕ) : Type 0 where
@@ -254,11 +229,7 @@ pub record IsAdded (w : ℕ) : Type 0 where
 
 exact_added : (w : ℕ) → adds_address w ≡ true → IsAdded w
 unfolding adds_address
-exact_added w adds =
-    let halves = and_parts (not (ws_of w) && add_names w 40) (cond_add_of w == 1 && not (is_add_packed w)) adds in
-    let first = and_parts (not (ws_of w)) (add_names w 40) halves.0 in
-    let second = and_parts (cond_add_of w == 1) (not (is_add_packed w)) halves.1 in
-    record { side = not-true (ws_of w) first.0; names = first.1; always = eqb-true (cond_add_of w) 1 second.0; plain = not-true (is_add_packed w) second.1 }
+exact_added w adds = search (rules, arith, and_parts, not-true, eqb-true)
 
 pub exact_at : (code : List ℕ) (n : ℕ) → HasNoFault code → n < checked_of code → is_address_write (word code n) ≡ true → is_exact_address_write code n ≡ true
 unfolding s16
@@ -266,8 +237,7 @@ exact_at code n none inside is =
     not-false (is_exact_address_write code n) (behind (is_address_write (word code n)) (not (is_exact_address_write code n)) is (fine_at code none n inside).no16)
 
 named_address : (branch : Bool) (address : ℕ) → (not branch && address == 40) ≡ true → ((if branch then 39 else address) == 40) ≡ true
-named_address true address is = absurd (true≢false (sym is))
-named_address false address is = is
+named_address branch address is = search (rules, arith, true≢false)
 
 add_forty : (w : ℕ) → add_names w 40 ≡ true → (add_address w == 40) ≡ true
 unfolding add_names add_address
@@ -286,8 +256,7 @@ unfolding has_lane
 first_lane = refl
 
 mul_aside : (ws a b : Bool) → ws ≡ false → (if ws then a else b) ≡ false → b ≡ false
-mul_aside true a b side none = absurd (true≢false side)
-mul_aside false a b side none = none
+mul_aside ws a b side none = search (rules, arith, true≢false)
 
 mul_none : (w : ℕ) → ws_of w ≡ false → is_relative_address_write w ≡ false → mul_names w 40 ≡ false
 unfolding is_relative_address_write names_on_b
@@ -295,13 +264,7 @@ mul_none w side none = mul_aside (ws_of w) (add_names w 40) (mul_names w 40) sid
 
 pub pointer_sets : (code : List ℕ) (n u p : ℕ) (words : List ℕ) (t : Thread) → HasNoFault code → n < checked_of code → IsAdded (word code n)
     → (done (word code n) u p words t).thread.uniforms ≡ slice_index (add_row (readied p words t) (word code n) u words) 0 % 2 ^ 32
-pointer_sets code n u p words t none inside added =
-    let w = word code n in
-    let sum = add_row (readied p words t) w u words in
-    let product = mul_row (readied p words t) w u words in
-    uniforms_are w u p words t
-    ∙ (pointer_kept (mul_address w) (mask_of (cond_mul_of w) words 16) product (pointer_after (add_address w) (mask_of (cond_add_of w) words 0) sum p) (mul_other w (mul_none w added.side (not_relative code n none inside)))
-    ∙ set_by (add_address w) (mask_of (cond_add_of w) words 0) sum p (add_forty w added.names) (ap (λ m. has_lane m 0) (full_mask (cond_add_of w) words 0 added.always) ∙ first_lane))
+pointer_sets code n u p words t none inside added = search (rules, arith, uniforms_are, pointer_kept, mul_other, mul_none, not_relative, set_by, add_forty, full_mask, first_lane)
 
 pub added_at : (code : List ℕ) (n : ℕ) → HasNoFault code → n < checked_of code → is_address_write (word code n) ≡ true → IsAdded (word code n)
 unfolding is_exact_address_write
@@ -314,18 +277,7 @@ pub record IsPast (h : Home) (n p : ℕ) (t : Thread) : Type 0 where
 
 -- over stays over
 over_on : (h : Home) (n u p : ℕ) (words : List ℕ) (t : Thread) → IsOver h n t → IsOver h (n + 1) (done (word h.code n) u p words t).thread
-over_on h n u p words t over =
-    let went = is_went (word h.code n) u p words t in
-    let from = over.from in
-    record {
-      root = over.root;
-      from = omega (arith, from);
-      none = over.none;
-      forward = over.forward;
-      pending = λ q led. (let before = over.pending2 q (sym (ap (λ (m : Mark). m.to) went.last3) ∙ led) in omega (arith, before));
-      pending2 = λ q led. (let before = over.pending1 q (sym (ap (λ (m : Mark). m.to) went.last2) ∙ led) in omega (arith, before));
-      pending1 = λ q led. omega (arith, from);
-    }
+over_on h n u p words t over = search (rules, arith, is_went)
 
 no_write : (code : List ℕ) (n : ℕ) → is_address_write (word code n) ≡ false → writes_address code n ≡ false
 unfolding writes_address
@@ -337,17 +289,7 @@ IsSettled h n p = IsRight h n p ⊎ IsLost h n p
 
 on_by : (h : Home) (n u p : ℕ) (words : List ℕ) (t : Thread) → HasNoFault h.code → n < checked_of h.code → IsStreamLow h
     → is_address_write (word h.code n) ≡ false → IsPast h n p t → IsSettled h n t.uniforms → IsSettled h (n + 1) (done (word h.code n) u p words t).thread.uniforms
-on_by h n u p words t none inside low other past (inl right) =
-    let stays = pointer_stays h.code n u p words t none inside other in
-    elim (cases_Bool (takes h.code n)) [
-      | inl taken ↦
-          (let next = count_taken h.code n taken in
-          let p_is = past.taken taken in
-          inl (omega (arith, stays, p_is, right, next, count_total h.code n inside taken, total_le h.code, low)))
-      | inr untaken ↦
-          (let next = count_same h.code n untaken in
-          inl (omega (arith, stays, past.untaken untaken, right, next)))
-    ]
+on_by h n u p words t none inside low other past (inl right) = search (rules, arith, pointer_stays, cases_Bool, count_taken, count_total, total_le, count_same)
 on_by h n u p words t none inside low other past (inr lost) =
     let writes : writes_address h.code n ≡ false = no_write h.code n other in
     let untaken : takes h.code n ≡ false = false_from_ne_true (takes h.code n) (λ taken. true≢false (sym (lost_writes h.code n none lost.unknown taken) ∙ writes)) in
@@ -362,13 +304,7 @@ on_by h n u p words t none inside low other past (inr lost) =
 settled_on : (h : Home) (n u p : ℕ) (words : List ℕ) (t : Thread) → HasNoFault h.code → n < checked_of h.code → IsStreamLow h
     → (is_address_write (word h.code n) ≡ true → slice_index (add_row (readied p words t) (word h.code n) u words) 0 % 2 ^ 32 ≡ h.stream + 4 * (count_of h.code n + 1))
     → IsPast h n p t → IsSettled h n t.uniforms → IsSettled h (n + 1) (done (word h.code n) u p words t).thread.uniforms
-settled_on h n u p words t none inside low sum past at =
-    elim (cases_Bool (is_address_write (word h.code n))) [
-      | inl writes ↦
-          (let taken : takes h.code n ≡ true = address_takes h.code n (clean h.code none n inside) inside writes in
-          inl (pointer_sets h.code n u p words t none inside (added_at h.code n none inside writes) ∙ (sum writes ∙ ap (λ c. h.stream + 4 * c) (sym (count_taken h.code n taken)))))
-      | inr other ↦ on_by h n u p words t none inside low other past at
-    ]
+settled_on h n u p words t none inside low sum past at = search (rules, arith, cases_Bool, address_takes, clean, pointer_sets, added_at, count_taken, on_by)
 
 -- A branch that doesn't lead backward leads past its slots.
 ahead_by : (imm b target : ℕ) → imm < 2 ^ 31 → b < 2 ^ 27 → target ≡ (b + 4 + imm / 8) % 2 ^ 29 → b + 4 ≤ target
@@ -379,15 +315,7 @@ unfolding is_backward target_of
 leads_ahead code b short is none = grind (arith, common_steps, nat_tests, leb-false, behind, ahead_by)
 
 landed : (h : Home) (n to root : ℕ) (t next : Thread) → Lands h.code n to t next → root ≤ to → TakesNone h.code root → GoesForward h.code root → IsOver h to next
-landed h n to root t next way from none forward = record {
-  root = root;
-  from = from;
-  none = none;
-  forward = forward;
-  pending = λ q led. absurd (let no : None ≡ Some q = sym way.none3 ∙ led in cc);
-  pending2 = λ q led. absurd (let no : None ≡ Some q = sym way.none2 ∙ led in cc);
-  pending1 = λ q led. absurd (let no : None ≡ Some q = sym way.none1 ∙ led in cc);
-}
+landed h n to root t next way from none forward = search (rules, arith)
 
 -- At a branch's target.
 settled_jump : (h : Home) (n to : ℕ) (t next : Thread) → HasNoFault h.code → length h.code ≤ most_words → n + 1 < checked_of h.code
@@ -409,35 +337,25 @@ settled_jump h n to t next none few inside way (inl right) =
                 inr (inr (landed h n to (n + 1) t next way (omega (arith, ahead, e, way.jump.is)) over.none over.forward)))
           ]
     ]
-settled_jump h n to t next none few inside way (inr lost) =
-    inr (inl (record { at = lost.at; address = lost.address; is = lost.is; unknown = known_not h.code to way.jump.target }))
+settled_jump h n to t next none few inside way (inr lost) = search (rules, arith, known_not)
 
 over_jump : (h : Home) (n to : ℕ) (t next : Thread) → length h.code ≤ most_words → n + 1 < checked_of h.code → Lands h.code n to t next → IsOver h n t → PointerIs h to next
-over_jump h n to t next few inside way over =
-    let reached = over.pending way.led way.led_is in
-    let b_in : n - 3 < checked_of h.code = omega (arith, inside) in
-    let short : n - 3 < 2 ^ 27 = omega (arith, b_in, checked_of-le h.code, few) in
-    let ahead = leads_ahead h.code (n - 3) short way.jump.branch (over.forward (n - 3) (omega (arith, reached)) b_in) in
-    inr (inr (landed h n to over.root t next way (omega (arith, ahead, reached, way.jump.is)) over.none over.forward))
+over_jump h n to t next few inside way over = search (rules, arith, checked_of-le, leads_ahead, landed)
 
 settled_goes : (h : Home) (n to : ℕ) (t next : Thread) → HasNoFault h.code → length h.code ≤ most_words → n + 1 < checked_of h.code
     → (to ≡ n + 1) ⊎ Lands h.code n to t next → IsSettled h (n + 1) next.uniforms → PointerIs h to next
-settled_goes h n to t next none few inside (inl on) (inl right) = inl (subst (λ i. IsRight h i next.uniforms) (sym on) right)
-settled_goes h n to t next none few inside (inl on) (inr lost) = inr (inl (subst (λ i. IsLost h i next.uniforms) (sym on) lost))
-settled_goes h n to t next none few inside (inr way) settled = settled_jump h n to t next none few inside way settled
+settled_goes h n to t next none few inside h8 settled = search (rules, arith, settled_jump)
 
 over_goes : (h : Home) (n to u p : ℕ) (words : List ℕ) (t : Thread) → length h.code ≤ most_words → n + 1 < checked_of h.code
     → (to ≡ n + 1) ⊎ Lands h.code n to t (done (word h.code n) u p words t).thread → IsOver h n t → PointerIs h to (done (word h.code n) u p words t).thread
-over_goes h n to u p words t few inside (inl on) over = inr (inr (subst (λ i. IsOver h i (done (word h.code n) u p words t).thread) (sym on) (over_on h n u p words t over)))
-over_goes h n to u p words t few inside (inr way) over = over_jump h n to t (done (word h.code n) u p words t).thread few inside way over
+over_goes h n to u p words t few inside h9 over = search (rules, arith, over_on, over_jump)
 
 -- Where the thread comes to, its pointer stands as it should.
 pub pointer_goes : (h : Home) (n to u p : ℕ) (words : List ℕ) (t : Thread) → HasNoFault h.code → length h.code ≤ most_words → IsStreamLow h → n + 1 < checked_of h.code
     → (is_address_write (word h.code n) ≡ true → slice_index (add_row (readied p words t) (word h.code n) u words) 0 % 2 ^ 32 ≡ h.stream + 4 * (count_of h.code n + 1))
     → IsPast h n p t → (to ≡ n + 1) ⊎ Lands h.code n to t (done (word h.code n) u p words t).thread
     → PointerIs h n t → PointerIs h to (done (word h.code n) u p words t).thread
-pointer_goes h n to u p words t none few low inside sum past way (inl right) =
-    settled_goes h n to t (done (word h.code n) u p words t).thread none few inside way (settled_on h n u p words t none (omega (arith, inside)) low sum past (inl right))
+pointer_goes h n to u p words t none few low inside sum past way (inl right) = search (rules, arith, settled_goes, settled_on)
 pointer_goes h n to u p words t none few low inside sum past way (inr (inl lost)) =
     settled_goes h n to t (done (word h.code n) u p words t).thread none few inside way (settled_on h n u p words t none (omega (arith, inside)) low sum past (inr lost))
 pointer_goes h n to u p words t none few low inside sum past way (inr (inr over)) = over_goes h n to u p words t few inside way over

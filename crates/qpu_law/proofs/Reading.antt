@@ -1,7 +1,6 @@
 -- What a TMU reads for a request that is fine.
-use Rattle.std.proofs.Common.{◌≡◌, ◌≤◌, ◌<◌, ℕ, zero, suc, ◌+◌, ◌-◌, ◌*◌, ◌%◌, ◌^◌, ◌&&◌, ◌==◌, Bool, true, false, if◌then◌else◌, List, [], ◌∷◌, ◌++◌, Option, Some, None, inl, inr, refl, sym, ap, subst, arith, nat_lt}
-use Rattle.std.proofs.lemmas.{Bool.or_from, Grind.common_steps, Bool.Decides.nat_tests}
-use Rattle.std.specs.Prelude.{slice_index}
+use Rattle.std.proofs.Common.{◌≡◌, ◌≤◌, ◌<◌, ℕ, zero, suc, ◌+◌, ◌-◌, ◌%◌, ◌^◌, ◌&&◌, ◌==◌, Bool, false, if◌then◌else◌, List, [], ◌∷◌, ◌++◌, Option, Some, None, inl, inr, refl, sym, ap, subst, arith, nat_lt, rules}
+use Rattle.std.proofs.lemmas.{Bool.or_from, Grind.common_steps}
 use Rattle.field_words.specs.{Questions.first_of, Words.u32_at, Words.bits_of}
 use Rattle.field_words.specs.declared.access.{Access.Access, Way.TheVariants.Read}
 use Rattle.field_words.proofs.Questions.{none_stands}
@@ -9,12 +8,12 @@ use Rattle.texture_layouts.specs.Setup.{TextureModel, texture_of, is_cube_word, 
 use Rattle.texture_layouts.specs.{Level.level_side_of, Fits.has_two_strides, Fits.lacks_stride, Fits.is_unlisted, Fits.texture_questions}
 use Rattle.texture_layouts.specs.Fetch.{fetch_size_of, fetch_reach, place_from, fetch_place_of, AreFetchesIn}
 use Rattle.texture_layouts.proofs.{Inside.in_buffer, Fetches.fetches_in, Moved.texture_moved}
-use Rattle.machine_plan.specs.{declared.who.Who.Who, Choice.word_at, Memory.bytes_at, Plan.Plan, Plan.Wilds, Plan.access, Plan.Keeps}
+use Rattle.machine_plan.specs.{declared.who.Who.Who, Memory.bytes_at, Plan.Plan, Plan.access, Plan.Keeps}
 use Rattle.machine_plan.specs.Regions.{Every, Interval, LiesIn, Inside, Rights, IsSafeIn}
 use Rattle.machine_plan.proofs.{Safe.read_safe, Worlds.keeps_mapped}
 use Rattle.qpu_machine.specs.Request.{direct_plan, ask_plan, chosen_level, chosen_face, chosen_x, chosen_y, chosen_place, chosen_length, read_at, texture_reads, is_undefined, texture_plan}
 use Rattle.qpu_machine.specs.declared.state.Ask.{Ask, TheVariants.Direct, TheVariants.Texture}
-use Rattle.qpu_law.specs.Asks.{IsWordIn, IsTextureIn, IsAskIn, IsFineAsk, IsReadIn, IsOneOf, AsksStayIn, FineAsksAreSafe}
+use Rattle.qpu_law.specs.Asks.{IsWordIn, IsTextureIn, IsAskIn, IsFineAsk, IsOneOf, AsksStayIn, FineAsksAreSafe}
 
 -- A direct request reads at each of its addresses.
 direct_keeps : (within : Interval) (row found : List ℕ) → Every (IsWordIn within) row
@@ -23,8 +22,7 @@ direct_keeps : (within : Interval) (row found : List ℕ) → Every (IsWordIn wi
     → Keeps who L G (λ k r. k ≡ m) (direct_plan row found) m
 unfolding direct_plan
 direct_keeps within [] found fine who m L G usable = refl
-direct_keeps within (address ∷ row) found fine who m L G usable =
-    (usable (address - address % 4) 4 fine.0, direct_keeps within row (found ++ (u32_at (bytes_at m (address - address % 4) 4) 0 ∷ [])) fine.1 who m L G usable)
+direct_keeps within (address ∷ row) found fine who m L G usable = search (rules, arith, direct_keeps within row (found ++ (u32_at (bytes_at m (address - address % 4) 4) 0 ∷ [])) fine.1 who m L G usable)
 
 -- the read of a pixel that doesn't lie below 0 and ends in the interval
 record IsPixelIn (within : Interval) (place : Option ℕ) (len : ℕ) : Type 0 where
@@ -33,8 +31,7 @@ record IsPixelIn (within : Interval) (place : Option ℕ) (len : ℕ) : Type 0 w
   inside : LiesIn at len within
 
 if_in : (reach below : ℕ) (b : Bool) → nat_lt reach below ≡ b → below ≤ reach → (if b then None else Some (reach - below)) ≡ Some (reach - below)
-if_in reach below true is not-below = let over : reach < below = grind (arith, is) in absurd (omega (arith, over))
-if_in reach below false is not-below = refl
+if_in reach below b is h4 = search (rules, arith)
 
 place_some : (reach below : ℕ) → below ≤ reach → place_from reach below ≡ Some (reach - below)
 place_some reach below not-below = if_in reach below (nat_lt reach below) refl not-below
@@ -54,17 +51,7 @@ read_in : (t : TextureModel) (within : Interval) (face level x y : ℕ) → AreF
     → face < faces_of t → level ≤ t.levels → x < level_width_of t level → y < level_height_of t level
     → IsPixelIn within (fetch_place_of (record t { base = t.base + within.place }) face level x y) (fetch_size_of (tiling_at t level) t.cpp)
 unfolding fetch_place_of
-read_in t within face level x y fits face_in level_in x_in y_in =
-    let moved = record t { base = t.base + within.place } in
-    let reach = moved_reach t within.place level face x y in
-    let below = below_moved t within.place level in
-    let from = fits.from face level x y face_in level_in x_in y_in in
-    let upto = fits.upto face level x y face_in level_in x_in y_in in
-    record {
-      at = fetch_reach moved face level x y - size_below moved level;
-      is = place_some (fetch_reach moved face level x y) (size_below moved level) (omega (arith, reach, below, from));
-      inside = record { from = omega (arith, reach, below, from); upto = omega (arith, reach, below, from, upto) };
-    }
+read_in t within face level x y fits face_in level_in x_in y_in = search (rules, arith, moved_reach, below_moved, place_some)
 
 -- The choice words name a level, a face and a pixel that there are.
 below_modulo : (n k : ℕ) → 0 < k → n % k < k
@@ -98,22 +85,13 @@ has_sides p0 p1 p2 p3 = record { across = side_of_some (type_of p0 p1) (bits_of 
 chosen_in : (t : TextureModel) (within : Interval) (words : List ℕ) (m : ℕ) → AreFetchesIn t within.size → HasSides t
     → IsPixelIn within (chosen_place (record t { base = t.base + within.place }) words m) (chosen_length (record t { base = t.base + within.place }) words m)
 unfolding chosen_place chosen_length chosen_level chosen_face chosen_x chosen_y faces_of
-chosen_in t within words m fits sides =
-    let level = word_at words (4 * m) % (t.levels + 1) in
-    read_in t within (word_at words (4 * m + 1) % faces_of t) level
-    (word_at words (4 * m + 2) % level_width_of t level) (word_at words (4 * m + 3) % level_height_of t level) fits
-    (below_modulo (word_at words (4 * m + 1)) (faces_of t) (faces_some t))
-    (let h = below_modulo (word_at words (4 * m)) (t.levels + 1) (omega arith) in omega (arith, h))
-    (below_modulo (word_at words (4 * m + 2)) (level_width_of t level) (side_some t.width level sides.across))
-    (below_modulo (word_at words (4 * m + 3)) (level_height_of t level) (side_some t.height level sides.down))
+chosen_in t within words m fits sides = search (rules, arith, read_in, below_modulo, faces_some, side_some)
 
 read_keeps : {R : Type 0} (within : Interval) (place : Option ℕ) (len : ℕ) (next : Plan R) → IsPixelIn within place len
     → (who : Who) (m : List ℕ) (L : ℕ → ℕ → Type 0) (G : Access → Type 0) (P : List ℕ → R → Type 0)
     → ((q n : ℕ) → LiesIn q n within → G (access who Read q n))
     → Keeps who L G P next m → Keeps who L G P (read_at place len next) m
-read_keeps within None len next read who m L G P usable later = absurd (let e = read.is in cc)
-read_keeps within (Some place) len next read who m L G P usable later =
-    (usable place len (subst (λ p. LiesIn p len within) (sym cc) read.inside), later)
+read_keeps within place len next read who m L G P usable later = search (rules, arith)
 
 reads_keep : (t : TextureModel) (within : Interval) (words : List ℕ) → AreFetchesIn t within.size → HasSides t
     → (who : Who) (m : List ℕ) (L : ℕ → ℕ → Type 0) (G : Access → Type 0)
@@ -146,39 +124,25 @@ lacks_moves source place p2 p3 page = ap (λ c. c && cube_stride_of p2 p3 == 0) 
 defined : (source place p1 p2 p3 size : ℕ) → place % 4096 ≡ 0 → source + place < 2 ^ 32 → first_of (texture_questions source p1 p2 p3 size) ≡ None
     → is_undefined (source + place) p1 p2 p3 ≡ false
 unfolding is_undefined texture_questions
-defined source place p1 p2 p3 size page word none =
-    grind (arith, common_steps, nat_tests, none_stands, strides_move, lacks_moves, texture_moved, unlisted_moves, or_from)
+defined source place p1 p2 p3 size page word none = search (rules, arith, none_stands, strides_move, lacks_moves, texture_moved, unlisted_moves, or_from)
 
 texture_keeps : (within : Interval) (p0 p1 p2 p3 : ℕ) → IsTextureIn within p0 p1 p2 p3
     → (who : Who) (words m : List ℕ) (L : ℕ → ℕ → Type 0) (G : Access → Type 0)
     → ((q n : ℕ) → LiesIn q n within → G (access who Read q n))
     → Keeps who L G (λ k r. k ≡ m) (texture_plan p0 p1 p2 p3 words) m
 unfolding texture_plan
-texture_keeps within p0 p1 p2 p3 fine who words m L G usable =
-    let t = texture_of fine.source p1 p2 p3 in
-    let word : fine.source + within.place < 2 ^ 32 = subst (λ p. p < 2 ^ 32) fine.base fine.word in
-    let whole : Keeps who L G (λ k r. k ≡ m) (texture_reads (record t { base = t.base + within.place }) words 0 128) m =
-    reads_keep t within words (fetches_in t within.size (in_buffer fine.source p1 p2 p3 within.size fine.rules)) (has_sides fine.source p1 p2 p3) who m L G usable 128 0 in
-    let moved : Keeps who L G (λ k r. k ≡ m) (texture_reads (texture_of (fine.source + within.place) p1 p2 p3) words 0 128) m =
-    subst (λ u. Keeps who L G (λ k r. k ≡ m) (texture_reads u words 0 128) m) (sym (texture_moved fine.source within.place p1 p2 p3 fine.page word)) whole in
-    let tame : Keeps who L G (λ k r. k ≡ m) (texture_plan (fine.source + within.place) p1 p2 p3 words) m =
-    subst (λ b. Keeps who L G (λ k r. k ≡ m) (if b then Wilds else texture_reads (texture_of (fine.source + within.place) p1 p2 p3) words 0 128) m)
-    (sym (defined fine.source within.place p1 p2 p3 within.size fine.page word fine.rules)) moved in
-    subst (λ p. Keeps who L G (λ k r. k ≡ m) (texture_plan p p1 p2 p3 words) m) (sym fine.base) tame
+texture_keeps within p0 p1 p2 p3 fine who words m L G usable = search (rules, arith, reads_keep, fetches_in, in_buffer, has_sides, texture_moved, defined)
 
 -- over any demands on looks and accesses
 pub ask_keeps : (within : Interval) (ask : Ask) → IsAskIn within ask
     → (who : Who) (words m : List ℕ) (L : ℕ → ℕ → Type 0) (G : Access → Type 0)
     → ((q n : ℕ) → LiesIn q n within → G (access who Read q n))
     → Keeps who L G (λ k r. k ≡ m) (ask_plan ask words) m
-ask_keeps within (Direct row) fine who words m L G usable =
-    keeps_mapped Some who L G (λ k r. k ≡ m) (direct_plan row []) m (direct_keeps within row [] fine who m L G usable)
-ask_keeps within (Texture four) fine who words m L G usable =
-    texture_keeps within (slice_index four 0) (slice_index four 1) (slice_index four 2) (slice_index four 3) fine who words m L G usable
+ask_keeps within (Direct row) fine who words m L G usable = search (rules, arith, keeps_mapped, direct_keeps)
+ask_keeps within (Texture four) fine who words m L G usable = search (rules, arith, texture_keeps)
 
 pub asks_stay_in_law : AsksStayIn
-asks_stay_in_law within ask fine who words m =
-    ask_keeps within ask fine who words m (λ place len. ⊥) (IsReadIn within) (λ q n inside. record { way = refl; inside = inside })
+asks_stay_in_law within ask fine who words m = search (rules, arith, ask_keeps)
 
 pub one_inside : (region : List Interval) (place size q n : ℕ) → IsOneOf region place size → LiesIn q n (record { place = place; size = size }) → Inside region q n
 one_inside [] place size q n none lies = absurd none
@@ -190,10 +154,7 @@ pub fine_ask_keeps : (IsNamed : ℕ → ℕ → Type 0) (rights : Rights)
     → ((place size q n : ℕ) → IsNamed place size → LiesIn q n (record { place = place; size = size }) → Inside rights.region q n)
     → (ask : Ask) → IsFineAsk IsNamed ask → (who : Who) (words m : List ℕ) (L : ℕ → ℕ → Type 0)
     → Keeps who L (IsSafeIn rights) (λ k r. k ≡ m) (ask_plan ask words) m
-fine_ask_keeps IsNamed rights covers ask fine who words m L =
-    ask_keeps (record { place = fine.place; size = fine.size }) ask fine.reads who words m L (IsSafeIn rights)
-    (λ q n inside. read_safe rights who q n (covers fine.place fine.size q n fine.named inside))
+fine_ask_keeps IsNamed rights covers ask fine who words m L = search (rules, arith, ask_keeps, read_safe)
 
 pub fine_asks_are_safe_law : FineAsksAreSafe
-fine_asks_are_safe_law rights ask fine who words m =
-    fine_ask_keeps (IsOneOf rights.region) rights (one_inside rights.region) ask fine who words m (Inside rights.region)
+fine_asks_are_safe_law rights ask fine who words m = search (rules, arith, fine_ask_keeps, one_inside)

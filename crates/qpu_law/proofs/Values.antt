@@ -1,12 +1,12 @@
 -- What a register holds after an instruction.
-use Rattle.std.proofs.Common.{◌≡◌, ◌≢◌, ◌<◌, inl, inr, ℕ, ◌+◌, ◌-◌, Bool, true, false, ◌&&◌, ◌||◌, ◌==◌, not, Option, List, [], length, refl, sym, ap, arith, ◌∙◌, nat_lt, nat_le, if◌then◌else◌, ◌≤◌, ◌⊎◌, ◌%◌, ◌^◌, Some, None, subst}
+use Rattle.std.proofs.Common.{◌≡◌, ◌≢◌, ◌<◌, inl, inr, ℕ, ◌+◌, ◌-◌, Bool, true, false, ◌&&◌, ◌||◌, ◌==◌, not, Option, List, [], length, refl, sym, ap, arith, ◌∙◌, nat_lt, nat_le, if◌then◌else◌, ◌≤◌, ◌⊎◌, ◌%◌, ◌^◌, Some, None, subst, rules}
 use Rattle.std.proofs.lemmas.Bool.{cases_Bool, and_from, or_parts, eqb-true, eqb-false, lt-ltb, le-leb, agree_below_at, and_parts, not-true, or_cases, true≢false, ltb-true, cases_eq, leb-true, false_from_ne_true, not_from_false}
 use Rattle.std.proofs.lemmas.List.{length-set, get_or-set_same, get_or-set_other, get_or-replicate, FromFn.get_or-map-range_with_len}
 use Rattle.std.proofs.{Math.Bool.not-not, lemmas.Grind.common_steps, lemmas.Bool.Decides.nat_tests}
 use Rattle.std.specs.Prelude.{slice_index, slice_index_or, slice_set, unwrap_or}
 use Rattle.qpu_isa.specs.declared.inst.Reg.{Reg, TheVariants.A, TheVariants.B, TheVariants.Acc}
 use Rattle.qpu_isa.specs.Word.{ws_of, waddr_add_of, waddr_mul_of, cond_add_of, cond_mul_of, raddr_a_of, raddr_b_of, add_a_of, add_b_of, op_add_of}
-use Rattle.qpu_isa.specs.Terms.{is_branch, add_names, mul_names, add_names_reg, mul_names_reg, names, sets_alone, is_add_packed, is_alu, is_load_imm, has_small, is_plain, is_uniform_operand, loaded_value, is_max_with_zero, is_min_with_uniform, is_add_with_uniform, operand_register, is_accumulator, is_end, is_switch, first_register}
+use Rattle.qpu_isa.specs.Terms.{is_branch, add_names, mul_names, add_names_reg, mul_names_reg, names, sets_alone, is_add_packed, is_alu, is_load_imm, has_small, is_plain, is_uniform_operand, loaded_value, is_max_with_zero, is_min_with_uniform, is_add_with_uniform, operand_register, is_accumulator, is_switch, first_register}
 use Rattle.qpu_isa.specs.Told.{IsRegister}
 use Rattle.qpu_machine.specs.declared.state.{Thread.Thread, Fate.TheVariants.GoesOn, Fate.TheVariants.Switches, Fate.TheVariants.Ends}
 use Rattle.qpu_machine.specs.Operands.{add_row, mul_row, read_a, read_b, small_row, operand, immediate_row, sums}
@@ -21,7 +21,6 @@ use Rattle.machine_plan.specs.Choice.{word_at}
 use Rattle.shader_flow.specs.{Flow.word, Flow.is_target, Flow.checked_of, Bounded.some_in, Pending.takes}
 use Rattle.shader_flow.proofs.Bounded.{some_in_not, some_in_none, some_below_here, some_below_none, some_below_not}
 use Rattle.clamp_facts.specs.Facts.{stays, switches_between, is_delayed, carrier_of, is_max_at, is_not_negative, makes_clamp, made, fact_by, fact_at, is_immediate}
-use Rattle.clamp_facts.specs.declared.fact.Fact.TheVariants.{Nothing, Immediate, NotNegative, Clamped}
 use Rattle.clamp_facts.specs.{declared.fact.Fact.Fact, Upkeep.IsCarrier, Readings.is_value, Readings.value_in}
 use Rattle.clamp_facts.proofs.Carriers.{stays_quiet, sets_parts, carried_parts, carrier_found, value_of_made}
 use Rattle.shader_check.proofs.Roles.{reads_takes, min_parts, passed}
@@ -35,15 +34,12 @@ full_lane e below = agree_below_at (has_lane 65535) (λ k. true) 16 e refl below
 
 pub merged_full : (old new : List ℕ) (e : ℕ) → e < 16 → slice_index (merged 65535 old new) e ≡ slice_index new e
 unfolding merged
-merged_full old new e below =
-    lane_at (λ k. if has_lane 65535 k then slice_index new k else slice_index old k) e below
-    ∙ ap (λ b. if b then slice_index new e else slice_index old e) (full_lane e below)
+merged_full old new e below = search (rules, arith, lane_at, full_lane)
 
 -- a file
 file_other_by : (on : Bool) (address reg mask : ℕ) (value : List ℕ) (file : List (List ℕ)) → (on && address == reg) ≡ false
     → slice_index_or (if on && nat_lt address 32 then slice_set file address (merged mask (slice_index_or file address []) value) else file) reg [] ≡ slice_index_or file reg []
-file_other_by false address reg mask value file other = refl
-file_other_by true address reg mask value file other = grind (arith, common_steps, nat_tests, eqb-false, cases_Bool, get_or-set_other)
+file_other_by on address reg mask value file other = search (rules, arith, eqb-false, cases_Bool, get_or-set_other)
 
 file_other : (on : Bool) (address reg mask : ℕ) (value : List ℕ) (file : List (List ℕ)) → (on && address == reg) ≡ false
     → slice_index_or (file_after on address mask value file) reg [] ≡ slice_index_or file reg []
@@ -86,8 +82,7 @@ r4_size w words results0 results1 acc = grind (arith, common_steps, length-set)
 
 -- The units' write addresses, as the rules name them.
 named_same : (branch : Bool) (address k : ℕ) → k ≢ 39 → ((if branch then 39 else address) == k) ≡ (not branch && address == k)
-named_same true address k other = grind (arith, nat_tests, other)
-named_same false address k other = refl
+named_same branch address k other = search (rules, arith)
 
 add_same : (w k : ℕ) → k ≢ 39 → (add_address w == k) ≡ add_names w k
 unfolding add_address add_names
@@ -107,21 +102,15 @@ summed w u p words t = added w (add_row (readied p words t) w u words) words (re
 written_row : (w u p : ℕ) (words : List ℕ) (t : Thread) (reg : Reg) → IsRegister reg
     → row_of (done w u p words t).thread reg ≡ row_of (multiplied w (mul_row (readied p words t) w u words) words (summed w u p words t)) reg
 unfolding executed executed_with rested worked went_on loaded stored written multiplied written_at added awake
-written_row w u p words t (A k) known = refl
-written_row w u p words t (B k) known = refl
-written_row w u p words t (Acc k) known = grind (arith, common_steps, nat_tests, r4_other)
+written_row w u p words t reg known = search (rules, arith, r4_other)
 
 add_leaves : (w : ℕ) (value words : List ℕ) (t : Thread) (reg : Reg) → IsRegister reg → add_names_reg w reg ≡ false → row_of (added w value words t) reg ≡ row_of t reg
 unfolding added written_at add_names_reg
-add_leaves w value words t (A k) low none = grind (arith, common_steps, nat_tests, file_other, add_same, below_apart)
-add_leaves w value words t (B k) low none = grind (arith, common_steps, nat_tests, file_other, not-not, add_same, below_apart)
-add_leaves w value words t (Acc k) low none = grind (arith, common_steps, nat_tests, acc_other, add_same, below_apart)
+add_leaves w value words t reg low none = search (rules, arith, file_other, add_same, below_apart, not-not, acc_other)
 
 mul_leaves : (w : ℕ) (value words : List ℕ) (t : Thread) (reg : Reg) → IsRegister reg → mul_names_reg w reg ≡ false → row_of (multiplied w value words t) reg ≡ row_of t reg
 unfolding multiplied written_at mul_names_reg
-mul_leaves w value words t (A k) low none = grind (arith, common_steps, nat_tests, file_other, mul_same, below_apart)
-mul_leaves w value words t (B k) low none = grind (arith, common_steps, nat_tests, file_other, mul_same, below_apart)
-mul_leaves w value words t (Acc k) low none = grind (arith, common_steps, nat_tests, acc_other, mul_same, below_apart)
+mul_leaves w value words t reg low none = search (rules, arith, file_other, mul_same, below_apart, acc_other)
 
 -- An instruction that doesn't name a register leaves it as the thread began.
 pub register_same : (w u p : ℕ) (words : List ℕ) (t : Thread) (reg : Reg) → IsRegister reg → names w reg ≡ false
@@ -139,18 +128,14 @@ address_is w k other named = eqb-true (add_address w) k (add_same w k other ∙ 
 add_sets : (w : ℕ) (value words : List ℕ) (t : Thread) (reg : Reg) → IsRegister reg → HasRows t → add_names_reg w reg ≡ true
     → row_of (added w value words t) reg ≡ merged (mask_of (cond_add_of w) words 0) (row_of t reg) value
 unfolding added written_at add_names_reg
-add_sets w value words t (A k) low rows named = grind (arith, common_steps, nat_tests, and_parts, file_set, address_is, below_apart)
-add_sets w value words t (B k) low rows named =
-    grind (arith, common_steps, nat_tests, and_parts, file_set, not-not, address_is, below_apart)
-add_sets w value words t (Acc k) low rows named = grind (arith, common_steps, nat_tests, acc_set, address_is, below_apart)
+add_sets w value words t reg low rows named = search (rules, arith, and_parts, file_set, address_is, below_apart, not-not, acc_set)
 
 chosen_size : (words : List ℕ) → length (chosen_rows words) ≡ 6
 unfolding chosen_rows
 chosen_size words = refl
 
 ready_size : (fresh : Bool) (words : List ℕ) (acc : List (List ℕ)) → length acc ≡ 6 → length (if fresh then chosen_rows words else acc) ≡ 6
-ready_size true words acc size = chosen_size words
-ready_size false words acc size = size
+ready_size fresh words acc size = search (rules, arith, chosen_size)
 
 pub ready_rows : (p : ℕ) (words : List ℕ) (t : Thread) → HasRows t → HasRows (readied p words t)
 unfolding awake
@@ -160,17 +145,7 @@ ready_rows p words t rows = record { a = rows.a; b = rows.b; acc = ready_size t.
 pub register_set : (w u p : ℕ) (words : List ℕ) (t : Thread) (reg : Reg) → IsRegister reg → HasRows t → sets_alone w reg ≡ true
     → (e : ℕ) → e < 16 → slice_index (row_of (done w u p words t).thread reg) e ≡ slice_index (add_row (readied p words t) w u words) e
 unfolding sets_alone
-register_set w u p words t reg known rows alone e below =
-    let halves = and_parts (add_names_reg w reg && not (mul_names_reg w reg)) (cond_add_of w == 1 && not (is_add_packed w)) alone in
-    let first = and_parts (add_names_reg w reg) (not (mul_names_reg w reg)) halves.0 in
-    let second = and_parts (cond_add_of w == 1) (not (is_add_packed w)) halves.1 in
-    let sum = add_row (readied p words t) w u words in
-    let row : row_of (done w u p words t).thread reg ≡ merged 65535 (row_of (readied p words t) reg) sum =
-    written_row w u p words t reg known
-    ∙ (mul_leaves w (mul_row (readied p words t) w u words) words (summed w u p words t) reg known (not-true (mul_names_reg w reg) first.1)
-    ∙ (add_sets w sum words (readied p words t) reg known (ready_rows p words t rows) first.0
-    ∙ ap (λ m. merged m (row_of (readied p words t) reg) sum) (full_mask (cond_add_of w) words (eqb-true (cond_add_of w) 1 second.0)))) in
-    ap (λ r. slice_index r e) row ∙ merged_full (row_of (readied p words t) reg) sum e below
+register_set w u p words t reg known rows alone e below = search (rules, arith, and_parts, written_row, mul_leaves, not-true, add_sets, ready_rows, full_mask, eqb-true, merged_full)
 
 pub rows_on : (w u p : ℕ) (words : List ℕ) (t : Thread) → HasRows t → HasRows (done w u p words t).thread
 unfolding executed executed_with rested worked went_on loaded stored written multiplied added written_at awake
@@ -201,13 +176,11 @@ filled_at x e below = get_or-replicate 16 e x 0 below
 -- a uniform operand is the uniform in each element
 uniform_a : (plain : Bool) (address : ℕ) (u : ℕ) (free later : List ℕ) → plain ≡ true → (address == 32) ≡ true
     → (if not plain then free else (if address == 32 then filled u else later)) ≡ filled u
-uniform_a true address u free later plain is = ap (λ b. if b then filled u else later) is
-uniform_a false address u free later plain is = absurd (true≢false (sym plain))
+uniform_a plain address u free later h5 is = search (rules, arith, true≢false)
 
 uniform_b : (small : Bool) (address : ℕ) (u : ℕ) (other later : List ℕ) → (address == 32 && not small) ≡ true
     → (if small then other else (if address == 32 then filled u else later)) ≡ filled u
-uniform_b true address u other later is = absurd (let h = (and_parts (address == 32) false is).1 in true≢false (sym h))
-uniform_b false address u other later is = ap (λ b. if b then filled u else later) (and_parts (address == 32) true is).0
+uniform_b small address u other later is = search (rules, arith, and_parts, true≢false)
 
 pub uniform_operand : (t : Thread) (w sel u : ℕ) (words : List ℕ) → is_uniform_operand w sel ≡ true → operand t w sel u words ≡ filled u
 unfolding is_uniform_operand operand read_a read_b
@@ -247,65 +220,34 @@ small_loads_not w is = grind (arith, nat_tests, is)
 pub sum_lane : (t : Thread) (w u : ℕ) (words : List ℕ) (e : ℕ) → e < 16 → is_add_packed w ≡ false → is_add_with_uniform w ≡ true
     → slice_index (add_row t w u words) e ≡ (slice_index (operand t w (add_a_of w) u words) e % 2 ^ 32 + u % 2 ^ 32) % 2 ^ 32
 unfolding is_add_with_uniform
-sum_lane t w u words e below plain is =
-    grind (arith, common_steps, nat_tests, and_parts, uniform_operand, filled_at, add_lane, alu_loads_not, eqb-true, sum_of)
+sum_lane t w u words e below plain is = search (rules, arith, and_parts, uniform_operand, filled_at, add_lane, alu_loads_not, eqb-true, sum_of)
 
 -- the minimum with a uniform, of a number that isn't negative
 pub min_lane : (t : Thread) (w u : ℕ) (words : List ℕ) (e : ℕ) → e < 16 → is_add_packed w ≡ false → is_min_with_uniform w ≡ true
     → slice_index (operand t w (add_a_of w) u words) e < 2 ^ 31 → slice_index (add_row t w u words) e ≤ u
 unfolding is_min_with_uniform
-min_lane t w u words e below plain is low =
-    let halves = and_parts (is_alu w && op_add_of w == 18) (is_uniform_operand w (add_b_of w)) is in
-    let first = and_parts (is_alu w) (op_add_of w == 18) halves.0 in
-    let x = slice_index (operand t w (add_a_of w) u words) e % 2 ^ 32 in
-    let y = slice_index (operand t w (add_b_of w) u words) e % 2 ^ 32 in
-    let lane : slice_index (add_row t w u words) e ≡ signed_min x y =
-    add_lane t w u words e below plain (alu_loads_not w first.0)
-    ∙ (ap (λ o. unwrap_or (add_result_of o x y) (word_at words (1 + e))) (eqb-true (op_add_of w) 18 first.1) ∙ min_of x y (word_at words (1 + e))) in
-    let upto : signed_min x y ≤ y = signed_min-upto x y (omega (arith, low)) (omega arith) in
-    omega (arith, lane, upto, ap (λ r. slice_index r e) (uniform_operand t w (add_b_of w) u words halves.1) ∙ filled_at u e below)
+min_lane t w u words e below plain is low = search (rules, arith, and_parts, add_lane, alu_loads_not, eqb-true, min_of, signed_min-upto, uniform_operand, filled_at)
 
 -- the maximum with the value 0
 zero_by : (small : Bool) (v : ℕ) (words other : List ℕ) → small ≡ true → v ≡ 0 → (if small then small_row v words else other) ≡ filled 0
 unfolding small_row
-zero_by true v words other is none = ap (λ x. small_row x words) none
-zero_by false v words other is none = absurd (true≢false (sym is))
+zero_by small v words other is none = search (rules, arith, true≢false)
 
 zero_operand : (t : Thread) (w u : ℕ) (words : List ℕ) → has_small w ≡ true → raddr_b_of w ≡ 0 → operand t w 7 u words ≡ filled 0
 unfolding operand read_b small_row
 zero_operand t w u words small zero_is = zero_by (has_small w) (raddr_b_of w) words _ small zero_is
 
 max_zero : (a b : ℕ) → a < 2 ^ 32 → b < 2 ^ 32 → (a ≡ 0) ⊎ (b ≡ 0) → signed_max a b < 2 ^ 31
-max_zero a b a_fits b_fits (inl is) = subst (λ x. signed_max x b < 2 ^ 31) (sym is) (signed_max_zero_first b b_fits)
-max_zero a b a_fits b_fits (inr is) = subst (λ x. signed_max a x < 2 ^ 31) (sym is) (signed_max_zero a a_fits)
+max_zero a b a_fits b_fits h4 = search (rules, arith, signed_max_zero_first, signed_max_zero)
 
 pub max_lane : (t : Thread) (w u : ℕ) (words : List ℕ) (e : ℕ) → e < 16 → is_add_packed w ≡ false → is_max_with_zero w ≡ true
     → slice_index (add_row t w u words) e < 2 ^ 31
 unfolding is_max_with_zero
-max_lane t w u words e below plain is =
-    let halves = and_parts (has_small w && op_add_of w == 19) (raddr_b_of w == 0 && (add_a_of w == 7 || add_b_of w == 7)) is in
-    let first = and_parts (has_small w) (op_add_of w == 19) halves.0 in
-    let second = and_parts (raddr_b_of w == 0) (add_a_of w == 7 || add_b_of w == 7) halves.1 in
-    let zero_is : raddr_b_of w ≡ 0 = eqb-true (raddr_b_of w) 0 second.0 in
-    let x = slice_index (operand t w (add_a_of w) u words) e % 2 ^ 32 in
-    let y = slice_index (operand t w (add_b_of w) u words) e % 2 ^ 32 in
-    let lane : slice_index (add_row t w u words) e ≡ signed_max x y =
-    add_lane t w u words e below plain (small_loads_not w first.0)
-    ∙ (ap (λ o. unwrap_or (add_result_of o x y) (word_at words (1 + e))) (eqb-true (op_add_of w) 19 first.1) ∙ max_of x y (word_at words (1 + e))) in
-    let nought : (sel : ℕ) → (sel == 7) ≡ true → slice_index (operand t w sel u words) e % 2 ^ 32 ≡ 0 =
-    λ sel seven. ap (λ s. slice_index (operand t w s u words) e % 2 ^ 32) (eqb-true sel 7 seven)
-    ∙ (ap (λ r. slice_index r e % 2 ^ 32) (zero_operand t w u words first.0 zero_is) ∙ ap (λ v. v % 2 ^ 32) (filled_at 0 e below)) in
-    let either : (x ≡ 0) ⊎ (y ≡ 0) = elim (or_cases (add_a_of w == 7) (add_b_of w == 7) second.1) [
-      | inl a ↦ inl (nought (add_a_of w) a)
-      | inr b ↦ inr (nought (add_b_of w) b)
-    ] in
-    subst (λ v. v < 2 ^ 31) (sym lane) (max_zero x y (omega arith) (omega arith) either)
+max_lane t w u words e below plain is = search (rules, arith, and_parts, eqb-true, add_lane, small_loads_not, max_of, zero_operand, filled_at, or_cases, max_zero)
 
 -- a value that is loaded
 loaded_parts : (load mode : Bool) (imm v : ℕ) → (if load && mode then Some imm else None) ≡ Some v → (load ≡ true) × (mode ≡ true) × (imm ≡ v)
-loaded_parts true true imm v is = (refl, refl, cc)
-loaded_parts true false imm v is = absurd cc
-loaded_parts false mode imm v is = absurd cc
+loaded_parts load mode imm v is = search (rules, arith)
 
 pub load_lane : (t : Thread) (w u : ℕ) (words : List ℕ) (e v : ℕ) → e < 16 → is_add_packed w ≡ false → loaded_value w ≡ Some v
     → slice_index (add_row t w u words) e ≡ v
@@ -334,15 +276,11 @@ pub record IsRead (t : Thread) (reg : Reg) : Type 0 where
 
 read_a_by : (plain : Bool) (address : ℕ) (named : Bool) (u : ℕ) (own free : List ℕ) → plain ≡ true → address < 32 → named ≡ false
     → (if not plain then free else (if address == 32 then filled u else (if address == 39 then filled 0 else (if nat_lt address 32 && not named then own else free)))) ≡ own
-read_a_by true address false u own free plain low none = grind (arith, nat_tests, low)
-read_a_by true address true u own free plain low none = absurd (true≢false none)
-read_a_by false address named u own free plain low none = absurd (true≢false (sym plain))
+read_a_by plain address named u own free h6 low none = search (rules, arith, true≢false)
 
 read_b_by : (small : Bool) (address : ℕ) (named : Bool) (u : ℕ) (own free other : List ℕ) → small ≡ false → address < 32 → named ≡ false
     → (if small then other else (if address == 32 then filled u else (if address == 39 then filled 0 else (if nat_lt address 32 && not named then own else free)))) ≡ own
-read_b_by false address false u own free other plain low none = grind (arith, nat_tests, low)
-read_b_by false address true u own free other plain low none = absurd (true≢false none)
-read_b_by true address named u own free other plain low none = absurd (true≢false plain)
+read_b_by small address named u own free other plain low none = search (rules, arith, true≢false)
 
 -- what the selector names
 data Selects (w sel : ℕ) : Reg → Type 0 where
@@ -373,28 +311,22 @@ by_tests w sel reg false false true low is_a is_b is =
 by_tests w sel reg false false false low is_a is_b is = absurd cc
 
 selects_by : (w sel : ℕ) (reg : Reg) → rest_of w sel ≡ Some reg → Selects w sel reg
-selects_by w sel reg is =
-    by_tests w sel reg (nat_lt sel 4) (sel == 6 && nat_lt (raddr_a_of w) 32) (sel == 7 && (nat_lt (raddr_b_of w) 32 && not (has_small w))) refl refl refl is
+selects_by w sel reg is = search (rules, arith, by_tests)
 
 selects : (w sel : ℕ) (reg : Reg) → operand_register w sel ≡ Some reg → (is_plain w sel ≡ true) × Selects w sel reg
 unfolding operand_register
 selects w sel reg is = grind (arith, common_steps, nat_tests, cases_Bool, selects_by)
 
 known_by : (w sel : ℕ) (reg : Reg) → Selects w sel reg → IsRegister reg
-known_by w sel reg (OfAcc low) = low
-known_by w sel reg (OfA is low) = low
-known_by w sel reg (OfB is low big) = low
+known_by w sel reg h3 = search (rules, arith)
 
 ready_acc : (fresh : Bool) (chosen acc : List (List ℕ)) (k : ℕ) → fresh ≡ false → slice_index_or (if fresh then chosen else acc) k [] ≡ slice_index_or acc k []
-ready_acc true chosen acc k is = absurd (true≢false is)
-ready_acc false chosen acc k is = refl
+ready_acc fresh chosen acc k is = search (rules, arith, true≢false)
 
 -- the thread begins to work with the registers that it has
 pub ready_row : (p : ℕ) (words : List ℕ) (t : Thread) (reg : Reg) → (is_accumulator reg ≡ true → t.fresh ≡ false) → row_of (readied p words t) reg ≡ row_of t reg
 unfolding awake is_accumulator
-ready_row p words t (A k) woken = refl
-ready_row p words t (B k) woken = refl
-ready_row p words t (Acc k) woken = ready_acc t.fresh (chosen_rows words) t.acc k (woken refl)
+ready_row p words t reg woken = search (rules, arith, ready_acc)
 
 operand_of : (w sel u p : ℕ) (words : List ℕ) (t : Thread) (reg : Reg) → is_plain w sel ≡ true → Selects w sel reg → (is_accumulator reg ≡ false → names t.last1.word reg ≡ false)
     → operand (readied p words t) w sel u words ≡ row_of (readied p words t) reg
@@ -484,8 +416,7 @@ between_less code j n none =
     true≢false (sym there ∙ some_below_not (n + 1) s (λ k. is_switch (word code k) && (nat_le j (k + 2) && nat_le (k + 3) (n + 1))) none (omega (arith, below)))))
 
 acc_less : (acc a b : Bool) → (a ≡ false → b ≡ false) → not (acc && a) ≡ true → not (acc && b) ≡ true
-acc_less true a b less is = not_from_false b (less (not-true a is))
-acc_less false a b less is = refl
+acc_less acc a b less is = search (rules, arith, not_from_false, not-true)
 
 stays_less : (code : List ℕ) (j n : ℕ) (reg : Reg) → stays code j (n + 1) reg ≡ true → stays code j n reg ≡ true
 unfolding stays
@@ -503,8 +434,7 @@ stays_less code j n reg is =
 
 -- An accumulator with a fact isn't one of a thread that switches.
 acc_between : (acc a : Bool) → acc ≡ true → not (acc && a) ≡ true → a ≡ false
-acc_between true a is none = not-true a none
-acc_between false a is none = absurd (true≢false (sym is))
+acc_between acc a is none = search (rules, arith, not-true, true≢false)
 
 none_between : (code : List ℕ) (j n : ℕ) (reg : Reg) → stays code j n reg ≡ true → is_accumulator reg ≡ true → switches_between code j n ≡ false
 unfolding stays
@@ -518,19 +448,15 @@ switch_between code j n two upto is =
     (and_from (nat_le j (n - 2 + 2)) (nat_le (n - 2 + 3) (n + 1)) (le-leb j (n - 2 + 2) (omega (arith, upto, two))) (le-leb (n - 2 + 3) (n + 1) (omega (arith, two)))))
 
 no_switch_here : (h : Home) (j n : ℕ) (reg : Reg) (t : Thread) → IsAt h n t → j ≤ n → stays h.code j (n + 1) reg ≡ true → is_accumulator reg ≡ true → is_switch t.last2.word ≡ false
-no_switch_here h j n reg t at upto still acc =
-    grind (arith, common_steps, nat_tests, false_from_ne_true, true≢false, switch_between, none_between)
+no_switch_here h j n reg t at upto still acc = search (rules, arith, false_from_ne_true, true≢false, switch_between, none_between)
 
 fate_by : (end switch : Bool) → switch ≡ false → (switches (if end then Ends else (if switch then Switches else GoesOn)) || false) ≡ false
-fate_by true switch none = refl
-fate_by false true none = absurd (true≢false none)
-fate_by false false none = refl
+fate_by end switch none = search (rules, arith, true≢false)
 
 stays_awake : (h : Home) (j n u p : ℕ) (words : List ℕ) (reg : Reg) (t : Thread) → IsAt h n t → j ≤ n → stays h.code j (n + 1) reg ≡ true → is_accumulator reg ≡ true
     → (done (word h.code n) u p words t).thread.fresh ≡ false
 unfolding fate_of
-stays_awake h j n u p words reg t at upto still acc =
-    fresh_is (word h.code n) u p words t ∙ fate_by (is_end t.last2.word) (is_switch t.last2.word) (no_switch_here h j n reg t at upto still acc)
+stays_awake h j n u p words reg t at upto still acc = search (rules, arith, fresh_is, fate_by, no_switch_here)
 
 pub facts_on : (h : Home) (n u p : ℕ) (words : List ℕ) (t : Thread) → n < checked_of h.code → IsAt h n t → HasRows t → FactsHold h n t → (takes h.code n ≡ true → u ≡ uniform_at h n)
     → FactsHold h (n + 1) (done (word h.code n) u p words t).thread
@@ -555,17 +481,11 @@ facts_on h n u p words t inside at rows facts taken =
     }
 
 pub facts_jump : (h : Home) (to : ℕ) (next : Thread) → is_target h.code to ≡ true → FactsHold h to next
-facts_jump h to next target = record {
-  told = λ j reg known here e below. absurd (true≢false (sym target ∙ untargeted h.code j to reg here to here.before (omega arith)));
-  kept = λ j reg known here acc. absurd (true≢false (sym target ∙ untargeted h.code j to reg here to here.before (omega arith)));
-}
+facts_jump h to next target = search (rules, arith, true≢false, untargeted)
 
 -- A register that a rule calls an immediate has that value.
 value_is : (fact : Fact) (v : ℕ) → is_value fact v ≡ true → value_in fact ≡ Some v
-value_is Nothing v is = absurd (true≢false (sym is))
-value_is (Immediate held) v is = ap Some (eqb-true held v is)
-value_is NotNegative v is = absurd (true≢false (sym is))
-value_is (Clamped k at) v is = absurd (true≢false (sym is))
+value_is fact v is = search (rules, arith, true≢false, eqb-true)
 
 immediate_by : (code : List ℕ) (n : ℕ) (reg : Reg) (v : ℕ) (o : Option ℕ) → carrier_of code n reg ≡ o → is_value (fact_by code o) v ≡ true
     → (j : ℕ) × IsCarrier code j n reg × (loaded_value (word code j) ≡ Some v)

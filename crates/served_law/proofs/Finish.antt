@@ -1,18 +1,18 @@
 -- Where no unit may step, all is finished, or the binner's job waits for room.
 use Rattle.std.proofs.Common.{◌≡◌, ◌≤◌, ◌<◌, ◌⊎◌, inl, inr, ℕ, zero, suc, ◌+◌, ◌==◌, ◌&&◌, ◌||◌, not, Bool, true, false, if◌then◌else◌, List, [], ◌∷◌, ◌++◌, length, slice_index, Option, Some, None, IfSome, refl, sym, ◌∙◌, ap, subst, arith}
-use Rattle.std.proofs.{lemmas.Bool.and_parts, lemmas.Bool.true≢false, lemmas.Bool.false≢true, lemmas.Grind.common_steps}
+use Rattle.std.proofs.{lemmas.Bool.and_from, lemmas.Bool.and_parts, lemmas.Bool.not-false, lemmas.Bool.or_parts, lemmas.Bool.true≢false, lemmas.Bool.false≢true, lemmas.Grind.common_steps}
 use Rattle.std.proofs.{lemmas.Bool.Decides.nat_tests, lemmas.List.length-append}
 use Rattle.std.specs.{Prelude.is_some, Prelude.is_none, Prelude.nat_lt, List.list_all}
 use Rattle.field_words.specs.declared.access.Actor.TheVariants.{Binner as TheBinner, Renderer as TheRenderer, Qpu as TheQpu, Tmu as TheTmu}
 use Rattle.field_words.specs.Pieces.{joined as joined_bytes}
-use Rattle.packets.specs.{declared.packet.Packet.Packet, Opcode.wait_on_semaphore, Packet.packet_text, Packet.slots_text}
+use Rattle.packets.specs.{declared.packet.Packet.Packet, Opcode.wait_on_semaphore}
 use Rattle.machine_plan.specs.Regions.{Every, Interval, Inside, Rights, rights_of, IsSafeAccess, HasReadOnly}
 use Rattle.machine_plan.specs.{declared.launch.Free.Free, Glance.Now, Glance.At, Glance.glanced, Memory.bytes_at, World.Owes}
 use Rattle.machine_plan.proofs.Others.{Holds, run_holds}
 use Rattle.list_machine.specs.{declared.state.SubList.SubList, declared.state.Work.Work, Lists.Lists, Start.can_start}
 use Rattle.list_machine.specs.Binner.{has_binner_work, item_may, work_may, binner_may as may_bin, binner_ready}
 use Rattle.list_machine.specs.Renderer.{has_renderer_work, may_pass, ready_in, renderer_ready}
-use Rattle.list_law.proofs.{Bytes.none_left, Bytes.bytes_front, Bytes.byte_front, Rendering.some_text}
+use Rattle.list_law.proofs.{Bytes.none_left, Logs.same}
 use Rattle.apart_law.proofs.{Parts.some_same, Places.first_is}
 use Rattle.qpu_machine.specs.Qpu.{active_of, queued, ready_by, qpu_ready, oldest, takes_first, takes_other, slot_from, free_in, is_idle}
 use Rattle.qpu_machine.specs.{declared.state.Qpu.Qpu, declared.state.Request.Request, declared.state.Thread.Thread, Step.thread_ready}
@@ -20,14 +20,12 @@ use Rattle.machine.specs.State.{Units, State, Picked, first_where, item_at, binn
 use Rattle.machine.specs.Step.{is_ahead, binner_may, renderer_may, qpu_may, tmu_may, unit_turn, ready, turn, enabled, finished}
 use Rattle.machine_law.specs.{Jobs.ArePlain, Laws.AreFine, Units.EachAt}
 use Rattle.machine_law.proofs.{Begins.each_begins, Owes.units_owe_law, Owes.start_fine}
-use Rattle.ends_law.proofs.Plans.{keeps_both}
+use Rattle.ends_law.specs.Left.{BinRest, RenderRest}
+use Rattle.ends_law.proofs.{Plans.keeps_both, Rests.render_skip, Rests.slot_first}
 use Rattle.served_law.specs.{Finish.WaitsForRoom, Finish.UnitsWait, Finish.IsStill, Finish.JobsFinish, Raises.waits_in, Raises.raised_by}
-use Rattle.served_law.specs.Known.{ThreadServed, QpuServed, AllGo, JobServed, UnitsServed}
+use Rattle.served_law.specs.Known.{ThreadServed, QpuServed, JobMeets, JobServed, UnitsServed}
 use Rattle.served_law.proofs.{Begins.each_begin, Begins.start_served, Machine.unit_serves, Processors.SlotServed, Processors.active_served}
-use Rattle.served_law.proofs.{Renderer.byte_waits, Threads.thread_may, Threads.first_off}
-
-zero_is : (n : ℕ) → (n == 0) ≡ true → n ≡ 0
-zero_is n on = grind (arith, common_steps, nat_tests, on)
+use Rattle.served_law.proofs.{Renderer.byte_waits, Threads.thread_may}
 
 -- A processor of which no unit may step is idle.
 no_requests : (requests : List Request) → is_some (oldest requests) ≡ false → requests ≡ []
@@ -52,12 +50,6 @@ both_idle false None None led none = refl
 both_idle false None (Some t) led none = absurd (false≢true led)
 both_idle false (Some t) other led none = absurd (true≢false none)
 
-idle_parts : (a b c : Bool) → a ≡ true → b ≡ true → c ≡ true → (a && (b && c)) ≡ true
-idle_parts true true true one two three = refl
-idle_parts true true false one two three = absurd (false≢true three)
-idle_parts true false c one two three = absurd (false≢true two)
-idle_parts false b c one two three = absurd (false≢true one)
-
 qpu_idle : (rights : List Rights) (K : List ℕ → Type 0) (q : Qpu) (m : List ℕ) → K m → QpuServed rights K q → glanced (qpu_ready q) m ≡ false → is_some (oldest q.queue0.items) ≡ false → is_some (oldest q.queue1.items) ≡ false → is_idle q ≡ true
 qpu_idle rights K q m here known still still0 still1 =
     let none0 = no_requests q.queue0.items still0 in
@@ -65,8 +57,8 @@ qpu_idle rights K q m here known still still0 still1 =
     let count0 : queued q.second q.queue0.items ≡ 0 = ap (λ (rs : List Request). queued q.second rs) none0 in
     let count1 : queued q.second q.queue1.items ≡ 0 = ap (λ (rs : List Request). queued q.second rs) none1 in
     let alone = slot_idle rights K q (active_of q) m here count0 count1 (active_served rights K q known) still in
-    idle_parts (is_none q.first && is_none q.other) (length q.queue0.items == 0) (length q.queue1.items == 0) (both_idle q.second q.first q.other known.led alone)
-    (ap (λ (rs : List Request). length rs == 0) none0) (ap (λ (rs : List Request). length rs == 0) none1)
+    and_from (is_none q.first && is_none q.other) (length q.queue0.items == 0 && length q.queue1.items == 0) (both_idle q.second q.first q.other known.led alone)
+    (and_from (length q.queue0.items == 0) (length q.queue1.items == 0) (ap (λ (rs : List Request). length rs == 0) none0) (ap (λ (rs : List Request). length rs == 0) none1))
 
 -- no unit of processor k may step
 record QpuStill (m : List ℕ) (q : Qpu) : Type 0 where
@@ -78,20 +70,16 @@ still_at : (m : List ℕ) (found : Option Qpu) → glanced (qpu_may found) m ≡
 still_at m None still still0 still1 = tt
 still_at m (Some q) still still0 still1 = record { thread = still; tmu0 = still0; tmu1 = still1 }
 
-both_on : (a b : Bool) → a ≡ true → b ≡ true → (a && b) ≡ true
-both_on true b one two = two
-both_on false b one two = absurd (false≢true one)
-
 all_idle : (rights : List Rights) (K : List ℕ → Type 0) (qpus : List Qpu) (m : List ℕ) → K m → Every (QpuServed rights K) qpus → ((k : ℕ) → IfSome (item_at qpus k) (QpuStill m)) → list_all is_idle qpus ≡ true
 all_idle rights K [] m here all still = refl
 all_idle rights K (q ∷ qpus) m here all still =
     let one : QpuStill m q = still 0 in
-    both_on (is_idle q) (list_all is_idle qpus) (qpu_idle rights K q m here all.0 one.thread one.tmu0 one.tmu1) (all_idle rights K qpus m here all.1 (λ k. still (suc k)))
+    and_from (is_idle q) (list_all is_idle qpus) (qpu_idle rights K q m here all.0 one.thread one.tmu0 one.tmu1) (all_idle rights K qpus m here all.1 (λ k. still (suc k)))
 
 -- Then a program that isn't threaded could start.
 none_of : (requests : List Request) → (length requests == 0) ≡ true → requests ≡ []
 none_of [] none = refl
-none_of (request ∷ requests) none = let e : suc (length requests) ≡ 0 = zero_is (suc (length requests)) none in absurd (omega (arith, e))
+none_of (request ∷ requests) none = let e : suc (length requests) ≡ 0 = same (suc (length requests)) 0 none in absurd (omega (arith, e))
 
 none_takes : (first other : Option Thread) (second : Bool) → (is_none first && is_none other) ≡ true → takes_first false (record { first = first; other = other; second = second; queue0 = record { items = [] }; queue1 = record { items = [] } }) ≡ true
 unfolding takes_first
@@ -107,14 +95,10 @@ idle_takes q idle =
     subst (λ (rs : List Request). takes_first false (record { first = q.first; other = q.other; second = q.second; queue0 = record { items = rs }; queue1 = record { items = q.queue1.items } }) ≡ true) (sym (none_of q.queue0.items empty.0))
     (subst (λ (rs : List Request). takes_first false (record { first = q.first; other = q.other; second = q.second; queue0 = record { items = [] }; queue1 = record { items = rs } }) ≡ true) (sym (none_of q.queue1.items empty.1)) takes)
 
-first_of_both : (a b : Bool) → (a && b) ≡ true → a ≡ true
-first_of_both true b both = refl
-first_of_both false b both = both
-
 may_start : (qpus : List Qpu) → 1 ≤ length qpus → list_all is_idle qpus ≡ true → is_some (slot_from false 0 qpus) ≡ true
 may_start [] some idle = absurd (omega (arith, some))
 may_start (q ∷ qpus) some idle =
-    let takes : takes_first false q ≡ true = idle_takes q (first_of_both (is_idle q) (list_all is_idle qpus) idle) in
+    let takes : takes_first false q ≡ true = idle_takes q (and_parts (is_idle q) (list_all is_idle qpus) idle).0 in
     ap (λ b. is_some (if b then Some (record { qpu = 0; second = false }) else (if takes_other false q then Some (record { qpu = 0; second = true }) else slot_from false 1 qpus))) takes
 
 -- A binner that may not step though a program could start waits for room.
@@ -138,41 +122,36 @@ unfolding binner_ready
 binner_waits s free m starts has still = waits_by s s.binner.work free starts has still refl
 
 -- A renderer that may not step has a wait before it that nothing raised, so the job's binner has work.
-front_waits : (K : List ℕ → Type 0) (s : Lists) (m : List ℕ) (slots : List (Option Packet)) → K m → s.renderer.place < s.renderer.end → s.renderer.place + length (slots_text slots) ≡ s.renderer.end
-    → bytes_at m s.renderer.place (length (slots_text slots)) ≡ slots_text slots → (slice_index m s.renderer.place == wait_on_semaphore) ≡ true → 1 ≤ waits_in slots
-front_waits K s m [] here below ends stands on = absurd (none_left s.renderer.place s.renderer.end ends below)
-front_waits K s m (None ∷ slots) here below ends stands on = front_waits K s m slots here below ends stands on
-front_waits K s m (Some packet ∷ slots) here below ends stands on =
-    let text : List ℕ = packet_text packet in
-    let bytes : bytes_at m s.renderer.place (length text) ≡ text = bytes_front m s.renderer.place text (slots_text slots) stands in
-    let first : slice_index m s.renderer.place ≡ slice_index text 0 = byte_front m s.renderer.place text (some_text packet) bytes in
-    let one = byte_waits packet (sym (ap (λ o. o == wait_on_semaphore) first) ∙ on) in
+front_waits : (K : List ℕ → Type 0) (place end : ℕ) (m : List ℕ) (slots : List (Option Packet)) → K m → place < end → RenderRest K place end slots → (slice_index m place == wait_on_semaphore) ≡ true → 1 ≤ waits_in slots
+front_waits K place end m [] here below rest on = absurd (none_left place end rest.ends below)
+front_waits K place end m (None ∷ slots) here below rest on = front_waits K place end m slots here below (render_skip K place end slots rest) on
+front_waits K place end m (Some packet ∷ slots) here below rest on =
+    let one = byte_waits packet (sym (ap (λ o. o == wait_on_semaphore) (slot_first K place end m packet slots here rest)) ∙ on) in
     omega (arith, one)
 
-no_packets : (place end : ℕ) (packets : List (List ℕ)) → place + length (joined_bytes packets) ≡ end → nat_lt place end ≡ false → AllGo packets → packets ≡ []
-no_packets place end [] ends past go = refl
-no_packets place end (packet ∷ packets) ends past go =
-    let whole = go.0.whole in
-    let known = go.0.known in
+no_packets : (K : List ℕ → Type 0) (place end : ℕ) (packets : List (List ℕ)) → BinRest K place end packets → nat_lt place end ≡ false → packets ≡ []
+no_packets K place end [] rest past = refl
+no_packets K place end (packet ∷ packets) rest past =
+    let all = rest.whole in
+    let whole = all.0.whole in
+    let known = all.0.known in
+    let ends = rest.ends in
     let long : length (packet ++ joined_bytes packets) ≡ length packet + length (joined_bytes packets) = length-append packet (joined_bytes packets) in
     let over : end ≤ place = grind (arith, common_steps, nat_tests, past) in
     absurd (omega (arith, whole, known, long, ends, over))
 
--- the two tests by which a renderer may not pass
-held_by : (at none : Bool) → not (at && none) ≡ false → (at ≡ true) × (none ≡ true)
-held_by true true still = (refl, refl)
-held_by true false still = absurd (true≢false still)
-held_by false none still = absurd (true≢false still)
-
 stuck_at : (rights : List Rights) (K : List ℕ → Type 0) (j : ℕ) (s : Lists) (m : List ℕ) → K m → JobServed rights K j s → s.renderer.place < s.renderer.end → may_pass s (slice_index m s.renderer.place) ≡ false → nat_lt s.binner.place s.binner.end ≡ false → ⊥
 unfolding may_pass
 stuck_at rights K j s m here job below still past =
-    let left = job.meets in
-    let held = held_by (slice_index m s.renderer.place == wait_on_semaphore) (s.semaphore == 0) still in
-    let one = front_waits K s m left.slots here below left.render_ends (left.render_stands m here) held.0 in
-    let zero_semaphore = zero_is s.semaphore held.1 in
-    let none = no_packets s.binner.place s.binner.end left.packets left.bin_ends past left.go in
-    let meets : waits_in left.slots ≤ s.semaphore + raised_by s.pending [] = subst (λ (ps : List (List ℕ)). waits_in left.slots ≤ s.semaphore + raised_by s.pending ps) none left.meets in
+    let all : JobMeets K s = job.meets in
+    let slots : List (Option Packet) = all.1 in
+    let left = all.2 in
+    let at : Bool = slice_index m s.renderer.place == wait_on_semaphore in
+    let held = and_parts at (s.semaphore == 0) (not-false (at && s.semaphore == 0) still) in
+    let one = front_waits K s.renderer.place s.renderer.end m slots here below left.render held.0 in
+    let zero_semaphore = same s.semaphore 0 held.1 in
+    let none = no_packets K s.binner.place s.binner.end all.0 left.bin past in
+    let meets : waits_in slots ≤ s.semaphore + raised_by s.pending [] = subst (λ (ps : List (List ℕ)). waits_in slots ≤ s.semaphore + raised_by s.pending ps) none left.meets in
     omega (arith, one, zero_semaphore, meets)
 
 stuck_in : (rights : List Rights) (K : List ℕ → Type 0) (j : ℕ) (s : Lists) (m : List ℕ) (inside : Option SubList) (below : Bool) → K m → JobServed rights K j s → (nat_lt s.renderer.place s.renderer.end) ≡ below → (below || is_some inside) ≡ true
@@ -189,7 +168,7 @@ stuck_in rights K j s m None true here job is has still past =
 renderer_stuck : (rights : List Rights) (K : List ℕ → Type 0) (j : ℕ) (s : Lists) (m : List ℕ) → K m → JobServed rights K j s → has_renderer_work s ≡ true → glanced (renderer_ready s) m ≡ false → has_binner_work s ≡ false → ⊥
 unfolding renderer_ready
 renderer_stuck rights K j s m here job has still none =
-    stuck_in rights K j s m s.renderer.inside (nat_lt s.renderer.place s.renderer.end) here job refl has still (first_off (nat_lt s.binner.place s.binner.end) (is_some s.binner.work) none)
+    stuck_in rights K j s m s.renderer.inside (nat_lt s.renderer.place s.renderer.end) here job refl has still (or_parts (nat_lt s.binner.place s.binner.end) (is_some s.binner.work) none).0
 
 -- what is known of an item by its number
 record Numbered {X : Type 0} (P : ℕ → X → Type 0) (x : X) : Type 0 where

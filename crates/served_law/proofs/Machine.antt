@@ -6,7 +6,7 @@ use Rattle.field_words.specs.declared.access.Actor.{Actor}
 use Rattle.machine_plan.specs.{declared.launch.Free.Free, declared.launch.Launch.Launch, declared.who.Who.Who, Glance.glanced, Plan.Plan}
 use Rattle.machine_plan.specs.Regions.{Every, Inside, Rights, rights_of, IsSafeAccess, HasReadOnly}
 use Rattle.machine_plan.specs.World.{mapped}
-use Rattle.machine_plan.proofs.{Plans.keeps_weaker, Worlds.keeps_mapped, Worlds.keeps_result}
+use Rattle.machine_plan.proofs.Worlds.{keeps_result}
 use Rattle.apart_law.proofs.Places.{put_every}
 use Rattle.list_machine.specs.Binner.{has_binner_work, binner_ready, binner_plan}
 use Rattle.list_machine.specs.Lists.{Lists, Turned, binner_of, renderer_of}
@@ -20,8 +20,7 @@ use Rattle.machine.specs.Step.{with_launch, with_lists, with_qpu, is_ahead, binn
 use Rattle.machine.specs.State.{Units, Picked, item_at, put_at, binner_job, renderer_job}
 use Rattle.machine_law.specs.Laws.{AreFine}
 use Rattle.machine_law.proofs.Owes.{PickedFine, item_fine, put_each, first_fine, units_owe_law, not_held}
-use Rattle.ends_law.proofs.Plans.{AnyLook, AnyAccess, Comes, comes_any, keeps_both}
-use Rattle.ends_law.proofs.Machine.{comes_by, comes_mapped}
+use Rattle.ends_law.proofs.{Machine.comes_by, Plans.Comes, Plans.comes_any, Plans.comes_into, Plans.keeps_both}
 use Rattle.served_law.specs.Known.{LaunchServed, QpuServed, JobServed, UnitsServed, StepsServe}
 use Rattle.served_law.proofs.Processors.{SlotServed, active_served, went_served, served_served, launched_served, launched_long}
 use Rattle.served_law.proofs.{Threads.ThreadGoes, Threads.thread_goes, Binner.TurnedMeets, Binner.binner_meets, Renderer.renderer_meets}
@@ -94,7 +93,7 @@ binner_serves : (rights : List Rights) (K : List ℕ → Type 0) (u : Units) (fo
 binner_serves rights K u None words m here all picked may = absurd (false≢true may)
 binner_serves rights K u (Some b) words m here all picked may =
     let free : Free = free_in u.qpus in
-    comes_mapped (binner_of b.number) (with_lists u b.number) (JobTurned rights K b.number) (UnitsServed rights K) (λ turned one. lists_served rights K u b.number turned all one) (binner_plan b.item free words) m
+    comes_into (binner_of b.number) (with_lists u b.number) (JobTurned rights K b.number) (UnitsServed rights K) (λ turned one. lists_served rights K u b.number turned all one) (binner_plan b.item free words) m
     (binner_turned rights K b.number b.item free words m here picked (not_held (is_ahead b.number (renderer_job u)) (binner_ready b.item free) m may))
 
 renderer_serves : (rights : List Rights) (K : List ℕ → Type 0) (u : Units) (found : Option (Picked Lists)) (words m : List ℕ) → K m → UnitsServed rights K u → IfSome found (PickedFine (JobServed rights K))
@@ -102,7 +101,7 @@ renderer_serves : (rights : List Rights) (K : List ℕ → Type 0) (u : Units) (
 renderer_serves rights K u None words m here all picked may = absurd (false≢true may)
 renderer_serves rights K u (Some r) words m here all picked may =
     let free : Free = free_in u.qpus in
-    comes_mapped (renderer_of r.number) (with_lists u r.number) (JobTurned rights K r.number) (UnitsServed rights K) (λ turned one. lists_served rights K u r.number turned all one) (renderer_plan r.item free words) m
+    comes_into (renderer_of r.number) (with_lists u r.number) (JobTurned rights K r.number) (UnitsServed rights K) (λ turned one. lists_served rights K u r.number turned all one) (renderer_plan r.item free words) m
     (renderer_turned rights K r.number r.item free words m here picked may)
 
 slot_serves : (rights : List Rights) (K : List ℕ → Type 0) (k : ℕ) (u : Units) (q : Qpu) (slot : Option Thread) (words m : List ℕ) → K m → UnitsServed rights K u → QpuServed rights K q
@@ -114,10 +113,8 @@ slot_serves rights K k u q (Some t) words m here all known thread may =
     let queued0 : ℕ = queued q.second q.queue0.items in
     let queued1 : ℕ = queued q.second q.queue1.items in
     let plan : Plan ThreadTurn = thread_plan t words in
-    comes_mapped who (with_qpu u k) (QpuServed rights K) (UnitsServed rights K) (λ next one. qpu_served rights K u k next all one) (mapped (went q t) plan) m
-    (keeps_mapped (went q t) who AnyLook AnyAccess (λ i next. QpuServed rights K next) plan m
-    (keeps_weaker who AnyLook AnyLook AnyAccess AnyAccess (λ i turn. ThreadGoes rights K queued0 queued1 turn) (λ i turn. QpuServed rights K (went q t turn)) (λ p i h. h) (λ a h. h) (λ i turn one. went_served rights K q t turn known one) plan m
-    (thread_goes rights K queued0 queued1 t who words m here thread may)))
+    comes_into who (with_qpu u k) (QpuServed rights K) (UnitsServed rights K) (λ next one. qpu_served rights K u k next all one) (mapped (went q t) plan) m
+    (comes_into who (went q t) (ThreadGoes rights K queued0 queued1) (QpuServed rights K) (λ turn one. went_served rights K q t turn known one) plan m (thread_goes rights K queued0 queued1 t who words m here thread may))
 
 qpu_serves : (rights : List Rights) (K : List ℕ → Type 0) (k : ℕ) (u : Units) (found : Option Qpu) (words m : List ℕ) → K m → UnitsServed rights K u → IfSome found (QpuServed rights K)
     → IsTrue (glanced (qpu_may found) m) → Comes (qpu_turn u k found words).who (UnitsServed rights K) (qpu_turn u k found words).plan m
@@ -130,9 +127,8 @@ request_serves rights K k tmu u q None words m all known is = qpu_served rights 
 request_serves rights K k tmu u q (Some request) words m all known is =
     let who : Who = record { unit = TheTmu k tmu; job = request.job } in
     let plan : Plan (Option (List ℕ)) = ask_plan request.ask words in
-    comes_mapped who (with_qpu u k) (QpuServed rights K) (UnitsServed rights K) (λ next one. qpu_served rights K u k next all one) (mapped (served q tmu request) plan) m
-    (keeps_mapped (served q tmu request) who AnyLook AnyAccess (λ i next. QpuServed rights K next) plan m
-    (comes_any who (λ row. QpuServed rights K (served q tmu request row)) (λ row. served_served rights K tmu q request row known is) plan m))
+    comes_into who (with_qpu u k) (QpuServed rights K) (UnitsServed rights K) (λ next one. qpu_served rights K u k next all one) (mapped (served q tmu request) plan) m
+    (comes_any who (QpuServed rights K) (served q tmu request) (λ row. served_served rights K tmu q request row known is) plan m)
 
 tmu_serves : (rights : List Rights) (K : List ℕ → Type 0) (k tmu : ℕ) (u : Units) (found : Option Qpu) (words m : List ℕ) → UnitsServed rights K u → IfSome found (QpuServed rights K)
     → IsTrue (glanced (tmu_may found tmu) m) → Comes (tmu_turn u k tmu found words).who (UnitsServed rights K) (tmu_turn u k tmu found words).plan m

@@ -3,7 +3,7 @@ use Rattle.std.proofs.Common.{◌≡◌, ◌≢◌, ℕ, suc, ◌+◌, ◌==◌,
 use Rattle.std.proofs.{lemmas.Bool.and_parts, lemmas.Bool.true≢false, lemmas.List.length-append}
 use Rattle.std.proofs.lemmas.List.Sums.{sum_by-cons, sum_by_push}
 use Rattle.std.specs.Prelude.{drop, is_some, is_none, option_map}
-use Rattle.machine_plan.specs.{declared.launch.Launch.Launch, Regions.Every, Regions.Rights}
+use Rattle.machine_plan.specs.{declared.launch.Launch.Launch, Regions.Every, Regions.Rights, Regions.rights_of}
 use Rattle.apart_law.proofs.Places.{chosen}
 use Rattle.qpu_machine.specs.declared.state.Fate.TheVariants.{GoesOn, Switches, Ends}
 use Rattle.qpu_machine.specs.Qpu.{active_of, is_of, queued, left_by, gives_way, woken_slot, queue_with, settled, went, oldest, queue_of, with_result, dropped, given, served, has_none, is_beside, takes_first, takes_other, in_first, in_other, started_in, launched}
@@ -11,6 +11,8 @@ use Rattle.qpu_machine.specs.{declared.state.Asked.Asked, declared.state.Fate.Fa
 use Rattle.qpu_machine.specs.{declared.state.Thread.Thread, Start.thread_of, Step.ThreadTurn}
 use Rattle.ends_law.specs.Steps.{one_if}
 use Rattle.list_law.proofs.Logs.{same}
+use Rattle.ends_law.proofs.Processors.{still_at}
+use Rattle.served_law.specs.Waits.{may_wait}
 use Rattle.served_law.specs.Known.{LaunchServed, ThreadServed, is_led, QpuServed}
 use Rattle.served_law.proofs.Threads.{asks, ThreadGoes, thread_begins}
 
@@ -24,19 +26,11 @@ slot_same rights K queued0 queued1 same0 same1 slot first second left =
 
 -- A thread that is woken is where it was.
 woken_served : (rights : List Rights) (K : List ℕ → Type 0) (queued0 queued1 : ℕ) (over : Bool) (slot : Option Thread) → SlotServed rights K queued0 queued1 slot → SlotServed rights K queued0 queued1 (woken_slot over slot)
+unfolding still_at
 woken_served rights K queued0 queued1 false slot left = left
 woken_served rights K queued0 queued1 true None left = tt
 woken_served rights K queued0 queued1 true (Some t) left =
-    let at = left.at in
-    record {
-      home = left.home;
-      served = left.served;
-      stands = left.stands;
-      index = left.index;
-      at = record { place = at.place; inside = at.inside; threaded = at.threaded; mark1 = at.mark1; mark2 = at.mark2; mark3 = at.mark3 };
-      tmu0 = left.tmu0;
-      tmu1 = left.tmu1;
-    }
+    record { there = still_at (rights_of rights t.job) K (λ code. may_wait code ≡ false) t true t.a t.b t.results0.items t.results1.items left.there; tmu0 = left.tmu0; tmu1 = left.tmu1 }
 
 -- What a thread asks for is queued for it, and for it alone.
 own_by : (second goes : Bool) (requests : List Request) (request : Request) → is_of second request ≡ true → queued second (if goes then requests ++ request ∷ [] else requests) ≡ queued second requests + one_if goes
@@ -55,13 +49,13 @@ is_other : (second : Bool) (request : Request) → request.second ≡ second →
 is_other true request is = ap (λ b. not b) is
 is_other false request is = is
 
-own_queued : (tmu : ℕ) (second : Bool) (job : ℕ) (asked : Option Asked) (requests : List Request) → queued second (queue_with tmu second job asked requests) ≡ queued second requests + asks tmu asked
+pub own_queued : (tmu : ℕ) (second : Bool) (job : ℕ) (asked : Option Asked) (requests : List Request) → queued second (queue_with tmu second job asked requests) ≡ queued second requests + asks tmu asked
 own_queued tmu second job None requests = omega arith
 own_queued tmu second job (Some asked) requests =
     let request : Request = record { second = second; job = job; ask = asked.ask } in
     own_by second (asked.tmu == tmu) requests request (is_mine second request refl)
 
-other_queued : (tmu : ℕ) (second : Bool) (job : ℕ) (asked : Option Asked) (requests : List Request) → queued (not second) (queue_with tmu second job asked requests) ≡ queued (not second) requests
+pub other_queued : (tmu : ℕ) (second : Bool) (job : ℕ) (asked : Option Asked) (requests : List Request) → queued (not second) (queue_with tmu second job asked requests) ≡ queued (not second) requests
 other_queued tmu second job None requests = refl
 other_queued tmu second job (Some asked) requests =
     let request : Request = record { second = second; job = job; ask = asked.ask } in
@@ -130,29 +124,25 @@ went_served rights K q t turn left goes =
     (own_runs turn.thread turn.leaves.fate)
 
 -- A step of a texture unit: a thread's oldest request becomes a result.
-got_by : {X : Type 0} (here : Bool) (results : List X) (row : X) → length (if here then results ++ row ∷ [] else results) ≡ length results + one_if here
+pub got_by : {X : Type 0} (here : Bool) (results : List X) (row : X) → length (if here then results ++ row ∷ [] else results) ≡ length results + one_if here
 got_by true results row = length-append results (row ∷ [])
 got_by false results row = omega arith
 
-kept_by : {X : Type 0} (here : Bool) (results : List X) (row : X) → length (if here then results else results ++ row ∷ []) ≡ length results + one_if (not here)
+pub kept_by : {X : Type 0} (here : Bool) (results : List X) (row : X) → length (if here then results else results ++ row ∷ []) ≡ length results + one_if (not here)
 kept_by true results row = omega arith
 kept_by false results row = length-append results (row ∷ [])
 
 got_served : (rights : List Rights) (K : List ℕ → Type 0) (before0 before1 after0 after1 tmu : ℕ) (row : Option (List ℕ)) (slot : Option Thread) → before0 ≡ after0 + one_if (tmu == 0) → before1 ≡ after1 + one_if (not (tmu == 0))
     → SlotServed rights K before0 before1 slot → SlotServed rights K after0 after1 (option_map (with_result tmu row) slot)
+unfolding still_at
 got_served rights K before0 before1 after0 after1 tmu row None fewer0 fewer1 left = tt
 got_served rights K before0 before1 after0 after1 tmu row (Some t) fewer0 fewer1 left =
-    let at = left.at in
     let count0 = left.tmu0 in
     let count1 = left.tmu1 in
     let more0 = got_by (tmu == 0) t.results0.items row in
     let more1 = kept_by (tmu == 0) t.results1.items row in
     record {
-      home = left.home;
-      served = left.served;
-      stands = left.stands;
-      index = left.index;
-      at = record { place = at.place; inside = at.inside; threaded = at.threaded; mark1 = at.mark1; mark2 = at.mark2; mark3 = at.mark3 };
+      there = still_at (rights_of rights t.job) K (λ code. may_wait code ≡ false) t t.fresh t.a t.b (if tmu == 0 then t.results0.items ++ row ∷ [] else t.results0.items) (if tmu == 0 then t.results1.items else t.results1.items ++ row ∷ []) left.there;
       tmu0 = omega (arith, count0, more0, fewer0);
       tmu1 = omega (arith, count1, more1, fewer1);
     }
@@ -176,12 +166,12 @@ drop_other second (one ∷ requests) request is mine =
     omega (arith, counts)
 
 -- in the queue that it is taken from, and in the other one
-taken_mine : (here second : Bool) (requests others : List Request) (request : Request) → oldest (if here then requests else others) ≡ Some request → request.second ≡ second
+pub taken_mine : (here second : Bool) (requests others : List Request) (request : Request) → oldest (if here then requests else others) ≡ Some request → request.second ≡ second
     → (queued second requests ≡ queued second (if here then drop 1 requests else requests) + one_if here) × (queued second others ≡ queued second (if here then others else drop 1 others) + one_if (not here))
 taken_mine true second requests others request is mine = (drop_mine second requests request is mine, omega arith)
 taken_mine false second requests others request is mine = (omega arith, drop_mine second others request is mine)
 
-taken_other : (here second : Bool) (requests others : List Request) (request : Request) → oldest (if here then requests else others) ≡ Some request → request.second ≡ second
+pub taken_other : (here second : Bool) (requests others : List Request) (request : Request) → oldest (if here then requests else others) ≡ Some request → request.second ≡ second
     → (queued (not second) requests ≡ queued (not second) (if here then drop 1 requests else requests)) × (queued (not second) others ≡ queued (not second) (if here then others else drop 1 others))
 taken_other true second requests others request is mine = (drop_other second requests request is mine, refl)
 taken_other false second requests others request is mine = (refl, drop_other second others request is mine)
@@ -226,7 +216,7 @@ pub served_served : (rights : List Rights) (K : List ℕ → Type 0) (tmu : ℕ)
 served_served rights K tmu q request row left is = served_by rights K tmu q request.second request row left is refl
 
 -- Where a program starts, its thread has nothing queued.
-none_queued : (second : Bool) (q : Qpu) → has_none second q ≡ true → (queued second q.queue0.items ≡ 0) × (queued second q.queue1.items ≡ 0)
+pub none_queued : (second : Bool) (q : Qpu) → has_none second q ≡ true → (queued second q.queue0.items ≡ 0) × (queued second q.queue1.items ≡ 0)
 none_queued second q none =
     let both = and_parts (queued second q.queue0.items == 0) (queued second q.queue1.items == 0) none in
     (same (queued second q.queue0.items) 0 both.0, same (queued second q.queue1.items) 0 both.1)

@@ -1,39 +1,26 @@
 -- What is known of threads, processors and jobs whose shaders wait for nothing but queued requests.
-use Rattle.std.specs.Prelude.{◌≡◌, ◌≢◌, ◌≤◌, ℕ, ◌+◌, ◌||◌, Bool, true, false, List, [], ◌∷◌, length, Option, IfSome, IsTrue, is_some, is_none, if◌then◌else◌}
-use Rattle.field_words.specs.Pieces.{joined as joined_bytes}
-use Rattle.machine_plan.specs.{declared.launch.Launch.Launch, Memory.bytes_at}
-use Rattle.machine_plan.specs.Regions.{Interval, Every, Rights, rights_of, HasReadOnly}
-use Rattle.packets.specs.{declared.config.Config.Config, declared.packet.Packet.Packet, Length.bin_length, Opcode.halt, Packet.slots_text}
+use Rattle.std.specs.Prelude.{◌≡◌, ◌≢◌, ◌≤◌, ℕ, ◌+◌, ◌||◌, Bool, true, false, List, length, Option, IfSome, IsTrue, is_some, is_none, if◌then◌else◌}
+use Rattle.machine_plan.specs.{declared.launch.Launch.Launch, Regions.Interval, Regions.Every, Regions.Rights, Regions.rights_of, Regions.HasReadOnly}
+use Rattle.packets.specs.{declared.config.Config.Config, declared.packet.Packet.Packet, Opcode.halt}
 use Rattle.bin_list.specs.Packets.{opcode}
-use Rattle.render_walks.specs.Walks.{AllFit}
 use Rattle.list_machine.specs.{declared.state.Frame.Frame, Lists.Lists}
 use Rattle.list_law.specs.{Binning.Allocates, Lists.ListsFine}
 use Rattle.qpu_machine.specs.{declared.state.Qpu.Qpu, declared.state.Thread.Thread, Qpu.queued}
-use Rattle.qpu_law.specs.{Home.Home, Home.IsAt, Thread.IsHome}
-use Rattle.shader_flow.specs.Flow.{is_threaded}
 use Rattle.machine.specs.{State.Units, State.State, Step.Event, Step.may, Step.step}
 use Rattle.machine_law.specs.{Jobs.ArePlain, Laws.AreFine, Units.EachAt}
+use Rattle.ends_law.specs.Left.{LaunchSo, ThreadAt, BinRest, RenderRest}
 use Rattle.served_law.specs.{Raises.waits_in, Raises.raised_by, Waits.outstanding, Waits.may_wait}
 
--- Job j may start the program: it is that of a shader that waits for nothing else, whose words stand in each memory of K.
-pub record LaunchServed (rights : List Rights) (K : List ℕ → Type 0) (j : ℕ) (launch : Launch) : Type 0 where
-  pub home : Home
-  pub served : may_wait home.code ≡ false
-  pub stands : (m : List ℕ) → K m → IsHome m (rights_of rights j).region home
-  pub code : launch.code ≡ home.place
-  pub uniforms : launch.uniforms ≡ home.stream
-  pub threaded : launch.threaded ≡ is_threaded home.code
+-- Job j may start the program: it is that of a shader that waits for nothing else.
+abbrev pub LaunchServed : List Rights → (List ℕ → Type 0) → ℕ → Launch → Type 0
+LaunchServed rights K j = LaunchSo (rights_of rights j) K (λ code. may_wait code ≡ false)
 
 -- The thread stands before an instruction of such a shader, and its requests in the two queues, of which there are so many, are with
 -- its results as many as the shader has outstanding there.
 pub record ThreadServed (rights : List Rights) (K : List ℕ → Type 0) (queued0 queued1 : ℕ) (t : Thread) : Type 0 where
-  pub home : Home
-  pub served : may_wait home.code ≡ false
-  pub stands : (m : List ℕ) → K m → IsHome m (rights_of rights t.job).region home
-  pub index : ℕ
-  pub at : IsAt home index t
-  pub tmu0 : queued0 + length t.results0.items ≡ outstanding home.code 0 index
-  pub tmu1 : queued1 + length t.results1.items ≡ outstanding home.code 1 index
+  pub there : ThreadAt (rights_of rights t.job) K (λ code. may_wait code ≡ false) t
+  pub tmu0 : queued0 + length t.results0.items ≡ outstanding there.home.code 0 there.index
+  pub tmu1 : queued1 + length t.results1.items ≡ outstanding there.home.code 1 there.index
 
 -- where a thread of the processor runs, the active one does
 abbrev pub is_led : Bool → Option Thread → Option Thread → Bool
@@ -45,31 +32,20 @@ pub record QpuServed (rights : List Rights) (K : List ℕ → Type 0) (q : Qpu) 
   pub other : IfSome q.other (ThreadServed rights K (queued true q.queue0.items) (queued true q.queue1.items))
   pub led : is_led q.second q.first q.other ≡ true
 
--- a packet of a binner list that is whole and doesn't end it
-pub record Goes (packet : List ℕ) : Type 0 where
-  pub whole : length packet ≡ bin_length (opcode packet)
-  pub known : bin_length (opcode packet) ≢ 0
-  pub no_halt : opcode packet ≢ halt
-
+-- none of these packets ends a binner list
 abbrev pub AllGo : List (List ℕ) → Type 0
-AllGo [] = Unit {0}
-AllGo (packet ∷ packets) = Goes packet × AllGo packets
+AllGo packets = Every (λ packet. opcode packet ≢ halt) packets
 
 -- Where the binner stands at a place of its list, which ends there, and the renderer at another of its own, the semaphore is raised as
 -- often as the renderer still waits for it: by what is to be raised already, and by the rest of the binner's list.
-pub record ListsMeet (K : List ℕ → Type 0) (place end pending semaphore there upto : ℕ) : Type 0 where
-  pub packets : List (List ℕ)
-  pub bin_ends : place + length (joined_bytes packets) ≡ end
-  pub bin_stands : (m : List ℕ) → K m → bytes_at m place (length (joined_bytes packets)) ≡ joined_bytes packets
+pub record ListsMeet (K : List ℕ → Type 0) (place end pending semaphore there upto : ℕ) (packets : List (List ℕ)) (slots : List (Option Packet)) : Type 0 where
+  pub bin : BinRest K place end packets
   pub go : AllGo packets
-  pub slots : List (Option Packet)
-  pub render_ends : there + length (slots_text slots) ≡ upto
-  pub render_stands : (m : List ℕ) → K m → bytes_at m there (length (slots_text slots)) ≡ slots_text slots
-  pub fit : AllFit slots
+  pub render : RenderRest K there upto slots
   pub meets : waits_in slots ≤ semaphore + raised_by pending packets
 
 abbrev pub JobMeets : (List ℕ → Type 0) → Lists → Type 0
-JobMeets K s = ListsMeet K s.binner.place s.binner.end s.pending s.semaphore s.renderer.place s.renderer.end
+JobMeets K s = (packets : List (List ℕ)) × (slots : List (Option Packet)) × ListsMeet K s.binner.place s.binner.end s.pending s.semaphore s.renderer.place s.renderer.end packets slots
 
 -- So it is of job j, whose programs wait for nothing else.
 pub record JobServed (rights : List Rights) (K : List ℕ → Type 0) (j : ℕ) (s : Lists) : Type 0 where
