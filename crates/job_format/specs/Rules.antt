@@ -1,7 +1,7 @@
 -- The rules of the format by number, and how a rule is printed: its letter, and its number in decimal.
 use Rattle.std.specs.{Prelude.ℕ, Prelude.List, Prelude.◌++◌, Prelude.codes, Fmt.decimal}
 use Rattle.job_format.specs.declared.rule.FormatRule.TheVariants.{NotAJobFile, EndsEarly, BytesFollow, OverLimit, WithoutMeaning, LacksSlots}
-use Rattle.job_format.specs.declared.rule.Stage.TheVariants.{F, M, S, H, B, A, U, G, X}
+use Rattle.job_format.specs.declared.rule.Stage.TheVariants.{F, M, S, H, B, A, U, G, X, E}
 use Rattle.job_format.specs.{declared.rule.FormatRule.FormatRule, declared.rule.Stage.Stage, declared.rule.Rule.Rule}
 
 abbrev pub format_rule_number : FormatRule → ℕ
@@ -22,6 +22,7 @@ letter A = codes "A"
 letter U = codes "U"
 letter G = codes "G"
 letter X = codes "X"
+letter E = codes "E"
 
 abbrev pub rule_text : Rule → List ℕ
 rule_text rule = letter rule.stage ++ decimal rule.number

@@ -6,7 +6,8 @@ use std::fmt;
 use thiserror::Error;
 
 /// The part of the check that a rule belongs to, in the order of refusal: format, memory table,
-/// shaders, handles, binner list, shader records, textures, frame and surfaces, layout.
+/// shaders, handles, binner list, shader records, textures, frame and surfaces, layout, and last
+/// the strict rules, which are asked where they are wanted.
 #[derive(Clone, Copy, Debug, PartialEq, Eq)]
 pub enum Stage {
     F,
@@ -18,6 +19,7 @@ pub enum Stage {
     U,
     G,
     X,
+    E,
 }
 
 /// A rule, by its letter and number, such as M4.
@@ -91,6 +93,7 @@ impl fmt::Display for Stage {
             Stage::U => "U",
             Stage::G => "G",
             Stage::X => "X",
+            Stage::E => "E",
         })
     }
 }

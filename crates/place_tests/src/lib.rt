@@ -1,5 +1,5 @@
-//! Tests of the memory table (`buffer_table`), of packets (`packets`), and of where a job's lists (`relocation`) and textures
-//! (`texture_layouts`) lie. A crate with tests is proved twice, so those of several crates stand in one, which has nothing else.
+//! Tests of the memory table (`buffer_table`), of packets (`packets`), and of where a job's lists (`relocation`), its tile slot
+//! (`strict_lists`) and textures (`texture_layouts`) lie. A crate with tests is proved twice, so those of several crates stand in one, which has nothing else.
 #![tactic(auto)]
 
 #[cfg(test)]
@@ -8,5 +8,7 @@ mod buffer_table_tests;
 mod packets_tests;
 #[cfg(test)]
 mod relocation_tests;
+#[cfg(test)]
+mod strict_lists_tests;
 #[cfg(test)]
 mod texture_layouts_tests;

@@ -3,14 +3,14 @@ use Rattle.std.specs.Prelude.{ℕ, ◌==◌, ◌-◌, nat_lt, List, [], ◌∷�
 use Rattle.std.specs.List.{position_or_len, before_first, after_first}
 use Rattle.std.specs.{Borrow.Bor, Char.to_ascii_uppercase, Fmt.decimal}
 use Rattle.script.specs.Number.{number_within}
-use Rattle.job_format.specs.declared.rule.Stage.TheVariants.{F as StageF, M as StageM, S as StageS, H as StageH, B as StageB, A as StageA, U as StageU, G as StageG, X as StageX}
+use Rattle.job_format.specs.declared.rule.Stage.TheVariants.{F as StageF, M as StageM, S as StageS, H as StageH, B as StageB, A as StageA, U as StageU, G as StageG, X as StageX, E as StageE}
 use Rattle.job_format.specs.{Rules.letter, declared.rule.Rule.Rule, declared.rule.Stage.Stage}
 use Rattle.rule_words.specs.declared.answers.TheConstants.{SLOTS, QUEUE, SESSION, LEVELS, ASSEMBLER}
 use Rattle.rule_words.specs.declared.format.TheConstants.{FORMAT, TABLE, HANDLES, LAYOUT}
 use Rattle.rule_words.specs.declared.name.Family.TheVariants.{Check, O, Q, J, V, Kind}
 use Rattle.rule_words.specs.{declared.lists.TheConstants.LISTS, declared.shaders.TheConstants.SHADERS, declared.name.Family.Family}
 use Rattle.rule_words.specs.{declared.records.TheConstants.RECORDS, declared.records.TheConstants.TEXTURES, declared.name.RuleName.RuleName}
-use Rattle.rule_words.specs.{declared.surfaces.TheConstants.SURFACES, declared.name.Words.Words}
+use Rattle.rule_words.specs.{declared.surfaces.TheConstants.SURFACES, declared.strict.TheConstants.STRICT, declared.name.Words.Words}
 
 abbrev pub texts_in : List (Bor (List ℕ)) → List (List ℕ)
 texts_in rows = map (λ row. row.now) rows
@@ -26,6 +26,7 @@ rows_in StageA = map (λ row. row.now) RECORDS
 rows_in StageU = map (λ row. row.now) TEXTURES
 rows_in StageG = map (λ row. row.now) SURFACES
 rows_in StageX = map (λ row. row.now) LAYOUT
+rows_in StageE = map (λ row. row.now) STRICT
 
 unfoldable pub rows_of : Family → List (List ℕ)
 rows_of (Check stage) = rows_in stage
@@ -90,8 +91,9 @@ family_of_upper letter =
     if letter == 70 then Some (Check StageF) else (if letter == 77 then Some (Check StageM) else (if letter == 83 then Some (Check StageS)
     else (if letter == 72 then Some (Check StageH) else (if letter == 66 then Some (Check StageB) else (if letter == 65 then Some (Check StageA)
     else (if letter == 85 then Some (Check StageU) else (if letter == 71 then Some (Check StageG) else (if letter == 88 then Some (Check StageX)
+    else (if letter == 69 then Some (Check StageE)
     else (if letter == 79 then Some O else (if letter == 81 then Some Q else (if letter == 74 then Some J else (if letter == 86 then Some V
-    else None))))))))))))
+    else None)))))))))))))
 
 unfoldable pub family_named : ℕ → Option Family
 family_named letter = family_of_upper (to_ascii_uppercase letter)

@@ -3,7 +3,7 @@
 use Rattle.std.specs.Prelude.{ℕ, ◌≡◌, ◌+◌, ◌-◌, ◌*◌, ◌/◌, ◌%◌, ◌<◌, ◌≤◌, ◌⊎◌, ◌==◌, ◌&&◌, ◌||◌, not, Bool, false, nat_lt, nat_le, List, [], ◌∷◌, ◌++◌, length, Option, Some, None, Result, IfOk, IfErr, if◌then◌else◌}
 use Rattle.field_words.specs.Questions.{Question, Ask, each, first_of}
 use Rattle.job_format.specs.Offsets.{header_size, entry_size, job_size, buffer_count, job_count, job_word, content_size, entry_offset, job_offset, content_offset, handles_offset, bin_offset, records_offset, uniforms_offset}
-use Rattle.job_format.specs.declared.rule.Stage.TheVariants.{S, H, B, A, G}
+use Rattle.job_format.specs.declared.rule.Stage.TheVariants.{S, H, B, A, G, E}
 use Rattle.job_format.specs.{declared.rule.Refusal.Refusal, declared.rule.Rule.Rule, declared.rule.Stage.Stage}
 use Rattle.rule_words.specs.declared.place.Thing.TheVariants.{File, Header, Entry, JobEntry, Surface, Contents, Shader, Handles, Handle, BinnerList, Records, Uniforms}
 use Rattle.rule_words.specs.{declared.place.Thing.Thing, declared.place.Place.Place}
@@ -123,6 +123,7 @@ spot_at bytes refusal =
 unfoldable pub counted : Thing → Stage → Place → Place
 counted JobEntry G spot = if nat_le 36 spot.at then record { thing = Surface; index = spot.index; at = (spot.at - 24) / 12 } else spot
 counted Contents S spot = record { thing = Shader; index = spot.index; at = spot.at / 8 }
+counted Contents E spot = record { thing = Shader; index = spot.index; at = spot.at / 8 }
 counted Handles H spot = record { thing = Handle; index = spot.index; at = spot.at / 4 }
 counted thing stage spot = spot
 

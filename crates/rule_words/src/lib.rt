@@ -9,6 +9,7 @@ mod name;
 mod place;
 mod records;
 mod shaders;
+mod strict;
 mod surfaces;
 
 pub use line::{Line, line_of};

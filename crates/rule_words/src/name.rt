@@ -7,6 +7,7 @@ use crate::format::{FORMAT, HANDLES, LAYOUT, TABLE};
 use crate::lists::LISTS;
 use crate::records::{RECORDS, TEXTURES};
 use crate::shaders::SHADERS;
+use crate::strict::STRICT;
 use crate::surfaces::SURFACES;
 use job_format::{Rule, Stage};
 use script::read_number;
@@ -56,6 +57,7 @@ impl Family {
             b'U' => Family::Check(Stage::U),
             b'G' => Family::Check(Stage::G),
             b'X' => Family::Check(Stage::X),
+            b'E' => Family::Check(Stage::E),
             b'O' => Family::O,
             b'Q' => Family::Q,
             b'J' => Family::J,
@@ -95,6 +97,7 @@ fn rows_in(stage: Stage) -> &'static [&'static str]
         Stage::U => &TEXTURES,
         Stage::G => &SURFACES,
         Stage::X => &LAYOUT,
+        Stage::E => &STRICT,
     }
 }
 

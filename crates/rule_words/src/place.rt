@@ -260,7 +260,9 @@ fn counted(bytes: &[u8], refusal: Refusal, spot: Place) -> Place
         (Thing::JobEntry, Stage::G) if spot.at >= 36 => {
             Place::new(Thing::Surface, spot.index, (spot.at - 24) / 12)
         }
-        (Thing::Contents, Stage::S) => Place::new(Thing::Shader, spot.index, spot.at / 8),
+        (Thing::Contents, Stage::S | Stage::E) => {
+            Place::new(Thing::Shader, spot.index, spot.at / 8)
+        }
         (Thing::Handles, Stage::H) => Place::new(Thing::Handle, spot.index, spot.at / 4),
         _ => spot,
     }

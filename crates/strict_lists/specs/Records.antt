@@ -6,10 +6,12 @@ use Rattle.field_words.specs.{Questions.Question, Questions.Ask, Sizes.slot_size
 unfoldable pub selects_past : ℕ → ℕ → Bool
 selects_past byte attributes = not (byte / 2 ^ attributes == 0)
 
--- E11: byte 14 of a record selects the vertex shader's attributes, byte 26 the coordinate shader's
-unfoldable pub selection_questions : List ℕ → ℕ → List (Question ℕ)
-selection_questions bytes attributes =
-    Ask (selects_past (slice_index bytes 14) attributes) 14 ∷ Ask (selects_past (slice_index bytes 26) attributes) 26 ∷ []
+-- E11 of a record that begins at a place: its byte 14 selects the vertex shader's attributes, byte 26 the coordinate shader's
+unfoldable pub selection_questions : List ℕ → (from attributes : ℕ) → List (Question ℕ)
+selection_questions bytes from attributes =
+    Ask (selects_past (slice_index bytes (from + 14)) attributes) 14
+    ∷ Ask (selects_past (slice_index bytes (from + 26)) attributes) 26
+    ∷ []
 
 -- E12: a tile slot at this place has addresses with other top four bits
 unfoldable pub crosses : ℕ → Bool

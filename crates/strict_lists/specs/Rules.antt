@@ -6,6 +6,11 @@ use Rattle.bin_list.specs.{Packets.opcode, Packets.packets, Seen.place, Seen.las
 use Rattle.strict_lists.specs.{declared.course.Course.Course, declared.rule.ListRule.ListRule, declared.rule.ListFault.ListFault}
 use Rattle.strict_lists.specs.declared.rule.ListRule.TheVariants.{PrimitiveKind, PrimitiveCount, ListFormat}
 
+abbrev pub number_of : ListRule → ℕ
+number_of PrimitiveKind = 9
+number_of PrimitiveCount = 10
+number_of ListFormat = 13
+
 unfoldable pub is_primitive : List ℕ → Bool
 is_primitive packet = opcode packet == indexed_primitive_list || opcode packet == array_primitive_list
 

@@ -1,9 +1,19 @@
 //! The strict rules on a shader record, and on the place of a tile slot.
-ghost use Rattle.std.specs.Prelude.{◌≡◌, ◌≤◌, ◌<◌, ◌^◌, length};
+ghost use Rattle.std.specs.Prelude.{◌≡◌, ◌≤◌, ◌<◌, ◌^◌, slice_index};
 ghost use Rattle.field_words.specs.Questions.{first_of};
 ghost use Rattle.strict_lists.specs.Records.{selects_past, selection_questions, crosses};
 
 use field_words::SLOT_SIZE;
+
+/// The byte at this place; 0 behind the last.
+pub fn byte_at(bytes: &[u8], at: usize) -> u8
+    ensures { result ≡ slice_index bytes.now at }
+{
+    if bytes.len() <= at {
+        return 0;
+    }
+    bytes[at]
+}
 
 // A byte selects an attribute past the state's number.
 #[tactic(auto, unfolding(crate::specs::Records::selects_past))]
@@ -14,18 +24,18 @@ fn selects_past(byte: u8, attributes: u32) -> bool
     u32::from(byte) >> attributes != 0
 }
 
-/// E11 of a record of a state with so many attributes, 1 to 8: the place in the record of the first byte that selects one that
-/// isn't there, 14 (the vertex shader's) or 26 (the coordinate shader's).
+/// E11 of a record that begins at this place, of a state with so many attributes, 1 to 8: the place in the record of the first byte
+/// that selects one that isn't there, 14 (the vertex shader's) or 26 (the coordinate shader's).
 #[tactic(auto, unfolding(crate::specs::Records::selection_questions))]
-pub fn selection_fault(bytes: &[u8], attributes: u32) -> Option<u32>
-    requires whole { 27 ≤ length bytes.now }
+pub fn selection_fault(bytes: &[u8], from: usize, attributes: u32) -> Option<u32>
+    requires near { from < 2 ^ 32 }
     requires few { attributes ≤ 8 }
-    ensures { result ≡ first_of (selection_questions bytes.now attributes) }
+    ensures { result ≡ first_of (selection_questions bytes.now from attributes) }
 {
-    if selects_past(bytes[14], attributes) {
+    if selects_past(byte_at(bytes, from + 14), attributes) {
         return Some(14);
     }
-    if selects_past(bytes[26], attributes) {
+    if selects_past(byte_at(bytes, from + 26), attributes) {
         return Some(26);
     }
     None

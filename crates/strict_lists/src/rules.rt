@@ -1,23 +1,14 @@
 //! The strict rules at one packet.
-ghost use Rattle.std.specs.Prelude.{◌≡◌, ◌≤◌, length, slice_index};
+ghost use Rattle.std.specs.Prelude.{◌≡◌, ◌≤◌, length};
 ghost use Rattle.field_words.specs.Questions.{first_of};
 ghost use Rattle.strict_lists.specs.Rules.{is_primitive, e9, e10, is_reset, e13, packet_questions};
 
 use crate::course::Course;
+use crate::records::byte_at;
 use crate::rule::ListRule;
 use packets::opcode::{
     ARRAY_PRIMITIVE_LIST, INDEXED_PRIMITIVE_LIST, PRIMITIVE_LIST_FORMAT, START_TILE_BINNING,
 };
-
-// The byte behind the opcode; 0 where the packet is cut off before.
-fn second_byte(packet: &[u8]) -> u8
-    ensures { result ≡ slice_index packet.now 1 }
-{
-    if packet.len() <= 1 {
-        return 0;
-    }
-    packet[1]
-}
 
 /// Whether the packet is a primitive.
 #[tactic(auto, unfolding(crate::specs::Rules::is_primitive))]
@@ -34,7 +25,7 @@ fn breaks_e9(packet: &[u8]) -> bool
     requires { 1 ≤ length packet.now }
     ensures { result ≡ e9 packet.now }
 {
-    let kind = second_byte(packet);
+    let kind = byte_at(packet, 1);
     (packet[0] == INDEXED_PRIMITIVE_LIST && (1 < kind / 16 || 6 < kind % 16))
         || (packet[0] == ARRAY_PRIMITIVE_LIST && 6 < kind)
 }
@@ -54,7 +45,7 @@ fn is_reset(packet: &[u8]) -> bool
     requires { 1 ≤ length packet.now }
     ensures { result ≡ is_reset packet.now }
 {
-    packet[0] == PRIMITIVE_LIST_FORMAT && second_byte(packet) == 18
+    packet[0] == PRIMITIVE_LIST_FORMAT && byte_at(packet, 1) == 18
 }
 
 // A tile list doesn't begin with the reset, or has another format later.

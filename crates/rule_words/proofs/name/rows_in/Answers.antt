@@ -38,3 +38,7 @@ returns-in-G c = search rules
 pub returns-in-X : goal.returns-in-X
 unfolding rows_in
 returns-in-X c = search rules
+
+pub returns-in-E : goal.returns-in-E
+unfolding rows_in
+returns-in-E c = search rules
