@@ -1,5 +1,5 @@
 -- Stages one after the other.
-use Rattle.std.proofs.Common.{◌≡◌, ℕ, true, false, inl, inr, ◌+◌, ◌<◌, ◌≤◌, List, ◌++◌, Some, None, Result, Ok, Err, IfOk, refl, sym, subst, ◌∙◌}
+use Rattle.std.proofs.Common.{◌≡◌, ℕ, true, false, inl, inr, ◌+◌, ◌<◌, ◌≤◌, List, ◌++◌, Some, None, Option, Result, Ok, Err, IfOk, IfSome, refl, sym, subst, ◌∙◌}
 use Rattle.std.proofs.lemmas.Bool.{le-ltb, lt-ltb, cases_lt, false≢true}
 use Rattle.std.specs.Result.{IsErrAnd}
 use Rattle.field_words.specs.{declared.stop.Stop.Stop}
@@ -8,7 +8,7 @@ use Rattle.field_words.proofs.{Questions.stands_none, Nones.front_none}
 use Rattle.job_format.specs.{Model.FileModel, declared.rule.Stage.TheVariants.X}
 use Rattle.relocation.specs.Layout.{region_end}
 use Rattle.job_check.specs.Faults.{refused, layout_stage, table_stage, shaders_stage, jobs_stages, file_stages, stages_within}
-use Rattle.job_check.specs.{Jobs.layout_of, Offsets.job_offset, Offsets.layout_offset}
+use Rattle.job_check.specs.{Jobs.layout_of, Region.Under, Offsets.job_offset, Offsets.layout_offset}
 
 -- What leaves by a `?` is the fault that it was.
 pub exits : {X F : Type 0} (questions : List (Question F)) (P : X → Type 0) (result : Result X (Stop F)) (stop : Stop F) → IsErrAnd result (λ e. e ≡ stop) → Refuses questions stop → Answers questions P result
@@ -36,6 +36,25 @@ is_past f j fits =
 pub if_ok : {X E : Type 0} {P Q : Type 0} (result : Result X E) → (P → Q) → IfOk result (λ _. P) → IfOk result (λ _. Q)
 if_ok (Ok x) follows h = follows h
 if_ok (Err e) follows h = tt
+
+-- what holds where what was told does
+pub under : {X : Type 0} {P : Type 0} (told : Option X) (Holds : X → Type 0) → (IfSome told Holds → P) → Under told Holds P
+under None Holds follows = follows tt
+under (Some told) Holds follows = follows
+
+pub under_more : {X : Type 0} {P Q : Type 0} (told : Option X) (Holds : X → Type 0) → (P → Q) → Under told Holds P → Under told Holds Q
+under_more None Holds follows p = follows p
+under_more (Some told) Holds follows p = λ holds. follows (p holds)
+
+-- what follows of an answer
+pub ok_of : {X F : Type 0} (questions : List (Question F)) (P Q : X → Type 0) (result : Result X (Stop F)) → Answers questions P result → ((made : X) → P made → Q made) → IfOk result Q
+ok_of questions P Q (Ok made) answers follows = follows made answers.1
+ok_of questions P Q (Err stop) answers follows = tt
+
+-- and what stands at all events
+pub if_always : {X E : Type 0} {Q : Type 0} (result : Result X E) → Q → IfOk result (λ _. Q)
+if_always (Ok x) stands = stands
+if_always (Err e) stands = tt
 
 -- and from two
 pub if_both : {X E : Type 0} {P Q R : Type 0} (result : Result X E) → (P → Q → R) → IfOk result (λ _. P) → IfOk result (λ _. Q) → IfOk result (λ _. R)

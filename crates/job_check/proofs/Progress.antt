@@ -1,6 +1,6 @@
 -- The check of the jobs, one after the other: what stands once no rule of the first n does.
 use Rattle.std.proofs.Common.{◌≡◌, ℕ, suc, ◌+◌, ◌-◌, ◌<◌, ◌≤◌, List, [], ◌∷◌, ◌++◌, length, map, None, refl, sym, ap, subst, arith, ◌∙◌, zero-add}
-use Rattle.std.proofs.lemmas.List.FromFn.{map-range_with_len_more}
+use Rattle.std.proofs.lemmas.List.{length-append, FromFn.map-range_with_len_more}
 use Rattle.std.specs.List.{AllByRecursion, range_with_len}
 use Rattle.field_words.specs.{declared.stop.Stop.Stop, declared.stop.Stop.TheVariants.Fault, declared.stop.Stop.TheVariants.NoMemory}
 use Rattle.field_words.specs.{Questions.first_of, Questions.each, Questions.Refuses, Writes.placed, Writes.emitted, Writes.zeros}
@@ -8,42 +8,38 @@ use Rattle.field_words.proofs.Questions.{each_on, each_stop, each_end}
 use Rattle.buffer_table.specs.Sound.{IsSound}
 use Rattle.job_format.specs.{declared.rule.Refusal.Refusal, Model.FileModel}
 use Rattle.relocation.specs.{declared.layout.Layout.Layout, declared.layout.Lengths.Lengths, Layout.region_end, Layout.begins_after}
-use Rattle.job_check.specs.Emit.{PartsFit, list_parts, lengths_of, all_lengths_of, InOrder, IsInside, IsPlacedFor}
-use Rattle.job_check.specs.Region.{region_size, region_from, region_parts, regions_parts, region_of, IsRegion}
+use Rattle.job_check.specs.Emit.{PartsFit, list_parts, lengths_of, all_lengths_of, InOrder, IsInside}
+use Rattle.job_check.specs.Region.{region_size, region_from, region_parts, regions_parts, region_of, IsLaid, IsRegion}
 use Rattle.job_check.specs.{declared.region.Region.Region, Faults.job_stages}
 use Rattle.job_check.specs.Jobs.{lists_room, lists_begin, layout_of, layouts_of}
-use Rattle.job_check.proofs.Regions.{emitted_grown, fit_more, fit_moved, fit_append, size_more, size_before, from_is, zeros_long}
-use Rattle.job_check.proofs.{Emission.placed-append, Layouts.layout_order, Layouts.next_inside, Windows.length_placed}
+use Rattle.job_check.proofs.Regions.{emitted_grown, fit_more, fit_moved, fit_append, size_more, size_before, from_is}
+use Rattle.job_check.proofs.{Emission.placed-append, Layouts.layout_order, Layouts.next_inside}
 
-pub record SoFar (f : FileModel) (n : ℕ) (bytes : List ℕ) (layouts : List Layout) (lengths : List Lengths) (place : ℕ) : Type 0 where
-  pub asked : first_of (each (job_stages f) n (length f.jobs - n)) ≡ first_of (each (job_stages f) 0 (length f.jobs))
-  pub bytes_are : bytes ≡ emitted (region_size f n) (regions_parts f n)
+-- Whatever is told of the shaders: where the lists of the first n jobs lie, and how many bytes of the region they take.
+pub record Laid (f : FileModel) (n : ℕ) (bytes : List ℕ) (layouts : List Layout) (lengths : List Lengths) (place : ℕ) : Type 0 where
   pub size : length bytes ≡ region_size f n
-  pub fit : PartsFit (region_size f n) (regions_parts f n)
   pub room : f.regions.lists_place + region_size f n ≤ region_end f.regions
   pub layouts_are : layouts ≡ map (layout_of f) (range_with_len 0 n)
-  pub lengths_are : lengths ≡ map (lengths_of f) (range_with_len 0 n)
+  pub count : length lengths ≡ n
   pub inside : AllByRecursion (IsInside (region_end f.regions)) layouts
   pub place_is : place ≡ lists_begin f n
   pub begins : place ≤ region_end f.regions
 
+-- And where that is true.
+pub record SoFar (f : FileModel) (n : ℕ) (bytes : List ℕ) (lengths : List Lengths) : Type 0 where
+  pub asked : first_of (each (job_stages f) n (length f.jobs - n)) ≡ first_of (each (job_stages f) 0 (length f.jobs))
+  pub bytes_are : bytes ≡ emitted (region_size f n) (regions_parts f n)
+  pub fit : PartsFit (region_size f n) (regions_parts f n)
+  pub lengths_are : lengths ≡ map (lengths_of f) (range_with_len 0 n)
+
 -- before the first job
-pub none : (f : FileModel) → SoFar f 0 [] [] [] f.regions.lists_place
-unfolding regions_parts region_size lists_begin zeros
-none f =
-    let all : length f.jobs - 0 ≡ length f.jobs = omega arith in
-    record {
-      asked = ap (λ n. first_of (each (job_stages f) 0 n)) all;
-      bytes_are = refl;
-      size = refl;
-      fit = tt;
-      room = omega arith;
-      layouts_are = refl;
-      lengths_are = refl;
-      inside = tt;
-      place_is = refl;
-      begins = omega arith;
-    }
+pub none_laid : (f : FileModel) → Laid f 0 [] [] [] f.regions.lists_place
+unfolding region_size lists_begin
+none_laid f = record { size = refl; room = omega arith; layouts_are = refl; count = refl; inside = tt; place_is = refl; begins = omega arith }
+
+pub none : (f : FileModel) → SoFar f 0 [] []
+unfolding regions_parts region_size zeros
+none f = let all : length f.jobs - 0 ≡ length f.jobs = omega arith in record { asked = ap (λ n. first_of (each (job_stages f) 0 n)) all; bytes_are = refl; fit = tt; lengths_are = refl }
 
 -- one more passes
 more_begins : (f : FileModel) (n place : ℕ) (layout : Layout) → layout ≡ layout_of f n → place ≡ begins_after layout.place layout.end → place ≡ lists_begin f (n + 1)
@@ -86,38 +82,38 @@ more_bytes f n bytes after is size fit put =
     ∙ sym (placed-append (zeros b) (regions_parts f n) (region_parts f n))
     ∙ ap (emitted b) (sym (more_parts f n))
 
-emitted_long : (size : ℕ) (bytes : List ℕ) (f : FileModel) (n : ℕ) → bytes ≡ emitted size (regions_parts f n) → PartsFit size (regions_parts f n) → length bytes ≡ size
-emitted_long size bytes f n is fit =
-    ap length is ∙ length_placed (zeros size) (regions_parts f n) (subst (λ k. PartsFit k (regions_parts f n)) (sym (zeros_long size)) fit) ∙ zeros_long size
-
-pub next : (f : FileModel) (n : ℕ) (bytes after : List ℕ) (layouts : List Layout) (lengths : List Lengths) (place begin : ℕ) (layout : Layout) (long : Lengths)
-    → SoFar f n bytes layouts lengths place → IsSound f.mem_size f.regions f.buffers → n < length f.jobs
-    → first_of (job_stages f n) ≡ None → IsPlacedFor f n layout long
-    → after ≡ placed (bytes ++ zeros (region_size f (n + 1) - length bytes)) (region_parts f n) → PartsFit (layout_of f n).end (list_parts f n)
+pub next_laid : (f : FileModel) (n : ℕ) (bytes after : List ℕ) (layouts : List Layout) (lengths : List Lengths) (place begin : ℕ) (layout : Layout) (long : Lengths)
+    → Laid f n bytes layouts lengths place → IsSound f.mem_size f.regions f.buffers → layout ≡ layout_of f n → length after ≡ region_size f (n + 1)
     → layout.place + layout.end ≤ region_end f.regions → begin ≡ begins_after layout.place layout.end
-    → SoFar f (n + 1) after (layouts ++ (layout ∷ [])) (lengths ++ (long ∷ [])) begin
-next f n bytes after layouts lengths place begin layout long so_far sound below passes is put fit inside next_place =
-    let here : IsInside (region_end f.regions) layout = record { inside = inside; order = subst InOrder (sym is.layout_is) (layout_order f n) } in
-    let bytes_are = more_bytes f n bytes after so_far.bytes_are so_far.size so_far.fit put in
-    let all_fit = more_fit f n so_far.fit fit in
+    → Laid f (n + 1) after (layouts ++ (layout ∷ [])) (lengths ++ (long ∷ [])) begin
+next_laid f n bytes after layouts lengths place begin layout long laid sound is size inside next_place =
+    let here : IsInside (region_end f.regions) layout = record { inside = inside; order = subst InOrder (sym is) (layout_order f n) } in
     record {
-      asked = each_on (job_stages f) n (length f.jobs) below passes ∙ so_far.asked;
-      bytes_are = bytes_are;
-      size = emitted_long (region_size f (n + 1)) after f (n + 1) bytes_are all_fit;
-      fit = all_fit;
-      room = omega (arith, more_size f n, from_is f n, ap (λ l. l.place) is.layout_is, ap (λ l. l.end) is.layout_is, inside);
+      size = size;
+      room = omega (arith, more_size f n, from_is f n, ap (λ l. l.place) is, ap (λ l. l.end) is, inside);
       layouts_are =
-          ap (λ l. l ++ (layout ∷ [])) so_far.layouts_are
-          ∙ ap (λ x. map (layout_of f) (range_with_len 0 n) ++ (x ∷ [])) is.layout_is
+          ap (λ l. l ++ (layout ∷ [])) laid.layouts_are
+          ∙ ap (λ x. map (layout_of f) (range_with_len 0 n) ++ (x ∷ [])) is
           ∙ sym (map-range_with_len_more (layout_of f) 0 n n (zero-add n));
-      lengths_are =
-          ap (λ l. l ++ (long ∷ [])) so_far.lengths_are
-          ∙ ap (λ x. map (lengths_of f) (range_with_len 0 n) ++ (x ∷ [])) is.lengths_are
-          ∙ sym (map-range_with_len_more (lengths_of f) 0 n n (zero-add n));
-      inside = more_inside (region_end f.regions) layouts layout so_far.inside here;
-      place_is = more_begins f n begin layout is.layout_is next_place;
+      count = length-append lengths (long ∷ []) ∙ ap (λ k. k + 1) laid.count;
+      inside = more_inside (region_end f.regions) layouts layout laid.inside here;
+      place_is = more_begins f n begin layout is next_place;
       begins = subst (λ k. k ≤ region_end f.regions) (sym next_place) (next_inside f layout.place layout.end sound inside);
     }
+
+pub next : (f : FileModel) (n : ℕ) (bytes after : List ℕ) (lengths : List Lengths) (long : Lengths)
+    → SoFar f n bytes lengths → length bytes ≡ region_size f n → n < length f.jobs → first_of (job_stages f n) ≡ None → long ≡ lengths_of f n
+    → after ≡ placed (bytes ++ zeros (region_size f (n + 1) - length bytes)) (region_parts f n) → PartsFit (layout_of f n).end (list_parts f n)
+    → SoFar f (n + 1) after (lengths ++ (long ∷ []))
+next f n bytes after lengths long so_far size below passes is put fit = record {
+  asked = each_on (job_stages f) n (length f.jobs) below passes ∙ so_far.asked;
+  bytes_are = more_bytes f n bytes after so_far.bytes_are size so_far.fit put;
+  fit = more_fit f n so_far.fit fit;
+  lengths_are =
+      ap (λ l. l ++ (long ∷ [])) so_far.lengths_are
+      ∙ ap (λ x. map (lengths_of f) (range_with_len 0 n) ++ (x ∷ [])) is
+      ∙ sym (map-range_with_len_more (lengths_of f) 0 n n (zero-add n));
+}
 
 -- what lies inside the region lies inside the memory
 pub wider : (a b : ℕ) (layouts : List Layout) → a ≤ b → AllByRecursion (IsInside a) layouts → AllByRecursion (IsInside b) layouts
@@ -125,25 +121,34 @@ wider a b [] below all = tt
 wider a b (layout ∷ layouts) below all = (record { inside = omega (arith, below, all.0.inside); order = all.0.order }, wider a b layouts below all.1)
 
 -- a rule of job n stands
-pub refused : (f : FileModel) (n : ℕ) (bytes : List ℕ) (layouts : List Layout) (lengths : List Lengths) (place : ℕ) (stop : Stop Refusal) → SoFar f n bytes layouts lengths place → n < length f.jobs
+pub refused : (f : FileModel) (n : ℕ) (bytes : List ℕ) (lengths : List Lengths) (stop : Stop Refusal) → SoFar f n bytes lengths → n < length f.jobs
     → Refuses (job_stages f n) stop → Refuses (each (job_stages f) 0 (length f.jobs)) stop
-refused f n bytes layouts lengths place (Fault refusal) so_far below refuses = sym so_far.asked ∙ each_stop (job_stages f) n (length f.jobs) refusal below refuses
-refused f n bytes layouts lengths place NoMemory so_far below refuses = tt
+refused f n bytes lengths (Fault refusal) so_far below refuses = sym so_far.asked ∙ each_stop (job_stages f) n (length f.jobs) refusal below refuses
+refused f n bytes lengths NoMemory so_far below refuses = tt
 
--- All have passed: no rule stands of any, and the bytes are the region.
-pub all : (f : FileModel) (n : ℕ) (place : ℕ) (region : Region) → SoFar f n region.bytes.items region.layouts.items region.lengths.items place → n ≡ length f.jobs
-    → (first_of (each (job_stages f) 0 (length f.jobs)) ≡ None) × IsRegion f region
+-- All have passed: their lists are laid, and where what is told of the shaders is true, no rule stands of any, and the bytes are the region.
+pub all_laid : (f : FileModel) (n : ℕ) (place : ℕ) (region : Region) → Laid f n region.bytes.items region.layouts.items region.lengths.items place → n ≡ length f.jobs → IsLaid f region
+unfolding layouts_of
+all_laid f n place region laid end = record {
+  size = laid.size ∙ ap (region_size f) end;
+  layouts_are = laid.layouts_are ∙ ap (λ k. map (layout_of f) (range_with_len 0 k)) end;
+  count = laid.count ∙ end;
+  fits = subst (λ k. f.regions.lists_place + region_size f k ≤ region_end f.regions) end laid.room;
+}
+
+pub all : (f : FileModel) (n : ℕ) (place : ℕ) (region : Region) → Laid f n region.bytes.items region.layouts.items region.lengths.items place
+    → SoFar f n region.bytes.items region.lengths.items → n ≡ length f.jobs → (first_of (each (job_stages f) 0 (length f.jobs)) ≡ None) × IsRegion f region
 unfolding layouts_of all_lengths_of region_of
-all f n place region so_far end =
+all f n place region laid so_far end =
     let bytes_are = so_far.bytes_are ∙ ap (λ k. emitted (region_size f k) (regions_parts f k)) end in
-    let long : length (region_of f) ≡ region_size f n = sym (ap length bytes_are) ∙ so_far.size in (
+    let long : length (region_of f) ≡ region_size f n = sym (ap length bytes_are) ∙ laid.size in (
       sym so_far.asked ∙ each_end (job_stages f) n (length f.jobs) (omega (arith, end)),
       record {
         bytes_are = bytes_are;
-        layouts_are = so_far.layouts_are ∙ ap (λ k. map (layout_of f) (range_with_len 0 k)) end;
+        layouts_are = laid.layouts_are ∙ ap (λ k. map (layout_of f) (range_with_len 0 k)) end;
         lengths_are = so_far.lengths_are ∙ ap (λ k. map (lengths_of f) (range_with_len 0 k)) end;
-        fits = omega (arith, long, so_far.room);
+        fits = omega (arith, long, laid.room);
         parts_fit = subst (λ k. PartsFit (region_size f k) (regions_parts f k)) end so_far.fit;
-        each_job = so_far.inside;
+        each_job = laid.inside;
       },
     )

@@ -18,7 +18,7 @@ use Rattle.shader_records.specs.Emission.{emitted_records, emitted_uniforms}
 use Rattle.shader_records.proofs.Lengths.{length_records, length_uniforms, offset_le, stream_le, record_end, uniform_end}
 use Rattle.job_check.specs.Jobs.{job_of, has_bin, grid_from, grid_of, slot_of, places_in, render_list_of, layout_of, states_in, input_for, bin_list_of, records_of, streams_of}
 use Rattle.job_check.specs.Faults.{bin_refused, bin_stage, record_refused, records_stage, surfaces_stage, lists_stages}
-use Rattle.job_check.specs.{Shaders.table_of, Context.InView, Context.IsContext, Told.IsBinOf}
+use Rattle.job_check.specs.{Shaders.table_of, Context.InView, Context.IsContext, Context.IsTold, Told.IsBinOf}
 use Rattle.job_check.specs.Emit.{PartsFit, list_parts, later_parts, lengths_of}
 use Rattle.job_check.proofs.{Layouts.room_is, Layouts.layout_numbers, Layouts.layout_apart}
 
@@ -118,16 +118,16 @@ input states records uniforms table handles shaders =
     record { states = states; records = records; uniforms = uniforms; table = table; handles = handles; shaders = shaders }
 
 pub input_is : (v : InView) (states : List State) (job : JobModel) (table : TableModel) (shaders : List (Option ShaderModel)) (handles : List ℕ) (layout : Layout) → IsContext v job table shaders handles layout
-    → states ≡ states_in v.file v.number
+    → states ≡ states_in v.file v.number → IsTold v
     → record { states = states; records = job.records; uniforms = job.uniforms; table = table; handles = handles; shaders = shaders } ≡ input_for v.file v.number
 unfolding input_for
-input_is v states job table shaders handles layout h same =
+input_is v states job table shaders handles layout h same told =
     let at = job_of v.file v.number in
     ap (λ s. input s job.records job.uniforms table handles shaders) same
     ∙ ap (λ x. input (states_in v.file v.number) x.records x.uniforms table handles shaders) h.job_is
     ∙ ap (λ t. input (states_in v.file v.number) at.records at.uniforms t handles shaders) h.table_is
     ∙ ap (λ l. input (states_in v.file v.number) at.records at.uniforms (table_of v.file) l shaders) (h.handles_are ∙ ap (λ x. x.handles) h.job_is)
-    ∙ ap (input (states_in v.file v.number) at.records at.uniforms (table_of v.file) at.handles) h.shaders_are.told
+    ∙ ap (input (states_in v.file v.number) at.records at.uniforms (table_of v.file) at.handles) (h.shaders_are ∙ told)
 
 records_stage_is : (f : FileModel) (j : ℕ) → has_bin f j ≡ true → records_stage f j ≡ answered (record_refused f j) (all_questions (input_for f j))
 unfolding records_stage

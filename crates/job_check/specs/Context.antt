@@ -1,20 +1,26 @@
--- A job in view: a file in whose memory table and shaders no rule stands, and one of its jobs, each of whose handles names a buffer
+-- A job in view: a file in whose memory table no rule stands, what is told of its shaders, and one of its jobs, each of whose handles names a buffer
 -- of the job's client, and whose lists begin in the lists' region or where it ends.
 use Rattle.std.specs.Prelude.{◌≡◌, ℕ, ◌<◌, ◌≤◌, List, length, Option}
 use Rattle.buffer_table.specs.{Table.TableModel, Handles.AreNumbersOf, Sound.IsSound}
 use Rattle.job_format.specs.{File.IsWellFormed, File.IsJobWellFormed, Model.FileModel, Model.JobModel}
 use Rattle.relocation.specs.{declared.layout.Layout.Layout, declared.layout.Lengths.Lengths, Layout.region_end}
 use Rattle.qpu_isa.specs.Shader.{ShaderModel}
-use Rattle.job_check.specs.{Shaders.table_of, Shaders.AreShadersIn, Emit.lengths_of}
+use Rattle.shader_records.specs.Inputs.{AreShaped}
+use Rattle.job_check.specs.{Shaders.table_of, Shaders.shaders_of, Emit.lengths_of}
 use Rattle.job_check.specs.Jobs.{job_of, lists_begin, layout_of, bin_list_of, records_of, streams_of, render_list_of}
 
--- what contracts see: the file, and the job's number
+-- what contracts see: the file, the job's number, and what is told of the shaders
 pub record InView : Type 0 where
   pub file : FileModel
   pub number : ℕ
+  pub shaders : List (Option ShaderModel)
 
-abbrev pub in_view : FileModel → ℕ → InView
-in_view f j = record { file = f; number = j }
+abbrev pub in_view : FileModel → ℕ → List (Option ShaderModel) → InView
+in_view f j shaders = record { file = f; number = j; shaders = shaders }
+
+-- What is told of the shaders is true.
+abbrev pub IsTold : InView → Type 0
+IsTold v = v.shaders ≡ shaders_of v.file
 
 -- its entry, where its lists go, and the lists that the hardware is given, with how many bytes they are
 abbrev pub job_in : InView → JobModel
@@ -45,7 +51,8 @@ pub record IsContext (v : InView) (job : JobModel) (table : TableModel) (shaders
   pub job_is : job ≡ job_of v.file v.number
   pub limits : IsJobWellFormed job
   pub table_is : table ≡ table_of v.file
-  pub shaders_are : AreShadersIn v.file shaders
+  pub shaders_are : shaders ≡ v.shaders
+  pub shaped : AreShaped (table_of v.file) shaders
   pub sound : IsSound v.file.mem_size v.file.regions v.file.buffers
   pub handles_are : handles ≡ job.handles
   pub numbers : AreNumbersOf table handles

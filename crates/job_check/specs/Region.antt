@@ -1,7 +1,7 @@
 -- The lists of all jobs of a file as one stretch of bytes, from where the lists of job 0 begin to where those of the last job end: zeros,
 -- but for the lists. Where the file is accepted, this is what the memory holds there.
-use Rattle.std.specs.Prelude.{◌≡◌, ℕ, zero, suc, ◌+◌, ◌-◌, ◌≤◌, List, [], ◌++◌, length, None}
-use Rattle.std.specs.{List.AllByRecursion, Prelude.Option}
+use Rattle.std.specs.Prelude.{◌≡◌, ℕ, zero, suc, ◌+◌, ◌-◌, ◌≤◌, List, [], ◌++◌, length, Option, Some, None}
+use Rattle.std.specs.List.{AllByRecursion}
 use Rattle.field_words.specs.{Questions.first_of, Writes.Part, Writes.emitted}
 use Rattle.job_format.specs.Model.{FileModel}
 use Rattle.qpu_isa.specs.Shader.{ShaderModel}
@@ -40,7 +40,19 @@ pub record IsRegion (f : FileModel) (region : Region) : Type 0 where
   pub parts_fit : PartsFit (region_size f (length f.jobs)) (regions_parts f (length f.jobs))
   pub each_job : AllByRecursion (IsInside (region_end f.regions)) region.layouts.items
 
+-- Whatever is told of the shaders: the region has as many bytes as its lists take, and each job its layout and its lengths.
+pub record IsLaid (f : FileModel) (region : Region) : Type 0 where
+  pub size : length region.bytes.items ≡ region_size f (length f.jobs)
+  pub layouts_are : region.layouts.items ≡ layouts_of f
+  pub count : length region.lengths.items ≡ length f.jobs
+  pub fits : f.regions.lists_place + region_size f (length f.jobs) ≤ region_end f.regions
+
 -- Shaders that were checked before: no rule stands of any, and what is kept of them is what is told.
 pub record AreChecked (f : FileModel) (shaders : List (Option ShaderModel)) : Type 0 where
   pub none : first_of (shaders_stage f) ≡ None
   pub are : AreShadersIn f shaders
+
+-- P, where what was told before holds, or where nothing was
+abbrev pub Under : {X : Type 0} → Option X → (X → Type 0) → Type 0 → Type 0
+Under None Holds P = P
+Under (Some told) Holds P = Holds told → P

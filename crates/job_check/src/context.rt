@@ -5,8 +5,8 @@ ghost use Rattle.job_format.specs.File.{IsWellFormed, IsJobWellFormed};
 ghost use Rattle.job_format.specs.Parts.{parts_view, job_parts_view};
 ghost use Rattle.buffer_table.specs.Sound.{IsSound};
 ghost use Rattle.job_format.specs.declared.rule.Stage.TheVariants.{X as StageX};
-ghost use Rattle.shader_records.specs.Inputs.{shaders_view};
-ghost use Rattle.job_check.specs.Shaders.{table_of, AreShadersIn};
+ghost use Rattle.shader_records.specs.Inputs.{shaders_view, AreShaped};
+ghost use Rattle.job_check.specs.Shaders.{table_of};
 ghost use Rattle.job_check.specs.Jobs.{job_of, lists_begin, layout_of, end_of};
 ghost use Rattle.job_check.specs.Context.{in_view};
 ghost use Rattle.relocation.specs.Layout.{region_end};
@@ -24,8 +24,8 @@ use relocation::Layout;
 use std::alloc::Global;
 use std::marker::Model;
 
-/// A job in view, with what all its stages ask: the file with its memory table and its shaders, of which no rule stands,
-/// the job's number, its handles, of which none is refused, and where its lists go. A further stage is a further method.
+/// A job in view, with what all its stages ask: the file with its memory table, of which no rule stands, what is told of its
+/// shaders, the job's number, its handles, of which none is refused, and where its lists go. A further stage is a further method.
 #[derive(Drop)]
 pub struct Context<'a, 'b> {
     pub file: &'a FileParts<'b>,
@@ -45,9 +45,9 @@ impl<'a, 'b> Model for Context<'a, 'b> {
     ghost use Rattle.job_format.specs.Parts.{parts_view, job_parts_view};
     ghost use Rattle.shader_records.specs.Inputs.{shaders_view};
 
-    ghost view = { λ c. record { file = parts_view c.file.now; number = c.number } };
+    ghost view = { λ c. record { file = parts_view c.file.now; number = c.number; shaders = shaders_view c.shaders.now.items } };
 
-    ghost invariant = { λ c. IsContext (record { file = parts_view c.file.now; number = c.number }) (job_parts_view c.job.now)
+    ghost invariant = { λ c. IsContext (record { file = parts_view c.file.now; number = c.number; shaders = shaders_view c.shaders.now.items }) (job_parts_view c.job.now)
         c.table.now (shaders_view c.shaders.now.items) c.handles c.layout };
 }
 
@@ -78,9 +78,10 @@ impl<'a, 'b> Context<'a, 'b> {
         requires place_is { place ≡ lists_begin (parts_view file.now) number }
         requires begins { place ≤ region_end file.now.regions }
         requires table_is { table.now ≡ table_of (parts_view file.now) }
-        requires shaders_are { AreShadersIn (parts_view file.now) (shaders_view shaders.now.items) }
+        requires shaped { AreShaped (table_of (parts_view file.now)) (shaders_view shaders.now.items) }
         requires sound { IsSound file.now.mem_size file.now.regions file.now.buffers.items }
-        ensures answers { Answers (handles_stage (parts_view file.now) number) (λ c. c ≡ in_view (parts_view file.now) number) result }
+        ensures answers { Answers (handles_stage (parts_view file.now) number)
+            (λ c. c ≡ in_view (parts_view file.now) number (shaders_view shaders.now.items)) result }
         ensures memory { NeverHidesFault (handles_stage (parts_view file.now) number) result }
     {
         let job = job_at(file, number);

@@ -18,7 +18,7 @@ mod whole;
 
 pub use check::{Checked, check_job};
 pub use context::job_at;
-pub use refusals::content_offset;
+pub use refusals::{bin_offset, content_offset, part_offset};
 pub use region::{Region, check_parts};
 pub use shaders::{content_at, shader_in, words_of};
 pub use upgrade::upgrade_changes_nothing;

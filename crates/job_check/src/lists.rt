@@ -5,7 +5,7 @@ ghost use Rattle.field_words.specs.Questions.{Answers};
 ghost use Rattle.field_words.specs.Writes.{placed, with_bytes};
 ghost use Rattle.render_list.specs.Frame.{IsSetupFor};
 ghost use Rattle.job_check.specs.Jobs.{has_bin, grid_of, places_in, states_in};
-ghost use Rattle.job_check.specs.Context.{job_in, layout_in, bin_list_in, records_in, streams_in, render_list_in, lengths_in};
+ghost use Rattle.job_check.specs.Context.{IsTold, job_in, layout_in, bin_list_in, records_in, streams_in, render_list_in, lengths_in};
 ghost use Rattle.job_check.specs.Faults.{bin_stage, records_stage, surfaces_stage, lists_stages};
 ghost use Rattle.job_check.specs.Emit.{list_parts, later_parts, PartsFit};
 ghost use Rattle.job_check.specs.Told.{IsBinOf, AreRecordsOf, HasStateFirst};
@@ -105,11 +105,12 @@ impl<'a, 'b> Context<'a, 'b> {
         requires some { has_bin self.now.file self.now.number ≡ true }
         requires states { states.now ≡ states_in self.now.file self.now.number }
         requires room { (layout_in self.now).end ≤ length out.old }
-        ensures answers { Answers (records_stage self.now.file self.now.number) (AreRecordsOf self.now.file self.now.number) result }
-        ensures written { IfOk result (λ _. out.new ≡ with_bytes
+        ensures answers { IsTold self.now →
+            Answers (records_stage self.now.file self.now.number) (AreRecordsOf self.now.file self.now.number) result }
+        ensures written { IsTold self.now → IfOk result (λ _. out.new ≡ with_bytes
             (with_bytes out.old (layout_in self.now).records (records_in self.now)) (layout_in self.now).uniforms (streams_in self.now)) }
-        ensures records_fit { IfOk result (λ _. length (records_in self.now) ≤ length (job_in self.now).records) }
-        ensures streams_fit { IfOk result (λ _. length (streams_in self.now) ≤ length (job_in self.now).uniforms) }
+        ensures records_fit { IsTold self.now → IfOk result (λ _. length (records_in self.now) ≤ length (job_in self.now).records) }
+        ensures streams_fit { IsTold self.now → IfOk result (λ _. length (streams_in self.now) ≤ length (job_in self.now).uniforms) }
         ensures takes_no_memory { result ≢ Err OutOfMemory }
     {
         let job = self.job;
@@ -142,9 +143,10 @@ impl<'a, 'b> Context<'a, 'b> {
         out: &mut [u8],
     ) -> Result<Lengths, Stop<Refusal>>
         requires bin { IsBinOf self.now.file self.now.number bin.now }
-        requires records { AreRecordsOf self.now.file self.now.number records.now }
+        requires records { IsTold self.now → AreRecordsOf self.now.file self.now.number records.now }
         requires room { (layout_in self.now).end ≤ length out.old }
-        ensures answers { Answers (surfaces_stage self.now.file self.now.number) (λ lengths. lengths ≡ lengths_in self.now) result }
+        ensures answers { IsTold self.now →
+            Answers (surfaces_stage self.now.file self.now.number) (λ lengths. lengths ≡ lengths_in self.now) result }
         ensures written { IfOk result (λ _. out.new ≡ with_bytes out.old (layout_in self.now).render (render_list_in self.now)) }
         ensures fits { IfOk result (λ _. (layout_in self.now).render + length (render_list_in self.now) ≡ (layout_in self.now).end) }
         ensures takes_no_memory { result ≢ Err OutOfMemory }
@@ -169,10 +171,10 @@ impl<'a, 'b> Context<'a, 'b> {
         requires bin { IsBinOf self.now.file self.now.number bin.now }
         requires room { (layout_in self.now).end ≤ length out.old }
         requires bin_fits { length (bin_list_in self.now) ≤ length (job_in self.now).bin }
-        ensures answers { Answers (records_stage self.now.file self.now.number ++ surfaces_stage self.now.file self.now.number)
+        ensures answers { IsTold self.now → Answers (records_stage self.now.file self.now.number ++ surfaces_stage self.now.file self.now.number)
             (λ lengths. lengths ≡ lengths_in self.now) result }
-        ensures written { IfOk result (λ _. out.new ≡ placed out.old (later_parts self.now.file self.now.number)) }
-        ensures fit { IfOk result (λ _. PartsFit (layout_in self.now).end (list_parts self.now.file self.now.number)) }
+        ensures written { IsTold self.now → IfOk result (λ _. out.new ≡ placed out.old (later_parts self.now.file self.now.number)) }
+        ensures fit { IsTold self.now → IfOk result (λ _. PartsFit (layout_in self.now).end (list_parts self.now.file self.now.number)) }
         ensures takes_no_memory { result ≢ Err OutOfMemory }
     {
         let records = self.records(alloc, &bin.states, out)?;
@@ -184,9 +186,10 @@ impl<'a, 'b> Context<'a, 'b> {
     fn binned(&self, alloc: Global, out: &mut [u8]) -> Result<Lengths, Stop<Refusal>>
         requires some { has_bin self.now.file self.now.number ≡ true }
         requires room { (layout_in self.now).end ≤ length out.old }
-        ensures answers { Answers (lists_stages self.now.file self.now.number) (λ lengths. lengths ≡ lengths_in self.now) result }
-        ensures written { IfOk result (λ _. out.new ≡ placed out.old (list_parts self.now.file self.now.number)) }
-        ensures fit { IfOk result (λ _. PartsFit (layout_in self.now).end (list_parts self.now.file self.now.number)) }
+        ensures answers { IsTold self.now →
+            Answers (lists_stages self.now.file self.now.number) (λ lengths. lengths ≡ lengths_in self.now) result }
+        ensures written { IsTold self.now → IfOk result (λ _. out.new ≡ placed out.old (list_parts self.now.file self.now.number)) }
+        ensures fit { IsTold self.now → IfOk result (λ _. PartsFit (layout_in self.now).end (list_parts self.now.file self.now.number)) }
         ensures memory { result ≡ Err OutOfMemory → HasStateFirst self.now.file self.now.number }
     {
         let bin = self.bin(alloc, out)?;
@@ -225,9 +228,10 @@ impl<'a, 'b> Context<'a, 'b> {
     /// offsets in the window of the lists' region; where a rule stands the window may hold anything.
     pub fn write_lists(&self, alloc: Global, out: &mut [u8]) -> Result<Lengths, Stop<Refusal>>
         requires { (layout_in self.now).end ≤ length out.old }
-        ensures answers { Answers (lists_stages self.now.file self.now.number) (λ lengths. lengths ≡ lengths_in self.now) result }
-        ensures written { IfOk result (λ _. out.new ≡ placed out.old (list_parts self.now.file self.now.number)) }
-        ensures fit { IfOk result (λ _. PartsFit (layout_in self.now).end (list_parts self.now.file self.now.number)) }
+        ensures answers { IsTold self.now →
+            Answers (lists_stages self.now.file self.now.number) (λ lengths. lengths ≡ lengths_in self.now) result }
+        ensures written { IsTold self.now → IfOk result (λ _. out.new ≡ placed out.old (list_parts self.now.file self.now.number)) }
+        ensures fit { IsTold self.now → IfOk result (λ _. PartsFit (layout_in self.now).end (list_parts self.now.file self.now.number)) }
         ensures memory { result ≡ Err OutOfMemory → HasStateFirst self.now.file self.now.number }
     {
         if self.has_bin() {

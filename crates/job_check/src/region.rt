@@ -6,13 +6,14 @@ ghost use Rattle.field_words.specs.Writes.{placed, zeros};
 ghost use Rattle.job_format.specs.File.{IsWellFormed};
 ghost use Rattle.job_format.specs.Parts.{parts_view};
 ghost use Rattle.buffer_table.specs.Sound.{IsSound};
-ghost use Rattle.shader_records.specs.Inputs.{shaders_view};
-ghost use Rattle.job_check.specs.Shaders.{table_of, AreShadersIn};
+ghost use Rattle.shader_records.specs.Inputs.{shaders_view, AreShaped};
+ghost use Rattle.job_check.specs.Shaders.{table_of, shaders_of};
 ghost use Rattle.relocation.specs.Layout.{region_end};
 ghost use Rattle.job_check.specs.Jobs.{lists_begin, layout_of, end_of};
 ghost use Rattle.job_check.specs.Faults.{table_stage_within, shaders_stage, lists_stages, laid_stages, job_stages, jobs_stages, stages_within};
 ghost use Rattle.job_check.specs.Emit.{ArePlaced, PartsFit, list_parts, lengths_of, moved};
-ghost use Rattle.job_check.specs.Region.{region_size, region_from, region_parts, IsRegion, AreChecked};
+ghost use Rattle.job_check.specs.Region.{region_size, region_from, region_parts, IsLaid, IsRegion, AreChecked, Under};
+ghost use Rattle.job_check.specs.Context.{IsTold};
 
 use super::context::Context;
 use super::layout::next_place;
@@ -59,10 +60,10 @@ fn write_at(
     from: usize,
 ) -> Result<Lengths, Stop<Refusal>>
     requires { from + (layout_of job.now.file job.now.number).end ≡ length region.old }
-    ensures answers { Answers (lists_stages job.now.file job.now.number)
+    ensures answers { IsTold job.now → Answers (lists_stages job.now.file job.now.number)
         (λ lengths. lengths ≡ lengths_of job.now.file job.now.number) result }
-    ensures written { IfOk result (λ _. region.new ≡ placed region.old (moved from (list_parts job.now.file job.now.number))) }
-    ensures fit { IfOk result (λ _. PartsFit (layout_of job.now.file job.now.number).end (list_parts job.now.file job.now.number)) }
+    ensures written { IsTold job.now → IfOk result (λ _. region.new ≡ placed region.old (moved from (list_parts job.now.file job.now.number))) }
+    ensures fit { IsTold job.now → IfOk result (λ _. PartsFit (layout_of job.now.file job.now.number).end (list_parts job.now.file job.now.number)) }
 {
     job.write_lists(alloc, &mut region[from..])
 }
@@ -75,12 +76,13 @@ fn write_region(
     region: &mut Vec<u8>,
 ) -> Result<Lengths, Stop<Refusal>>
     requires { length region.old.items ≡ region_size job.now.file job.now.number }
-    ensures answers { Answers (lists_stages job.now.file job.now.number)
+    ensures size { IfOk result (λ _. length region.new.items ≡ region_size job.now.file (job.now.number + 1)) }
+    ensures answers { IsTold job.now → Answers (lists_stages job.now.file job.now.number)
         (λ lengths. lengths ≡ lengths_of job.now.file job.now.number) result }
-    ensures written { IfOk result (λ _. region.new.items ≡
+    ensures written { IsTold job.now → IfOk result (λ _. region.new.items ≡
         placed (region.old.items ++ zeros (region_size job.now.file (job.now.number + 1) - length region.old.items))
         (region_parts job.now.file job.now.number)) }
-    ensures fit { IfOk result (λ _. PartsFit (layout_of job.now.file job.now.number).end (list_parts job.now.file job.now.number)) }
+    ensures fit { IsTold job.now → IfOk result (λ _. PartsFit (layout_of job.now.file job.now.number).end (list_parts job.now.file job.now.number)) }
 {
     let from = job.place_in_region() as usize;
     extend_region(region, from + job.layout.end as usize)?;
@@ -90,11 +92,14 @@ fn write_region(
 /// The rules of a job in view, and its lists in the region. The rule that its lists fit is asked last.
 fn place_lists(alloc: Global, job: &Context, region: &mut Vec<u8>) -> Result<Lists, Stop<Refusal>>
     requires { length region.old.items ≡ region_size job.now.file job.now.number }
-    ensures answers { Answers (laid_stages job.now.file job.now.number) (ArePlaced job.now.file job.now.number) result }
-    ensures written { IfOk result (λ _. region.new.items ≡
+    ensures size { IfOk result (λ _. length region.new.items ≡ region_size job.now.file (job.now.number + 1)) }
+    ensures layout { IfOk result (λ lists. lists.layout ≡ layout_of job.now.file job.now.number) }
+    ensures answers { IsTold job.now →
+        Answers (laid_stages job.now.file job.now.number) (ArePlaced job.now.file job.now.number) result }
+    ensures written { IsTold job.now → IfOk result (λ _. region.new.items ≡
         placed (region.old.items ++ zeros (region_size job.now.file (job.now.number + 1) - length region.old.items))
         (region_parts job.now.file job.now.number)) }
-    ensures fit { IfOk result (λ _. PartsFit (layout_of job.now.file job.now.number).end (list_parts job.now.file job.now.number)) }
+    ensures fit { IsTold job.now → IfOk result (λ _. PartsFit (layout_of job.now.file job.now.number).end (list_parts job.now.file job.now.number)) }
     ensures fits { IfOk result (λ lists. end_of lists.layout ≤ region_end job.now.file.regions) }
 {
     let layout = job.layout;
@@ -121,14 +126,18 @@ fn check_one(
     requires place_is { place ≡ lists_begin (parts_view file.now) number }
     requires begins { place ≤ region_end file.now.regions }
     requires table_is { table.now ≡ table_of (parts_view file.now) }
-    requires shaders_are { AreShadersIn (parts_view file.now) (shaders_view shaders.now.items) }
+    requires shaped { AreShaped (table_of (parts_view file.now)) (shaders_view shaders.now.items) }
     requires sound { IsSound file.now.mem_size file.now.regions file.now.buffers.items }
     requires size { length region.old.items ≡ region_size (parts_view file.now) number }
-    ensures answers { Answers (job_stages (parts_view file.now) number) (ArePlaced (parts_view file.now) number) result }
-    ensures written { IfOk result (λ _. region.new.items ≡
+    ensures size { IfOk result (λ _. length region.new.items ≡ region_size (parts_view file.now) (number + 1)) }
+    ensures layout { IfOk result (λ lists. lists.layout ≡ layout_of (parts_view file.now) number) }
+    ensures answers { shaders_view shaders.now.items ≡ shaders_of (parts_view file.now) →
+        Answers (job_stages (parts_view file.now) number) (ArePlaced (parts_view file.now) number) result }
+    ensures written { shaders_view shaders.now.items ≡ shaders_of (parts_view file.now) → IfOk result (λ _. region.new.items ≡
         placed (region.old.items ++ zeros (region_size (parts_view file.now) (number + 1) - length region.old.items))
         (region_parts (parts_view file.now) number)) }
-    ensures fit { IfOk result (λ _. PartsFit (layout_of (parts_view file.now) number).end (list_parts (parts_view file.now) number)) }
+    ensures fit { shaders_view shaders.now.items ≡ shaders_of (parts_view file.now) →
+        IfOk result (λ _. PartsFit (layout_of (parts_view file.now) number).end (list_parts (parts_view file.now) number)) }
     ensures fits { IfOk result (λ lists. end_of lists.layout ≤ region_end file.now.regions) }
 {
     let job = Context::open(alloc, file, number, place, table, shaders)?;
@@ -161,12 +170,14 @@ fn check_jobs(
 ) -> Result<(), Stop<Refusal>>
     requires well_formed { IsWellFormed (parts_view file.now) }
     requires table_is { table.now ≡ table_of (parts_view file.now) }
-    requires shaders_are { AreShadersIn (parts_view file.now) (shaders_view shaders.now.items) }
+    requires shaped { AreShaped (table_of (parts_view file.now)) (shaders_view shaders.now.items) }
     requires sound { IsSound file.now.mem_size file.now.regions file.now.buffers.items }
     requires no_bytes { region.old.bytes.items ≡ [] }
     requires no_layouts { region.old.layouts.items ≡ [] }
     requires no_lengths { region.old.lengths.items ≡ [] }
-    ensures { Answers (jobs_stages (parts_view file.now)) (λ _. IsRegion (parts_view file.now) region.new) result }
+    ensures laid { IfOk result (λ _. IsLaid (parts_view file.now) region.new) }
+    ensures answers { shaders_view shaders.now.items ≡ shaders_of (parts_view file.now) →
+        Answers (jobs_stages (parts_view file.now)) (λ _. IsRegion (parts_view file.now) region.new) result }
 {
     let mut place = file.regions.lists_place;
     for number in 0..file.jobs.len() {
@@ -193,9 +204,10 @@ fn told_shaders(
     told: Option<Vec<Option<ShaderInfo>>>,
 ) -> Result<Vec<Option<ShaderInfo>>, Stop<Refusal>>
     requires well_formed { IsWellFormed (parts_view file.now) }
-    requires checked { IfSome told (λ shaders. AreChecked (parts_view file.now) (shaders_view shaders.items)) }
-    ensures { Answers (shaders_stage (parts_view file.now))
-        (λ shaders. AreShadersIn (parts_view file.now) (shaders_view shaders.items)) result }
+    requires shaped { IfSome told (λ shaders. AreShaped (table_of (parts_view file.now)) (shaders_view shaders.items)) }
+    ensures shaped { IfOk result (λ shaders. AreShaped (table_of (parts_view file.now)) (shaders_view shaders.items)) }
+    ensures answers { IfSome told (λ shaders. AreChecked (parts_view file.now) (shaders_view shaders.items)) →
+        Answers (shaders_stage (parts_view file.now)) (λ shaders. shaders_view shaders.items ≡ shaders_of (parts_view file.now)) result }
 {
     match told {
         Some(shaders) => Ok(shaders),
@@ -213,12 +225,14 @@ fn check_told(
 ) -> Result<(), Stop<Refusal>>
     requires well_formed { IsWellFormed (parts_view file.now) }
     requires table_is { table.now ≡ table_of (parts_view file.now) }
-    requires checked { IfSome told (λ shaders. AreChecked (parts_view file.now) (shaders_view shaders.items)) }
+    requires shaped { IfSome told (λ shaders. AreShaped (table_of (parts_view file.now)) (shaders_view shaders.items)) }
     requires sound { IsSound file.now.mem_size file.now.regions file.now.buffers.items }
     requires no_bytes { region.old.bytes.items ≡ [] }
     requires no_layouts { region.old.layouts.items ≡ [] }
     requires no_lengths { region.old.lengths.items ≡ [] }
-    ensures { Answers (shaders_stage (parts_view file.now) ++ jobs_stages (parts_view file.now))
+    ensures laid { IfOk result (λ _. IsLaid (parts_view file.now) region.new) }
+    ensures answers { IfSome told (λ shaders. AreChecked (parts_view file.now) (shaders_view shaders.items)) →
+        Answers (shaders_stage (parts_view file.now) ++ jobs_stages (parts_view file.now))
         (λ _. IsRegion (parts_view file.now) region.new) result }
 {
     let shaders = told_shaders(alloc, file, told)?;
@@ -227,7 +241,8 @@ fn check_told(
 
 /// Checks the parts of a file whose memory has at most `limit` bytes, and makes no memory of its jobs; contents and lists are read where
 /// they lie. The shaders may have been checked before: then `told` has what was told of the shader in each Code buffer, and S isn't asked
-/// again; the answer is the one that asking would give. `Ok` comes exactly where no rule stands of the memory table, of the shaders, and of
+/// again; the answer is the one that asking would give. Where `told` is false, the answer may be wrong; all places are inside all the same.
+/// `Ok` comes exactly where no rule stands of the memory table, of the shaders, and of
 /// any job's handles, its binner list, its records and uniforms, its frame and surfaces, and its layout.
 ///
 /// # Errors
@@ -241,9 +256,12 @@ pub fn check_parts(
 ) -> Result<Region, Stop<Refusal>>
     requires limit { limit ≤ most_place }
     requires well_formed { IsWellFormed (parts_view parts.now) }
-    requires checked { IfSome told (λ shaders. AreChecked (parts_view parts.now) (shaders_view shaders.items)) }
-    ensures answers { Answers (stages_within limit (parts_view parts.now)) (IsRegion (parts_view parts.now)) result }
-    ensures first { NamesFirst (stages_within limit (parts_view parts.now)) result }
+    requires shaped { IfSome told (λ shaders. AreShaped (table_of (parts_view parts.now)) (shaders_view shaders.items)) }
+    ensures laid { IfOk result (IsLaid (parts_view parts.now)) }
+    ensures answers { Under told (λ shaders. AreChecked (parts_view parts.now) (shaders_view shaders.items))
+        (Answers (stages_within limit (parts_view parts.now)) (IsRegion (parts_view parts.now)) result) }
+    ensures first { Under told (λ shaders. AreChecked (parts_view parts.now) (shaders_view shaders.items))
+        (NamesFirst (stages_within limit (parts_view parts.now)) result) }
     ensures memory { NeverHidesFault (table_stage_within limit (parts_view parts.now)) result }
     ensures sound { IsOk result → IsSound parts.now.mem_size parts.now.regions parts.now.buffers.items }
     ensures small { IsOk result → parts.now.mem_size ≤ limit }

@@ -4,15 +4,16 @@ use Rattle.std.proofs.{lemmas.Bool.cases_lt, lemmas.List.append-nil, lemmas.List
 use Rattle.std.specs.Int.{to_le_bytes, w32}
 use Rattle.field_words.specs.{Words.u32_at, Pieces.IsPiece, WordBytes.word_bytes, Questions.first_of}
 use Rattle.field_words.proofs.{Pieces.front_piece, Pieces.rest_piece, WordBytes.word_piece, Numbers.u32_of_piece}
-use Rattle.qpu_isa.specs.Shader.{ShaderModel, IsSoundShader}
+use Rattle.qpu_isa.specs.Shader.{ShaderModel}
 use Rattle.shader_records.specs.Sources.{state_at, record_source, record_offset, uniform_source, stream_offset, code_number, shader_behind, shader_used, taken_before, given_before}
 use Rattle.shader_records.specs.Emission.{emitted_word, stream_place, record_text, records_text, stream_word_of, stream_text, streams_text, uniforms_text, emitted_records, emitted_uniforms, HasStreams}
-use Rattle.shader_records.specs.{Inputs.InputModel, Inputs.AreInputs, Named.AreInMemory, Named.IsEmittedIn}
+use Rattle.shader_records.specs.{Inputs.InputModel, Inputs.AreInputs, Inputs.IsShaped, Named.AreInMemory, Named.IsEmittedIn}
 use Rattle.shader_records.specs.Rules.{use_questions, all_questions}
 use Rattle.packets.specs.StateWord.{record_room}
 use Rattle.shader_records.proofs.Lengths.{IsStateInside, state_inside, length_streams, length_records, length_uniforms}
 use Rattle.shader_records.proofs.{Fine.IsStateFine, Fine.state_fine, Steps.given_rises, Inside.emitted_in}
 use Rattle.shader_records.proofs.StreamFacts.{stream_fits, word_fits}
+use Rattle.shader_records.proofs.Shaders.{shaped}
 
 -- A text that stands among others, which go before it and behind it.
 pub record StandsIn (whole text : List ℕ) (at : ℕ) : Type 0 where
@@ -114,22 +115,22 @@ word_in_memory memory place word n i piece below fits =
     let inner = stands_of_piece (word_bytes word n) (to_le_bytes w32 (word i)) (4 * i) 4 here in
     u32_of_piece memory (place + 4 * i) (word i) fits (piece_in memory (word_bytes word n) (to_le_bytes w32 (word i)) place (4 * i) piece inner)
 
-sound_behind : (input : InputModel) (o : Option ℕ) (shader : ShaderModel) → AreInputs input → shader_behind input.shaders o ≡ Some shader → IsSoundShader shader
-sound_behind input None shader inputs used = cc
-sound_behind input (Some number) shader inputs used = inputs.shaders.sound number shader used
+shaped_behind : (input : InputModel) (o : Option ℕ) (shader : ShaderModel) → AreInputs input → shader_behind input.shaders o ≡ Some shader → IsShaped shader
+shaped_behind input None shader inputs used = cc
+shaped_behind input (Some number) shader inputs used = shaped shader (inputs.shaders.sound number shader used)
 
-sound_used : (input : InputModel) (at s : ℕ) (shader : ShaderModel) → AreInputs input → shader_used input at s ≡ Some shader → IsSoundShader shader
+shaped_used : (input : InputModel) (at s : ℕ) (shader : ShaderModel) → AreInputs input → shader_used input at s ≡ Some shader → IsShaped shader
 unfolding shader_used
-sound_used input at s shader inputs used = sound_behind input (code_number input at s) shader inputs used
+shaped_used input at s shader inputs used = shaped_behind input (code_number input at s) shader inputs used
 
 -- Word i of the stream of shader s of state k.
 stream_in_memory : (input : InputModel) (k first here : ℕ) (memory : List ℕ) (s : ℕ) (shader : ShaderModel) (i : ℕ) → s < 3
-    → shader_used input (record_source input k) s ≡ Some shader → i < shader.uniforms → IsSoundShader shader → AreInMemory input → IsStateFine input k → IsStateInside input k
+    → shader_used input (record_source input k) s ≡ Some shader → i < shader.uniforms → IsShaped shader → AreInMemory input → IsStateFine input k → IsStateInside input k
     → here ≡ first + stream_offset input k → first + length input.uniforms < 2 ^ 32
     → IsPiece memory here (length (streams_text input (record_source input k) (uniform_source input k) here 3)) (streams_text input (record_source input k) (uniform_source input k) here 3)
     → u32_at memory (stream_place input (record_source input k) here s + 4 * i) ≡ stream_word_of input (uniform_source input k + taken_before input (record_source input k) s) shader (stream_place input (record_source input k) here s) i
 unfolding stream_place stream_text
-stream_in_memory input k first here memory s shader i small used inside sound fits fine room place limit state =
+stream_in_memory input k first here memory s shader i small used inside is fits fine room place limit state =
     let at : ℕ = record_source input k in
     let from : ℕ = uniform_source input k in
     let source : ℕ = from + taken_before input at s in
@@ -141,7 +142,7 @@ stream_in_memory input k first here memory s shader i small used inside sound fi
     let below = given_rises input at s small in
     let given = room.given in
     word_in_memory memory stream (stream_word_of input source shader stream) shader.uniforms i words inside
-    (stream_fits input source shader stream i fits sound none (omega (arith, below, given, place, limit)))
+    (stream_fits input source shader stream i fits is none (omega (arith, below, given, place, limit)))
 
 -- The streams of state k's shaders, in a memory that has all streams.
 pub streams_in_memory : (input : InputModel) (records first : ℕ) (memory : List ℕ) (k : ℕ) → AreInputs input → AreInMemory input
@@ -156,7 +157,7 @@ streams_in_memory input records first memory k inputs fits none below room emitt
     let state = piece_in memory (emitted_uniforms input first) (streams_text input at from here 3) first (stream_offset input k) emitted.uniforms_are all in
     record {
       word = λ s shader i small used inside.
-          stream_in_memory input k first here memory s shader i small used inside (sound_used input at s shader inputs used) fits (state_fine input k none below) (state_inside input k none below) refl room state;
+          stream_in_memory input k first here memory s shader i small used inside (shaped_used input at s shader inputs used) fits (state_fine input k none below) (state_inside input k none below) refl room state;
     }
 
 -- Word i of state k's record.

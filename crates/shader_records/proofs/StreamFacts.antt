@@ -11,7 +11,7 @@ use Rattle.texture_layouts.proofs.Inside.{in_buffer}
 use Rattle.emitted_facts.specs.Facts.{setup, word_or_zero, IsSampleIn, IsStream}
 use Rattle.shader_records.specs.Sources.{sample_number, source_word, place_in, size_in, handles_size, code_number, attribute_number, record_word}
 use Rattle.shader_records.specs.Emission.{moved, moved_word, is_address, addressed_word, stream_word_of, shader_word, attribute_word, emitted_word}
-use Rattle.shader_records.specs.{Inputs.InputModel, Rules.setup_questions, Rules.use_questions, Rules.record_questions}
+use Rattle.shader_records.specs.{Inputs.InputModel, Inputs.IsShaped, Rules.setup_questions, Rules.use_questions, Rules.record_questions}
 use Rattle.shader_records.specs.Named.{AreInMemory, IsDataIn}
 use Rattle.shader_records.proofs.Fine.{sample_fine, address_fits}
 use Rattle.packets.specs.StateWord.{attribute_count, record_size}
@@ -46,16 +46,16 @@ pub first_setup : (word : ℕ → ℕ) (o : Option ℕ) (k : ℕ) → k ≡ or_z
 first_setup word None k here some = cc
 first_setup word (Some n) k here some = ap word (sym here)
 
-pub base_fits : (input : InputModel) (from : ℕ) (shader : ShaderModel) (i : ℕ) → IsSoundShader shader → i < length shader.samples
+pub base_fits : (input : InputModel) (from : ℕ) (shader : ShaderModel) (i : ℕ) → IsShaped shader → i < length shader.samples
     → first_of (use_questions input from (Some shader)) ≡ None
     → source_word input from shader (first_position (sample_at shader i)) < 2 ^ 32
     → source_word input from shader (first_position (sample_at shader i)) ≤ size_in input.table (sample_number input from i) + 4095
 unfolding setup_questions
-base_fits input from shader i sound below none fits =
+base_fits input from shader i shaped below none fits =
     let sample : Sample = sample_at shader i in
     let word : ℕ → ℕ = source_word input from shader in
     let fine = sample_fine input from shader i none below in
-    let same : setup word sample 0 ≡ word (first_position sample) = first_setup word (position sample 0) (first_position sample) refl (sound.samples i below).first in
+    let same : setup word sample 0 ≡ word (first_position sample) = first_setup word (position sample 0) (first_position sample) refl (shaped.samples i below).first in
     rw (← same) (setup_base sample.direct (setup word sample 0) (setup word sample 1) (setup word sample 2) (setup word sample 3) (size_in input.table (sample_number input from i)) (rw same fits) fine.fits)
 
 next : (n : ℕ) → n + 1 ≡ suc n
@@ -131,34 +131,34 @@ unfolding source_word
 source_fits input from shader k fits = u32_fits input.uniforms (from + 4 * length shader.samples + 4 * k) fits.uniforms
 
 -- What is added to a word is nothing, or the place of the buffer of a sample whose first word it is.
-moved_one : (input : InputModel) (from : ℕ) (shader : ShaderModel) (n k : ℕ) (b : Bool) → (first_position (sample_at shader n) == k) ≡ b → AreInMemory input → IsSoundShader shader
+moved_one : (input : InputModel) (from : ℕ) (shader : ShaderModel) (n k : ℕ) (b : Bool) → (first_position (sample_at shader n) == k) ≡ b → AreInMemory input → IsShaped shader
     → first_of (use_questions input from (Some shader)) ≡ None → suc n ≤ length shader.samples → source_word input from shader k + moved input from shader n k < 2 ^ 32
     → source_word input from shader k + (if b then place_in input.table (sample_number input from n) else moved input from shader n k) < 2 ^ 32
-moved_one input from shader n k false is fits sound none upto before = before
-moved_one input from shader n k true is fits sound none upto before =
+moved_one input from shader n k false is fits shaped none upto before = before
+moved_one input from shader n k true is fits shaped none upto before =
     let same : first_position (sample_at shader n) ≡ k = eqb-true (first_position (sample_at shader n)) k is in
     let here = ap (source_word input from shader) same in
-    let base = base_fits input from shader n sound (omega (arith, upto)) none (source_fits input from shader (first_position (sample_at shader n)) fits) in
+    let base = base_fits input from shader n shaped (omega (arith, upto)) none (source_fits input from shader (first_position (sample_at shader n)) fits) in
     let limit = place_limit input (sample_number input from n) fits in
     omega (arith, here, base, limit)
 
-moved_fits : (input : InputModel) (from : ℕ) (shader : ShaderModel) (n k : ℕ) → AreInMemory input → IsSoundShader shader
+moved_fits : (input : InputModel) (from : ℕ) (shader : ShaderModel) (n k : ℕ) → AreInMemory input → IsShaped shader
     → first_of (use_questions input from (Some shader)) ≡ None → n ≤ length shader.samples → source_word input from shader k + moved input from shader n k < 2 ^ 32
 unfolding moved
-moved_fits input from shader zero k fits sound none upto = let s = source_fits input from shader k fits in omega (arith, s)
-moved_fits input from shader (suc n) k fits sound none upto =
-    moved_one input from shader n k (first_position (sample_at shader n) == k) refl fits sound none upto (moved_fits input from shader n k fits sound none (omega arith))
+moved_fits input from shader zero k fits shaped none upto = let s = source_fits input from shader k fits in omega (arith, s)
+moved_fits input from shader (suc n) k fits shaped none upto =
+    moved_one input from shader n k (first_position (sample_at shader n) == k) refl fits shaped none upto (moved_fits input from shader n k fits shaped none (omega arith))
 
 either : (b : Bool) (x y : ℕ) → x < 2 ^ 32 → y < 2 ^ 32 → (if b then x else y) < 2 ^ 32
 either true x y first second = first
 either false x y first second = second
 
-pub stream_fits : (input : InputModel) (from : ℕ) (shader : ShaderModel) (stream k : ℕ) → AreInMemory input → IsSoundShader shader
+pub stream_fits : (input : InputModel) (from : ℕ) (shader : ShaderModel) (stream k : ℕ) → AreInMemory input → IsShaped shader
     → first_of (use_questions input from (Some shader)) ≡ None → stream < 2 ^ 32 → stream_word_of input from shader stream k < 2 ^ 32
 unfolding addressed_word moved_word
-stream_fits input from shader stream k fits sound none place =
+stream_fits input from shader stream k fits shaped none place =
     either (is_address shader (length shader.address_words) k) stream (source_word input from shader k + moved input from shader (length shader.samples) k) place
-    (moved_fits input from shader (length shader.samples) k fits sound none (omega arith))
+    (moved_fits input from shader (length shader.samples) k fits shaped none (omega arith))
 
 -- The words of a record.
 shader_fits : (input : InputModel) (at state : ℕ) (streams : ℕ → ℕ) (i : ℕ) → i < 9 → AreInMemory input → ((s : ℕ) → s < 3 → streams s < 2 ^ 32) → shader_word input at state streams i < 2 ^ 32

@@ -1,9 +1,10 @@
 -- What the check of shader records is given: the states of the binner list, the parts of the job file,
 -- the memory table with the job's handles, and what is known of each buffer's shader.
-use Rattle.std.specs.Prelude.{◌≡◌, ℕ, ◌<◌, ◌≤◌, List, length, map, Option, Some, None, slice_index_or, is_some, not}
+use Rattle.std.specs.Prelude.{◌≡◌, ℕ, ◌<◌, ◌≤◌, List, length, map, Option, Some, None, slice_index_or, is_some, not, true}
 use Rattle.field_words.specs.Sizes.{most_list}
 use Rattle.buffer_table.specs.{Table.TableModel, Table.buffer_at, Handles.AreNumbersOf, Handles.is_plain}
-use Rattle.qpu_isa.specs.{declared.inst.ShaderInfo.ShaderInfo, Shader.ShaderModel, Shader.shader_view, Shader.IsSoundShader}
+use Rattle.qpu_isa.specs.{declared.inst.Sample.Sample, declared.inst.ShaderInfo.ShaderInfo}
+use Rattle.qpu_isa.specs.Shader.{ShaderModel, shader_view, sample_at, position, address_at, IsSoundShader}
 use Rattle.bin_list.specs.declared.state.State.{State}
 
 pub record InputModel : Type 0 where
@@ -35,6 +36,27 @@ pub record AreShadersOf (table : TableModel) (shaders : List (Option ShaderModel
 pub record AreInputs (input : InputModel) : Type 0 where
   pub handles : AreNumbersOf input.table input.handles
   pub shaders : AreShadersOf input.table input.shaders
+
+-- A sample has four places for positions, of which the first is filled, and all are in the stream.
+pub record IsShapedSample (shader : ShaderModel) (sample : Sample) : Type 0 where
+  pub four : length sample.p ≡ 4
+  pub first : is_some (position sample 0) ≡ true
+  pub below : (n k : ℕ) → position sample n ≡ Some k → k < shader.uniforms
+
+-- All that the check asks of what is told of a shader: its samples are like this, and its address words are in the stream. Two of these
+-- words may be one, as in no sound shader.
+pub record IsShaped (shader : ShaderModel) : Type 0 where
+  pub samples : (i : ℕ) → i < length shader.samples → IsShapedSample shader (sample_at shader i)
+  pub below : (j : ℕ) → j < length shader.address_words → address_at shader j < shader.uniforms
+
+-- There is one entry for each buffer, and what is told of a shader there has this shape.
+pub record AreShaped (table : TableModel) (shaders : List (Option ShaderModel)) : Type 0 where
+  pub count : length shaders ≡ length table.buffers
+  pub each : (number : ℕ) (shader : ShaderModel) → shader_in shaders number ≡ Some shader → IsShaped shader
+
+pub record AreShapedInputs (input : InputModel) : Type 0 where
+  pub handles : AreNumbersOf input.table input.handles
+  pub shaders : AreShaped input.table input.shaders
 
 -- Its records and its uniforms are no longer than a job file has them.
 pub record Fits (input : InputModel) : Type 0 where

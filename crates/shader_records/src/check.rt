@@ -5,7 +5,7 @@ ghost use Rattle.buffer_table.specs.Table.{most_place};
 ghost use Rattle.field_words.specs.Questions.{first_of, Answers};
 ghost use Rattle.field_words.specs.declared.stop.Stop.TheVariants.{NoMemory as OutOfMemory};
 ghost use Rattle.buffer_table.specs.Handles.{AreNumbersOf};
-ghost use Rattle.shader_records.specs.Inputs.{AreShadersOf, shaders_view, input_of, Fits};
+ghost use Rattle.shader_records.specs.Inputs.{AreShaped, shaders_view, input_of, Fits};
 ghost use Rattle.shader_records.specs.Rules.{all_questions};
 ghost use Rattle.shader_records.specs.Emitted.{IsEmitted};
 
@@ -63,7 +63,7 @@ pub fn check_records(
     out: &mut [u8],
 ) -> Result<RecordInfo, Stop<RecordFault>>
     requires handles { AreNumbersOf table.now handles.now }
-    requires shaders { AreShadersOf table.now (shaders_view shaders.now) }
+    requires shaders { AreShaped table.now (shaders_view shaders.now) }
     requires records_limit { length records.now ≤ most_list }
     requires uniforms_limit { length uniforms.now ≤ most_list }
     requires place_limit { layout.now.place ≤ most_place }

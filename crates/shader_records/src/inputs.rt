@@ -4,8 +4,8 @@ ghost use Rattle.field_words.specs.Words.{u32_at};
 ghost use Rattle.field_words.specs.WordBytes.{word_bytes};
 ghost use Rattle.field_words.specs.Writes.{with_bytes};
 ghost use Rattle.buffer_table.specs.Table.{buffer_at, most_place};
-ghost use Rattle.qpu_isa.specs.Shader.{shader_view, IsSoundShader};
-ghost use Rattle.shader_records.specs.Inputs.{shaders_view, shader_in, Fits};
+ghost use Rattle.qpu_isa.specs.Shader.{shader_view};
+ghost use Rattle.shader_records.specs.Inputs.{shaders_view, shader_in, Fits, IsShaped};
 ghost use Rattle.shader_records.specs.Sources.{no_state, state_at, handles_size, code_number, attribute_number, sample_number, shader_behind, shader_used, is_threaded, record_word, word_from, place_in, size_in};
 
 use crate::copies::copy_words;
@@ -29,13 +29,13 @@ pub(crate) struct Inputs<'a> {
 }
 
 impl<'a> Model for Inputs<'a> {
-    ghost use Rattle.shader_records.specs.Inputs.{InputModel, AreInputs, input_of};
+    ghost use Rattle.shader_records.specs.Inputs.{InputModel, AreShapedInputs, input_of};
 
     ghost Value = { InputModel };
 
     ghost view = { λ g. input_of g.states.now g.records.now g.uniforms.now g.table.now g.handles.now g.shaders.now };
 
-    ghost invariant = { λ g. AreInputs (input_of g.states.now g.records.now g.uniforms.now g.table.now g.handles.now g.shaders.now) };
+    ghost invariant = { λ g. AreShapedInputs (input_of g.states.now g.records.now g.uniforms.now g.table.now g.handles.now g.shaders.now) };
 }
 
 /// The number of four bytes at a place.
@@ -176,7 +176,7 @@ impl<'a> Inputs<'a> {
         requires inside { at + 4 * s + 4 ≤ length self.now.records }
         ensures value { let used = shader_used self.now at s in
             MatchOption result (used ≡ None) (λ info. used ≡ Some (shader_view info.now)) }
-        ensures sound { IfSome result (λ info. IsSoundShader (shader_view info.now)) }
+        ensures shaped { IfSome result (λ info. IsShaped (shader_view info.now)) }
     {
         match self.code_number(at, s) {
             Some(number) => known(self.shaders, number),

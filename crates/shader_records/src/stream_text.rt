@@ -3,8 +3,8 @@ ghost use Rattle.std.specs.Prelude.{◌≡◌, ℕ, Some, None, ◌+◌, ◌*◌
 ghost use Rattle.field_words.specs.Questions.{first_of};
 ghost use Rattle.field_words.specs.WordBytes.{word_bytes};
 ghost use Rattle.field_words.specs.Writes.{with_bytes};
-ghost use Rattle.qpu_isa.specs.Shader.{shader_view, sample_at, first_position, address_at, IsSoundShader};
-ghost use Rattle.shader_records.specs.Inputs.{Fits};
+ghost use Rattle.qpu_isa.specs.Shader.{shader_view, sample_at, first_position, address_at};
+ghost use Rattle.shader_records.specs.Inputs.{Fits, IsShaped};
 ghost use Rattle.shader_records.specs.Sources.{sample_number, source_word, place_in, shader_used, taken_by, given_by, taken_before, given_before, HasUniforms};
 ghost use Rattle.shader_records.specs.Rules.{use_questions, IsFineUse};
 ghost use Rattle.shader_records.specs.Emission.{stream_word_of, stream_text, streams_text, moved_first};
@@ -29,7 +29,7 @@ fn source_word(inputs: &Inputs, from: usize, info: &ShaderInfo, k: usize) -> u32
 #[tactic(auto, using(crate::proofs::StreamFacts::base_fits))]
 fn moved_word(inputs: &Inputs, from: usize, info: &ShaderInfo, i: usize) -> u32
     requires fits { Fits inputs.now }
-    requires sound { IsSoundShader (shader_view info.now) }
+    requires shaped { IsShaped (shader_view info.now) }
     requires room { HasUniforms inputs.now from (shader_view info.now) }
     requires inside { i < length info.now.samples.items }
     requires fine { IsFineUse inputs.now from (Some (shader_view info.now)) }
@@ -41,7 +41,7 @@ fn moved_word(inputs: &Inputs, from: usize, info: &ShaderInfo, i: usize) -> u32
 
 /// Address word `j` of a shader.
 fn address_word(info: &ShaderInfo, j: usize) -> usize
-    requires sound { IsSoundShader (shader_view info.now) }
+    requires shaped { IsShaped (shader_view info.now) }
     requires inside { j < length info.now.address_words.items }
     ensures value { result ≡ address_at (shader_view info.now) j }
     ensures below { result < info.now.uniforms }
@@ -73,7 +73,7 @@ fn put_words(
     base: usize,
 )
     requires fits { Fits inputs.now }
-    requires sound { IsSoundShader (shader_view info.now) }
+    requires shaped { IsShaped (shader_view info.now) }
     requires fine { IsFineUse inputs.now from (Some (shader_view info.now)) }
     requires room { base + 4 * info.now.uniforms ≤ length out.old }
     ensures { out.new ≡ with_bytes out.old base (stream_text inputs.now from stream (Some (shader_view info.now))) }

@@ -2,9 +2,9 @@
 ghost use Rattle.std.specs.Prelude.{◌≡◌, ℕ, ◌+◌, ◌*◌, ◌<◌, ◌≤◌, ◌^◌, length, Some, None, IfSome, MatchOption};
 ghost use Rattle.field_words.specs.Sizes.{most_list};
 ghost use Rattle.field_words.specs.Questions.{GoesOn, first_of, each};
-ghost use Rattle.qpu_isa.specs.Shader.{shader_view, sample_at, position, first_position, IsSoundShader, IsSoundSample};
+ghost use Rattle.qpu_isa.specs.Shader.{shader_view, sample_at, position, first_position};
 ghost use Rattle.emitted_facts.specs.Facts.{setup};
-ghost use Rattle.shader_records.specs.Inputs.{Fits};
+ghost use Rattle.shader_records.specs.Inputs.{Fits, IsShaped, IsShapedSample};
 ghost use Rattle.shader_records.specs.Sources.{shader_used, taken_by, sample_number, source_word, size_in, IsEnd, HasUniforms};
 ghost use Rattle.shader_records.specs.Faults.{sample_fault as sample_fault_of};
 ghost use Rattle.shader_records.specs.Rules.{setup_questions, first_word_at, sample_questions, use_questions};
@@ -31,17 +31,17 @@ fn fault(at: usize, number: u8) -> RecordFault
 
 /// Sample `i` of a shader.
 pub(crate) fn sample(info: &ShaderInfo, i: usize) -> Sample
-    requires sound { IsSoundShader (shader_view info.now) }
+    requires shaped { IsShaped (shader_view info.now) }
     requires inside { i < length info.now.samples.items }
     ensures value { result ≡ sample_at (shader_view info.now) i }
-    ensures sound { IsSoundSample (shader_view info.now) result }
+    ensures shaped { IsShapedSample (shader_view info.now) result }
 {
     info.samples[i]
 }
 
 /// Where its first set-up word stands in the shader's stream.
 pub(crate) fn first_position(info: &ShaderInfo, i: usize) -> usize
-    requires sound { IsSoundShader (shader_view info.now) }
+    requires shaped { IsShaped (shader_view info.now) }
     requires inside { i < length info.now.samples.items }
     ensures value { result ≡ first_position (sample_at (shader_view info.now) i) }
     ensures below { result < info.now.uniforms }
@@ -58,7 +58,7 @@ fn setup_word(inputs: &Inputs, from: usize, info: &ShaderInfo, sample: &Sample, 
     requires fits { Fits inputs.now }
     requires room { HasUniforms inputs.now from (shader_view info.now) }
     requires count { n < 4 }
-    requires sound { IsSoundSample (shader_view info.now) sample.now }
+    requires shaped { IsShapedSample (shader_view info.now) sample.now }
     ensures { result ≡ setup (source_word inputs.now from (shader_view info.now)) sample.now n }
 {
     match sample.p[n] {
@@ -78,7 +78,7 @@ fn setup_fault(
 ) -> Option<u8>
     requires fits { Fits inputs.now }
     requires room { HasUniforms inputs.now from (shader_view info.now) }
-    requires sound { IsSoundSample (shader_view info.now) sample.now }
+    requires shaped { IsShapedSample (shader_view info.now) sample.now }
     ensures { result ≡ first_of (setup_questions sample.now (source_word inputs.now from (shader_view info.now)) size) }
 {
     let first = setup_word(inputs, from, info, sample, 0);
@@ -94,7 +94,7 @@ fn setup_fault(
 /// Where a sample's first word is in the uniforms.
 #[tactic(auto, unfolding(crate::specs::Rules::first_word_at))]
 fn first_word_place(info: &ShaderInfo, from: usize, i: usize) -> usize
-    requires sound { IsSoundShader (shader_view info.now) }
+    requires shaped { IsShaped (shader_view info.now) }
     requires room { from + 4 * (length info.now.samples.items + info.now.uniforms) ≤ most_list }
     requires inside { i < length info.now.samples.items }
     ensures value { result ≡ first_word_at (shader_view info.now) from i }
@@ -107,7 +107,7 @@ fn first_word_place(info: &ShaderInfo, from: usize, i: usize) -> usize
 #[tactic(auto, unfolding(crate::specs::Rules::sample_questions), using(field_words::proofs::Questions::answered_none, field_words::proofs::Questions::answered_some))]
 fn sample_fault(inputs: &Inputs, from: usize, info: &ShaderInfo, i: usize) -> Option<RecordFault>
     requires fits { Fits inputs.now }
-    requires sound { IsSoundShader (shader_view info.now) }
+    requires shaped { IsShaped (shader_view info.now) }
     requires room { HasUniforms inputs.now from (shader_view info.now) }
     requires inside { i < length info.now.samples.items }
     ensures { result ≡ first_of (sample_questions inputs.now from (shader_view info.now) i) }
@@ -125,7 +125,7 @@ fn sample_fault(inputs: &Inputs, from: usize, info: &ShaderInfo, i: usize) -> Op
 #[tactic(auto, using(field_words::proofs::Questions::each_on, field_words::proofs::Questions::each_stop, field_words::proofs::Questions::each_end))]
 fn samples_fault(inputs: &Inputs, from: usize, info: &ShaderInfo) -> Option<RecordFault>
     requires fits { Fits inputs.now }
-    requires sound { IsSoundShader (shader_view info.now) }
+    requires shaped { IsShaped (shader_view info.now) }
     requires room { HasUniforms inputs.now from (shader_view info.now) }
     ensures { result ≡ first_of (each (sample_questions inputs.now from (shader_view info.now)) 0 (length info.now.samples.items)) }
 {
@@ -149,7 +149,7 @@ fn words_taken(samples: usize, uniforms: u32) -> u128
 #[tactic(auto, unfolding(crate::specs::Rules::use_questions))]
 fn shader_fault(inputs: &Inputs, from: usize, info: &ShaderInfo) -> Result<usize, RecordFault>
     requires fits { Fits inputs.now }
-    requires sound { IsSoundShader (shader_view info.now) }
+    requires shaped { IsShaped (shader_view info.now) }
     requires from { from ≤ length inputs.now.uniforms }
     ensures { let used = Some (shader_view info.now) in
         GoesOn (use_questions inputs.now from used) (IsEnd inputs.now (from + taken_by used)) result }

@@ -6,13 +6,14 @@ use Rattle.job_check.specs.{Faults.shaders_stage, Faults.job_stages}
 use Rattle.job_check.proofs.Order.{exits}
 use Rattle.job_check.proofs.region.check_told.Goals as goal
 
-pub returns : goal.returns
-returns c =
+pub returns-clause-answers : goal.returns-clause-answers
+returns-clause-answers c = λ checked.
     let f = parts_view c.args.file.now in
-    answers_later (shaders_stage f) (each (job_stages f) 0 (length f.jobs)) _ c.check_jobs.result c.in_ok-shaders.ensures.0 c.check_jobs.ensures
+    let shaders = c.in_ok-shaders.ensures.answers checked in
+    answers_later (shaders_stage f) (each (job_stages f) 0 (length f.jobs)) _ c.check_jobs.result shaders.0 (c.check_jobs.ensures.answers shaders.1)
 
-pub returns-in_err-shaders : goal.returns-in_err-shaders
-returns-in_err-shaders c =
+pub returns-in_err-shaders-clause-answers : goal.returns-in_err-shaders-clause-answers
+returns-in_err-shaders-clause-answers c = λ checked.
     let f = parts_view c.args.file.now in
     exits (shaders_stage f ++ each (job_stages f) 0 (length f.jobs)) _ c.from_residual.result c.in_err-shaders.field-0.0 c.from_residual.ensures.1
-    (refuses_front (shaders_stage f) (each (job_stages f) 0 (length f.jobs)) c.in_err-shaders.field-0.0 c.in_err-shaders.ensures)
+    (refuses_front (shaders_stage f) (each (job_stages f) 0 (length f.jobs)) c.in_err-shaders.field-0.0 (c.in_err-shaders.ensures.answers checked))

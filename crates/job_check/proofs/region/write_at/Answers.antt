@@ -5,7 +5,7 @@ use Rattle.job_check.proofs.{Order.if_both, Regions.rest_placed}
 use Rattle.job_check.proofs.region.write_at.Goals as goal
 
 pub returns-clause-written : goal.returns-clause-written
-returns-clause-written c =
+returns-clause-written c = λ told.
     let v = c.args.job.now in
     let m = c.args.region.now in
     let from = c.args.from in
@@ -16,4 +16,4 @@ returns-clause-written c =
     let step : c.write_lists.new.out ≡ placed (take rest (drop from m)) parts → PartsFit (layout_of v.file v.number).end parts
     → take from m ++ (c.write_lists.new.out ++ drop rest (drop from m)) ≡ placed m (moved from parts) =
     λ put fit. ap (λ out. take from m ++ (out ++ drop rest (drop from m))) put ∙ rest_placed m from rest parts whole (subst (λ n. PartsFit n parts) (sym same) fit) in
-    if_both c.write_lists.result step c.write_lists.ensures.written c.write_lists.ensures.fit
+    if_both c.write_lists.result step (c.write_lists.ensures.written told) (c.write_lists.ensures.fit told)

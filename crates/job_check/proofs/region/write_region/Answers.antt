@@ -5,7 +5,7 @@ use Rattle.relocation.specs.declared.layout.Layout.{Layout}
 use Rattle.shader_records.specs.Inputs.{shaders_view}
 use Rattle.job_check.specs.{Context.InView, Context.IsContext, Jobs.layout_of, Emit.list_parts, Emit.moved}
 use Rattle.job_check.specs.Region.{region_size, region_from, region_parts}
-use Rattle.job_check.proofs.{Order.if_ok, Regions.size_before, Regions.size_next, Regions.grown_long, Regions.kept}
+use Rattle.job_check.proofs.{Order.if_ok, Order.if_always, Regions.size_before, Regions.size_next, Regions.grown_long, Regions.kept}
 use Rattle.job_check.proofs.region.write_region.Goals as goal
 
 pub extend_region-requires : goal.extend_region-requires
@@ -24,7 +24,7 @@ write_at-requires c =
 
 pub returns-clause-written : goal.returns-clause-written
 unfolding region_parts
-returns-clause-written c =
+returns-clause-written c = λ told.
     let v = c.args.job.now in
     let x = c.job.inside in
     let h = subst (λ (w : InView). IsContext w (job_parts_view x.job.now) x.table.now (shaders_view x.shaders.now.items) x.handles x.layout) c.job.view_is c.job.invariant in
@@ -43,4 +43,18 @@ returns-clause-written c =
     ∙ put
     ∙ ap (λ m. placed m (moved from parts)) (c.deref_mut.ensures.value ∙ is)
     ∙ ap (λ k. placed (old ++ zeros (size - length old)) (moved k parts)) c.place_in_region-from.ensures in
-    if_ok c.write_at.result step c.write_at.ensures.written
+    if_ok c.write_at.result step (c.write_at.ensures.written told)
+
+pub returns-clause-size : goal.returns-clause-size
+returns-clause-size c =
+    let v = c.args.job.now in
+    let x = c.job.inside in
+    let h = subst (λ (w : InView). IsContext w (job_parts_view x.job.now) x.table.now (shaders_view x.shaders.now.items) x.handles x.layout) c.job.view_is c.job.invariant in
+    let old = c.args.region.now.items in
+    let grown = c.extend_region.new.region in
+    let same : c.place_in_region-from.result + x.layout.end ≡ region_from v.file v.number + (layout_of v.file v.number).end =
+    omega (arith, c.place_in_region-from.ensures, ap (λ (l : Layout). l.end) h.layout_is) in
+    let size = grown_long v.file v.number old grown.items c.requires (c.in_ok-extend_region.ensures ∙ ap (λ n. old ++ zeros (n - length old)) same) in
+    let long : length c.write_at.new.region ≡ length grown.items = omega (arith, c.write_at.auto.region, ap length c.deref_mut.ensures.value) in
+    let all = ap length (kept grown.len c.write_at.new.region grown.items (omega (arith, c.deref_mut.ensures.len, ap length c.deref_mut.ensures.value)) long) in
+    if_always c.write_at.result (omega (arith, all, long, size, size_next v.file v.number))

@@ -10,6 +10,6 @@ relocated-requires c =
     let shader = shader_view c.args.info.now in
     let same = c.source_word-word.ensures ∙ ap (source_word c.args.inputs.now c.args.from shader) c.first_position.ensures.value in
     let fits : source_word c.args.inputs.now c.args.from shader (first_position (sample_at shader c.args.i)) < 2 ^ 32 = omega (arith, same) in
-    let base = base_fits c.args.inputs.now c.args.from shader c.args.i c.requires.sound c.requires.inside c.requires.fine fits in
+    let base = base_fits c.args.inputs.now c.args.from shader c.args.i c.requires.shaped c.requires.inside c.requires.fine fits in
     let size = ap (size_in c.args.inputs.now.table) c.sample_number.ensures.value in
     omega (arith, same, base, size, c.place_of.ensures.limit)

@@ -2,9 +2,10 @@ use Rattle.job_check.proofs.Views.{lengths_are}
 use Rattle.job_check.proofs.context.Context.after_records.Goals as goal
 
 pub returns-clause-answers : goal.returns-clause-answers
-returns-clause-answers c =
-    let v = c.args.self.now in (
+returns-clause-answers c = λ told.
+    let v = c.args.self.now in
+    let records = c.requires.records told in (
       c.in_ok-render.ensures.answers.0,
       lengths_are v.file v.number c.args.bin.now.length c.args.records.now.records c.args.records.now.uniforms c.in_ok-render.render
-          c.requires.bin.length_is c.requires.records.records c.requires.records.uniforms c.in_ok-render.ensures.answers.1,
+          c.requires.bin.length_is records.records records.uniforms c.in_ok-render.ensures.answers.1,
     )

@@ -1,4 +1,4 @@
-use Rattle.std.proofs.{Common.arith, Common.◌∙◌, lemmas.List.length-map}
+use Rattle.std.proofs.{Common.refl, Common.arith, Common.◌∙◌, lemmas.List.length-map}
 use Rattle.job_format.specs.Parts.{parts_view, job_parts_view}
 use Rattle.job_check.proofs.Layouts.{enough_slots}
 use Rattle.job_check.proofs.context.Context.open.Goals as goal
@@ -16,7 +16,8 @@ invariant_of-result c = record {
   job_is = c.job_at-job.ensures.value;
   limits = c.job_at-job.ensures.limits;
   table_is = c.requires.table_is;
-  shaders_are = c.requires.shaders_are;
+  shaders_are = refl;
+  shaped = c.requires.shaped;
   sound = c.requires.sound;
   handles_are = c.in-Ok.ensures.made.1 ∙ c.as_slice.ensures;
   numbers = c.in-Ok.ensures.numbers;

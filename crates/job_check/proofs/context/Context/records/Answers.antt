@@ -3,7 +3,7 @@ use Rattle.field_words.specs.{Writes.with_bytes, Questions.first_of}
 use Rattle.buffer_table.specs.Table.{TableModel}
 use Rattle.job_format.specs.Parts.{job_parts_view}
 use Rattle.relocation.specs.declared.layout.Layout.{Layout}
-use Rattle.shader_records.specs.{Inputs.InputModel, Inputs.AreShadersOf, Inputs.shaders_view, Inputs.input_of, Rules.all_questions}
+use Rattle.shader_records.specs.{Inputs.InputModel, Inputs.AreShaped, Inputs.shaders_view, Inputs.input_of, Rules.all_questions}
 use Rattle.shader_records.specs.{Emission.emitted_uniforms, Emitted.streams_place, Emitted.IsEmitted}
 use Rattle.job_check.specs.{Jobs.layout_of, Jobs.input_for, Jobs.records_of, Faults.record_refused, Context.InView, Context.IsContext}
 use Rattle.job_check.proofs.Views.{input_is, records_none, records_some, records_are, streams_are, records_within, streams_within}
@@ -15,8 +15,8 @@ check_records-requires-clause-shaders c =
     let v = c.args.self.now in
     let x = c.self.inside in
     let h = subst (λ (w : InView). IsContext w (job_parts_view x.job.now) x.table.now (shaders_view x.shaders.now.items) x.handles x.layout) c.self.view_is c.self.invariant in
-    let sound = subst (λ (t : TableModel). AreShadersOf t (shaders_view x.shaders.now.items)) (sym h.table_is) h.shaders_are.sound in
-    subst (λ l. AreShadersOf x.table.now (shaders_view l)) (sym c.deref.ensures.value) sound
+    let shaped = subst (λ (t : TableModel). AreShaped t (shaders_view x.shaders.now.items)) (sym h.table_is) h.shaped in
+    subst (λ l. AreShaped x.table.now (shaders_view l)) (sym c.deref.ensures.value) shaped
 
 pub check_records-requires-clause-place_limit : goal.check_records-requires-clause-place_limit
 check_records-requires-clause-place_limit c =
@@ -47,7 +47,7 @@ check_records-requires-clause-room c =
     omega (arith, apart.third, apart.last, ap (λ l. l.uniforms) h.layout_is, ap (λ j. length j.uniforms) h.job_is, c.requires.room)
 
 pub returns-in-Ok-clause-answers : goal.returns-in-Ok-clause-answers
-returns-in-Ok-clause-answers c =
+returns-in-Ok-clause-answers c = λ true.
     let v = c.args.self.now in
     let x = c.self.inside in
     let h = subst (λ (w : InView). IsContext w (job_parts_view x.job.now) x.table.now (shaders_view x.shaders.now.items) x.handles x.layout) c.self.view_is c.self.invariant in
@@ -56,7 +56,7 @@ returns-in-Ok-clause-answers c =
     let out = c.args.out.now in
     let same =
     ap (λ l. input_of c.args.states.now x.job.now.records.now x.job.now.uniforms.now x.table.now x.handles l) c.deref.ensures.value
-    ∙ input_is v c.args.states.now (job_parts_view x.job.now) x.table.now (shaders_view x.shaders.now.items) x.handles x.layout h c.requires.states in
+    ∙ input_is v c.args.states.now (job_parts_view x.job.now) x.table.now (shaders_view x.shaders.now.items) x.handles x.layout h c.requires.states true in
     let none = subst (λ (i : InputModel). first_of (all_questions i) ≡ None) same c.in-Ok.ensures.answers.0 in
     let told = subst (λ (i : InputModel). IsEmitted i x.layout out c.check_records.new.out c.in-Ok.info) same c.in-Ok.ensures.answers.1 in
     let emitted = subst (λ (l : Layout). IsEmitted (input_for f j) l out c.check_records.new.out c.in-Ok.info) h.layout_is told in (
@@ -65,7 +65,7 @@ returns-in-Ok-clause-answers c =
     )
 
 pub returns-in-Ok-clause-written : goal.returns-in-Ok-clause-written
-returns-in-Ok-clause-written c =
+returns-in-Ok-clause-written c = λ true.
     let v = c.args.self.now in
     let x = c.self.inside in
     let h = subst (λ (w : InView). IsContext w (job_parts_view x.job.now) x.table.now (shaders_view x.shaders.now.items) x.handles x.layout) c.self.view_is c.self.invariant in
@@ -74,7 +74,7 @@ returns-in-Ok-clause-written c =
     let out = c.args.out.now in
     let same =
     ap (λ l. input_of c.args.states.now x.job.now.records.now x.job.now.uniforms.now x.table.now x.handles l) c.deref.ensures.value
-    ∙ input_is v c.args.states.now (job_parts_view x.job.now) x.table.now (shaders_view x.shaders.now.items) x.handles x.layout h c.requires.states in
+    ∙ input_is v c.args.states.now (job_parts_view x.job.now) x.table.now (shaders_view x.shaders.now.items) x.handles x.layout h c.requires.states true in
     let told = subst (λ (i : InputModel). IsEmitted i x.layout out c.check_records.new.out c.in-Ok.info) same c.in-Ok.ensures.answers.1 in
     let emitted = subst (λ (l : Layout). IsEmitted (input_for f j) l out c.check_records.new.out c.in-Ok.info) h.layout_is told in
     let layout = layout_of f j in
@@ -83,7 +83,7 @@ returns-in-Ok-clause-written c =
     ∙ ap (with_bytes (with_bytes out layout.records (records_of f j)) layout.uniforms) (streams_are f j c.requires.some)
 
 pub returns-in-Ok-clause-records_fit : goal.returns-in-Ok-clause-records_fit
-returns-in-Ok-clause-records_fit c =
+returns-in-Ok-clause-records_fit c = λ true.
     let v = c.args.self.now in
     let x = c.self.inside in
     let h = subst (λ (w : InView). IsContext w (job_parts_view x.job.now) x.table.now (shaders_view x.shaders.now.items) x.handles x.layout) c.self.view_is c.self.invariant in
@@ -91,12 +91,12 @@ returns-in-Ok-clause-records_fit c =
     let j = v.number in
     let same =
     ap (λ l. input_of c.args.states.now x.job.now.records.now x.job.now.uniforms.now x.table.now x.handles l) c.deref.ensures.value
-    ∙ input_is v c.args.states.now (job_parts_view x.job.now) x.table.now (shaders_view x.shaders.now.items) x.handles x.layout h c.requires.states in
+    ∙ input_is v c.args.states.now (job_parts_view x.job.now) x.table.now (shaders_view x.shaders.now.items) x.handles x.layout h c.requires.states true in
     let none = subst (λ (i : InputModel). first_of (all_questions i) ≡ None) same c.in-Ok.ensures.answers.0 in
     records_within f j c.requires.some none
 
 pub returns-in-Ok-clause-streams_fit : goal.returns-in-Ok-clause-streams_fit
-returns-in-Ok-clause-streams_fit c =
+returns-in-Ok-clause-streams_fit c = λ true.
     let v = c.args.self.now in
     let x = c.self.inside in
     let h = subst (λ (w : InView). IsContext w (job_parts_view x.job.now) x.table.now (shaders_view x.shaders.now.items) x.handles x.layout) c.self.view_is c.self.invariant in
@@ -104,18 +104,18 @@ returns-in-Ok-clause-streams_fit c =
     let j = v.number in
     let same =
     ap (λ l. input_of c.args.states.now x.job.now.records.now x.job.now.uniforms.now x.table.now x.handles l) c.deref.ensures.value
-    ∙ input_is v c.args.states.now (job_parts_view x.job.now) x.table.now (shaders_view x.shaders.now.items) x.handles x.layout h c.requires.states in
+    ∙ input_is v c.args.states.now (job_parts_view x.job.now) x.table.now (shaders_view x.shaders.now.items) x.handles x.layout h c.requires.states true in
     let none = subst (λ (i : InputModel). first_of (all_questions i) ≡ None) same c.in-Ok.ensures.answers.0 in
     streams_within f j c.requires.some none
 
 pub returns-in-Err-Fault-clause-answers : goal.returns-in-Err-Fault-clause-answers
-returns-in-Err-Fault-clause-answers c =
+returns-in-Err-Fault-clause-answers c = λ true.
     let v = c.args.self.now in
     let x = c.self.inside in
     let h = subst (λ (w : InView). IsContext w (job_parts_view x.job.now) x.table.now (shaders_view x.shaders.now.items) x.handles x.layout) c.self.view_is c.self.invariant in
     let same =
     ap (λ l. input_of c.args.states.now x.job.now.records.now x.job.now.uniforms.now x.table.now x.handles l) c.deref.ensures.value
-    ∙ input_is v c.args.states.now (job_parts_view x.job.now) x.table.now (shaders_view x.shaders.now.items) x.handles x.layout h c.requires.states in
+    ∙ input_is v c.args.states.now (job_parts_view x.job.now) x.table.now (shaders_view x.shaders.now.items) x.handles x.layout h c.requires.states true in
     let told = rw c.in-Err-Fault.field-0-is at c.in-Err-Fault.ensures.answers in
     let stands = subst (λ (i : InputModel). first_of (all_questions i) ≡ Some c.in-Err-Fault.fault) same told in
     records_some v.file v.number c.in-Err-Fault.fault c.requires.some stands
