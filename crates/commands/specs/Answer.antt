@@ -3,16 +3,18 @@ use Rattle.std.specs.Prelude.{◌≡◌, ℕ, List, length}
 use Rattle.job_format.specs.{Model.FileModel, Text.file_text}
 use Rattle.job_check.specs.Emit.{memory_of, lengths_of}
 use Rattle.dumper.specs.Example.{example_text}
-use Rattle.commands.specs.declared.command.Command.TheVariants.{Check, Runs, Drawn, Upgrade, Bound, Show, FromText, Asm, Disasm, Shader, ShaderText, Slots, Queue, Session, Untile, Tile, Level}
+use Rattle.commands.specs.declared.command.Command.TheVariants.{Check, StrictCheck, Runs, Drawn, Upgrade, Bound, Show, FromText, Asm, Disasm, Shader, ShaderText, StrictShader, StrictShaderText, Slots, Queue, Session, Untile, Tile, Level}
 use Rattle.commands.specs.{declared.command.Command.Command, Pictures.IsUntileAnswer, Pictures.IsTileAnswer, Pictures.IsLevelAnswer}
-use Rattle.commands.specs.Verdict.{IsCheckAnswer, IsTrialAnswer, IsDrawnAnswer, IsBoundAnswer, IsUpgradeAnswer}
+use Rattle.commands.specs.Verdict.{IsCheckAnswer, IsStrictCheckAnswer, IsTrialAnswer, IsDrawnAnswer, IsBoundAnswer, IsUpgradeAnswer}
 use Rattle.commands.specs.{Scripts.IsSlotsAnswer, Scripts.IsQueueAnswer, Scripts.IsSessionAnswer, Show.IsShowAnswer, Show.IsMakeAnswer}
 use Rattle.commands.specs.{Shader.IsAsmAnswer, Shader.IsDisasmAnswer, LoneShader.IsShaderAnswer, LoneShader.IsShaderTextAnswer}
+use Rattle.commands.specs.LoneShader.{IsStrictShaderAnswer, IsStrictShaderTextAnswer}
 use Rattle.example_job.specs.Example.{example}
 
 -- what each command answers
 abbrev pub IsAnswer : Command → List ℕ → ℕ → List ℕ → Type 0
 IsAnswer Check bytes status text = IsCheckAnswer bytes status text
+IsAnswer StrictCheck bytes status text = IsStrictCheckAnswer bytes status text
 IsAnswer (Runs trial) bytes status text = IsTrialAnswer trial bytes status text
 IsAnswer Drawn bytes status text = IsDrawnAnswer bytes status text
 IsAnswer Upgrade bytes status text = IsUpgradeAnswer bytes status text
@@ -23,6 +25,8 @@ IsAnswer Asm bytes status text = IsAsmAnswer bytes status text
 IsAnswer Disasm bytes status text = IsDisasmAnswer bytes status text
 IsAnswer Shader bytes status text = IsShaderAnswer bytes status text
 IsAnswer ShaderText bytes status text = IsShaderTextAnswer bytes status text
+IsAnswer StrictShader bytes status text = IsStrictShaderAnswer bytes status text
+IsAnswer StrictShaderText bytes status text = IsStrictShaderTextAnswer bytes status text
 IsAnswer (Slots slots) bytes status text = IsSlotsAnswer slots bytes status text
 IsAnswer (Queue buffers) bytes status text = IsQueueAnswer buffers bytes status text
 IsAnswer Session bytes status text = IsSessionAnswer bytes status text

@@ -1,8 +1,8 @@
 -- Why a command refuses, as a person is told: a function of the refusal and of what was read.
 use Rattle.std.specs.Prelude.{◌≡◌, ℕ, ◌*◌, ◌%◌, ◌==◌, Bool, true, false, List, ◌++◌, codes, length, nat_le, slice_index, option_map, Option, Some, None, Result, Ok, Err, if◌then◌else◌, decimal}
 use Rattle.field_words.specs.{Questions.first_of, Sizes.most_words}
-use Rattle.job_format.specs.{declared.rule.Refusal.Refusal, declared.rule.Stage.TheVariants.S, declared.rule.Stage.TheVariants.U}
-use Rattle.job_check.specs.{Shaders.code_questions, Whole.refusal_of}
+use Rattle.job_format.specs.{declared.rule.Refusal.Refusal, declared.rule.Stage.TheVariants.S, declared.rule.Stage.TheVariants.U, declared.rule.Stage.TheVariants.E}
+use Rattle.job_check.specs.{Shaders.code_questions, Shaders.words_of, Whole.refusal_of}
 use Rattle.job_text.specs.{declared.fault.MakeFault.MakeFault, Made.made, Sentences.sentence_of as mistake_of}
 use Rattle.qpu_asm.specs.{declared.fault.AsmFault.AsmFault, Assembly.Assembled, Place.fault_place, Place.wanted_text}
 use Rattle.qpu_asm.specs.{declared.place.FaultPlace.FaultPlace, declared.place.Opcode.TheVariants.Nop, declared.place.Wanted.Wanted}
@@ -12,10 +12,12 @@ use Rattle.rule_words.specs.{declared.line.Line.Line, declared.name.RuleName.Rul
 use Rattle.rule_words.specs.Names.{name_text, sentence_of}
 use Rattle.commands.specs.declared.answer.Answer.{Answer}
 use Rattle.commands.specs.declared.cause.Cause.TheVariants.{Rule, Kind, Mistake, Shader as ShaderCause, Long, Call, Part, Size, Level as LevelCause, Words}
-use Rattle.commands.specs.declared.command.Command.TheVariants.{Upgrade, Show, FromText, Asm, Disasm, Shader, ShaderText, Slots, Queue, Session, Untile, Tile, Level}
+use Rattle.commands.specs.declared.command.Command.TheVariants.{StrictCheck, Upgrade, Show, FromText, Asm, Disasm, Shader, ShaderText, StrictShader, StrictShaderText, Slots, Queue, Session, Untile, Tile, Level}
 use Rattle.commands.specs.{declared.cause.Cause.Cause, declared.command.Command.Command, declared.surfaces.TexturePart.TexturePart}
 use Rattle.commands.specs.{Upgrade.format_rules, WordFault.word_fault_text}
 use Rattle.shader_check.specs.{declared.fault.ShaderFault.ShaderFault, Rules.shader_questions}
+use Rattle.strict_rules.specs.{declared.rule.StrictFault.StrictFault, Least.number_of, Rules.strict_questions}
+use Rattle.strict_check.specs.Whole.{strict_refusal_of}
 use Rattle.job_queue.specs.Calls.{fault_line as queue_fault}
 use Rattle.job_session.specs.Calls.{fault_line as session_fault}
 use Rattle.overflow_slots.specs.Calls.{fault_line as slots_fault}
@@ -51,11 +53,15 @@ mistake_line fault =
 abbrev pub shader_rule : ShaderFault → RuleName
 shader_rule fault = record { family = StageFamily S; number = fault.number }
 
+-- the same of a strict one
+abbrev pub strict_rule : StrictFault → RuleName
+strict_rule fault = record { family = StageFamily E; number = number_of fault.rule }
+
 -- "vc4check: S24: SENTENCE (instruction 12); see vc4check explain S24"
-unfoldable pub shader_line : ShaderFault → List ℕ
-shader_line fault =
-    codes "vc4check: " ++ (name_text (shader_rule fault) ++ (codes ": " ++ (sentence_of (shader_rule fault) ++ (codes " (instruction "
-    ++ (decimal fault.index ++ (codes "); see vc4check explain " ++ name_text (shader_rule fault)))))))
+unfoldable pub shader_line : RuleName → ℕ → List ℕ
+shader_line name index =
+    codes "vc4check: " ++ (name_text name ++ (codes ": " ++ (sentence_of name ++ (codes " (instruction "
+    ++ (decimal index ++ (codes "); see vc4check explain " ++ name_text name))))))
 
 unfoldable pub long_line : ℕ → List ℕ
 long_line count = codes "vc4check: the shader has " ++ (decimal count ++ codes " instructions, of which it may have 8192")
@@ -89,7 +95,7 @@ unfoldable pub cause_text : Cause → List ℕ
 cause_text (Rule line) = line_text line
 cause_text (Kind fault place) = kind_line fault place
 cause_text (Mistake fault) = mistake_line fault
-cause_text (ShaderCause fault) = shader_line fault
+cause_text (ShaderCause name index) = shader_line name index
 cause_text (Long count) = long_line count
 cause_text (Call line) = call_line line
 cause_text (Part n) = part_line n
@@ -116,14 +122,34 @@ abbrev pub mistake_cause : Result (List ℕ) MakeFault → Option Cause
 mistake_cause (Ok bytes) = None
 mistake_cause (Err fault) = Some (Mistake fault)
 
+-- a rule that a shader breaks
+abbrev pub shader_cause : ShaderFault → Cause
+shader_cause fault = ShaderCause (shader_rule fault) fault.index
+
+abbrev pub strict_cause : StrictFault → Cause
+strict_cause fault = ShaderCause (strict_rule fault) fault.at
+
 -- the first rule that stands of a shader of these words, of which there may be too many
 abbrev pub words_cause : List ℕ → Option Cause
-words_cause code = if nat_le (length code) most_words then option_map ShaderCause (first_of (shader_questions code)) else Some (Long (length code))
+words_cause code = if nat_le (length code) most_words then option_map shader_cause (first_of (shader_questions code)) else Some (Long (length code))
+
+-- the same, where the strict rules are asked last
+abbrev pub strict_cause_of : List ℕ → Option ShaderFault → Option Cause
+strict_cause_of code None = option_map strict_cause (first_of (strict_questions code))
+strict_cause_of code (Some fault) = Some (shader_cause fault)
+
+abbrev pub strict_words_cause : List ℕ → Option Cause
+strict_words_cause code =
+    if nat_le (length code) most_words then strict_cause_of code (first_of (shader_questions code)) else Some (Long (length code))
 
 -- that of a shader as text, which may have a fault
 abbrev pub text_cause : List ℕ → Result (List ℕ) AsmFault → Option Cause
 text_cause text (Ok words) = words_cause words
 text_cause text (Err fault) = Some (Kind fault (fault_place text fault))
+
+abbrev pub strict_text_cause : List ℕ → Result (List ℕ) AsmFault → Option Cause
+strict_text_cause text (Ok words) = strict_words_cause words
+strict_text_cause text (Err fault) = Some (Kind fault (fault_place text fault))
 
 -- bytes that are no whole words
 abbrev pub part_cause : ℕ → Option Cause
@@ -139,13 +165,16 @@ level_fault part bytes = first_of (level_questions (slice_index part.setup 0) (s
 
 -- Why each command refuses its input; None where it doesn't.
 abbrev pub IsCause : Command → List ℕ → Option Cause → Type 0
+IsCause StrictCheck bytes cause = IsRuleCause bytes (strict_refusal_of bytes) cause
 IsCause Upgrade bytes cause = IsRuleCause bytes (first_of (format_rules bytes)) cause
 IsCause Show bytes cause = cause ≡ None
 IsCause FromText bytes cause = cause ≡ mistake_cause (made bytes)
 IsCause Asm bytes cause = cause ≡ kind_cause bytes (Assembled bytes)
 IsCause Disasm bytes cause = cause ≡ part_cause (length bytes)
-IsCause Shader bytes cause = cause ≡ option_map ShaderCause (first_of (code_questions bytes))
+IsCause Shader bytes cause = cause ≡ option_map shader_cause (first_of (code_questions bytes))
 IsCause ShaderText bytes cause = cause ≡ text_cause bytes (Assembled bytes)
+IsCause StrictShader bytes cause = cause ≡ strict_cause_of (words_of bytes) (first_of (code_questions bytes))
+IsCause StrictShaderText bytes cause = cause ≡ strict_text_cause bytes (Assembled bytes)
 IsCause (Slots slots) bytes cause = cause ≡ option_map Call (slots_fault bytes)
 IsCause (Queue buffers) bytes cause = cause ≡ option_map Call (queue_fault bytes)
 IsCause Session bytes cause = cause ≡ option_map Call (session_fault bytes)

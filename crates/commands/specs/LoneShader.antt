@@ -5,7 +5,9 @@ use Rattle.job_check.specs.Shaders.{words_of, code_questions, told_of}
 use Rattle.qpu_asm.specs.{declared.fault.AsmFault.AsmFault, Assembly.Assembled}
 use Rattle.qpu_isa.specs.{declared.inst.Sample.Sample, Shader.ShaderModel}
 use Rattle.shader_check.specs.{declared.fault.ShaderFault.ShaderFault, Rules.shader_questions}
-use Rattle.commands.specs.Shader.{fault_text}
+use Rattle.rule_words.specs.{declared.name.RuleName.RuleName, Names.name_text}
+use Rattle.strict_rules.specs.{declared.rule.StrictFault.StrictFault, Rules.strict_questions}
+use Rattle.commands.specs.{Shader.fault_text, Cause.shader_rule, Cause.strict_rule}
 
 -- the uniforms that a sample's set-up words are
 unfoldable pub position_text : Option ℕ → List ℕ
@@ -36,30 +38,58 @@ shader_text shader =
     head_text shader.uniforms (thread_count shader.threaded) ++ (flat_map sample_line shader.samples ++ flat_map address_line shader.address_words)
 
 -- a line for the rule that refuses it, and the instruction
-unfoldable pub shader_refusal : ShaderFault → List ℕ
-shader_refusal fault = codes "refused S" ++ (decimal fault.number ++ (codes " at instruction " ++ (decimal fault.index ++ codes "\n")))
+unfoldable pub shader_refusal : RuleName → ℕ → List ℕ
+shader_refusal name index = codes "refused " ++ (name_text name ++ (codes " at instruction " ++ (decimal index ++ codes "\n")))
 
 -- a line for a text of too many instructions
 unfoldable pub long_text : ℕ → List ℕ
 long_text count = codes "instructions " ++ (decimal count ++ codes "\n")
 
--- Where no rule stands it is told what the shader takes and reads; else it is refused by the first rule that does.
-abbrev pub IsShaderVerdict : List (Question ShaderFault) → List ℕ → Option ShaderFault → ℕ → List ℕ → Type 0
-IsShaderVerdict questions code None status text = (status ≡ 0) × (text ≡ shader_text (told_of code))
-IsShaderVerdict questions code (Some fault) status text = (status ≡ 1) × (text ≡ shader_refusal fault) × IsFirst questions fault
+-- what is answered of a shader of which no rule stands: what it takes and reads
+abbrev pub IsTold : List ℕ → ℕ → List ℕ → Type 0
+IsTold code status text = (status ≡ 0) × (text ≡ shader_text (told_of code))
 
--- the words that the bytes spell, 8 bytes each; the first rule is that they are whole words
+-- or, with the strict rules, the first of them that it breaks
+abbrev pub IsToldBy : List ℕ → Option StrictFault → ℕ → List ℕ → Type 0
+IsToldBy code None status text = IsTold code status text
+IsToldBy code (Some fault) status text =
+    (status ≡ 1) × (text ≡ shader_refusal (strict_rule fault) fault.at) × IsFirst (strict_questions code) fault
+
+abbrev pub IsStrictlyTold : List ℕ → ℕ → List ℕ → Type 0
+IsStrictlyTold code status text = IsToldBy code (first_of (strict_questions code)) status text
+
+-- Of what is answered where no rule stands: else it is refused by the first rule that does.
+module _ (IsFine : List ℕ → ℕ → List ℕ → Type 0) where
+  abbrev pub IsShaderVerdict : List (Question ShaderFault) → List ℕ → Option ShaderFault → ℕ → List ℕ → Type 0
+  IsShaderVerdict questions code None status text = IsFine code status text
+  IsShaderVerdict questions code (Some fault) status text =
+      (status ≡ 1) × (text ≡ shader_refusal (shader_rule fault) fault.index) × IsFirst questions fault
+
+  -- the words that the bytes spell, 8 bytes each; the first rule is that they are whole words
+  abbrev pub IsBytesAnswer : List ℕ → ℕ → List ℕ → Type 0
+  IsBytesAnswer bytes status text = IsShaderVerdict (code_questions bytes) (words_of bytes) (first_of (code_questions bytes)) status text
+
+  -- these words, of which there may be too many
+  abbrev pub IsWordsAnswer : List ℕ → ℕ → List ℕ → Type 0
+  IsWordsAnswer code status text =
+      ((length code ≤ most_words) × IsShaderVerdict (shader_questions code) code (first_of (shader_questions code)) status text)
+      ⊎ ((most_words < length code) × (status ≡ 1) × (text ≡ long_text (length code)))
+
+  -- the words of a text without faults; any other text is answered as `asm` does, with its first fault
+  abbrev pub IsTextAnswer : List ℕ → ℕ → List ℕ → Type 0
+  IsTextAnswer text status out =
+      ((code : List ℕ) × (Assembled text ≡ Ok code) × IsWordsAnswer code status out)
+      ⊎ ((fault : AsmFault) × (Assembled text ≡ Err fault) × (status ≡ 1) × (out ≡ fault_text fault))
+
+-- without the strict rules, and with them
 abbrev pub IsShaderAnswer : List ℕ → ℕ → List ℕ → Type 0
-IsShaderAnswer bytes status text = IsShaderVerdict (code_questions bytes) (words_of bytes) (first_of (code_questions bytes)) status text
+IsShaderAnswer = IsBytesAnswer IsTold
 
--- these words, of which there may be too many
-abbrev pub IsWordsAnswer : List ℕ → ℕ → List ℕ → Type 0
-IsWordsAnswer code status text =
-    ((length code ≤ most_words) × IsShaderVerdict (shader_questions code) code (first_of (shader_questions code)) status text)
-    ⊎ ((most_words < length code) × (status ≡ 1) × (text ≡ long_text (length code)))
-
--- the words of a text without faults; any other text is answered as `asm` does, with its first fault
 abbrev pub IsShaderTextAnswer : List ℕ → ℕ → List ℕ → Type 0
-IsShaderTextAnswer text status out =
-    ((code : List ℕ) × (Assembled text ≡ Ok code) × IsWordsAnswer code status out)
-    ⊎ ((fault : AsmFault) × (Assembled text ≡ Err fault) × (status ≡ 1) × (out ≡ fault_text fault))
+IsShaderTextAnswer = IsTextAnswer IsTold
+
+abbrev pub IsStrictShaderAnswer : List ℕ → ℕ → List ℕ → Type 0
+IsStrictShaderAnswer = IsBytesAnswer IsStrictlyTold
+
+abbrev pub IsStrictShaderTextAnswer : List ℕ → ℕ → List ℕ → Type 0
+IsStrictShaderTextAnswer = IsTextAnswer IsStrictlyTold

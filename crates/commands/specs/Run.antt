@@ -17,7 +17,8 @@ use Rattle.overflow_slots.specs.Laws.{StaysOrdered}
 use Rattle.session_law.specs.{Laws.ClientsAreApart, Laws.MemoryIsKept, Scripts.ScriptsAreOfCalls}
 use Rattle.session_safety.specs.Running.{SubmitsReachOwn}
 use Rattle.tile_convert.specs.Picture.{UntilesWhatWasTiled, TilesWhatWasUntiled}
-use Rattle.commands.specs.{declared.command.Command.Command, declared.command.Command.TheVariants.Check, declared.command.Task.Task}
+use Rattle.commands.specs.{declared.command.Command.Command, declared.command.Command.TheVariants.Check, declared.command.Command.TheVariants.StrictCheck}
+use Rattle.commands.specs.{declared.command.Task.Task}
 use Rattle.commands.specs.declared.command.Task.TheVariants.{Read, Make, Tell}
 use Rattle.commands.specs.{declared.help.Topic.Topic, declared.cause.Cause.Cause, declared.cause.Cause.TheVariants.Words}
 use Rattle.commands.specs.{Answer.IsAnswer, Answer.IsExampleAnswer, Cause.IsCause, Headline.IsSafelyAccepted, Line.texts, Show.MakesAgain}
@@ -125,6 +126,9 @@ pub record IsRun {X Y : Type 0} (words : List (String Global)) (left : X → Opt
   -- From just the memory that `check` prints of an accepted file, every run of the machine is safe, each access in what its own job may
   -- reach, and bytes outside what jobs may reach have no effect.
   pub safe : task_of (texts words) ≡ Some (Read Check) → status ≡ 0
+      → IfSome (left source) (λ bytes. IsSafelyAccepted bytes (held sink) (held sink_now))
+  -- the same of what `check --strict` prints
+  pub strictly_safe : task_of (texts words) ≡ Some (Read StrictCheck) → status ≡ 0
       → IfSome (left source) (λ bytes. IsSafelyAccepted bytes (held sink) (held sink_now))
   pub promises : Promises
 

@@ -7,6 +7,7 @@ use Rattle.job_bound.specs.Bound.{bound_text}
 use Rattle.dumper.specs.Text.{accepted_text, refused_text}
 use Rattle.pictures.specs.{Memory.memory_picture, Forest.Forest, Forest.forest_text}
 use Rattle.seeded_runs.specs.{declared.told.Trial.Trial, Told.IsTold}
+use Rattle.strict_check.specs.Whole.{strict_questions, strict_refusal_of}
 use Rattle.commands.specs.Upgrade.{format_rules}
 
 -- Where no rule stands the file is what its bytes spell, and its answer is such a text; else it is refused by the first rule that does: it
@@ -30,6 +31,11 @@ picture_of f = memory_picture f.mem_size f.regions f.buffers
 -- `bound` how many steps the jobs take at most and whether they may wait for a request that isn't there, or where a shader branches back.
 abbrev pub IsCheckAnswer : List ℕ → ℕ → List ℕ → Type 0
 IsCheckAnswer = IsFileAnswer (λ f text. text ≡ image_of f)
+
+-- `check --strict` asks the strict rules too, last of all.
+abbrev pub IsStrictCheckAnswer : List ℕ → ℕ → List ℕ → Type 0
+IsStrictCheckAnswer bytes status text =
+    IsVerdict bytes (strict_questions bytes) (strict_refusal_of bytes) (λ f text. text ≡ image_of f) status text
 
 abbrev pub IsDrawnAnswer : List ℕ → ℕ → List ℕ → Type 0
 IsDrawnAnswer = IsFileAnswer (λ f text. text ≡ forest_text (picture_of f))

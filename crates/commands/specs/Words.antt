@@ -8,7 +8,7 @@ use Rattle.seeded_runs.specs.declared.told.Look.{Look}
 use Rattle.seeded_runs.specs.declared.told.Look.TheVariants as look
 use Rattle.seeded_runs.specs.Told.{IsTrialWithin}
 use Rattle.rule_words.specs.declared.name.RuleName.{RuleName}
-use Rattle.commands.specs.declared.command.Command.TheVariants.{Check, Runs, Drawn, Upgrade, Bound, Show, FromText, Asm, Disasm, Shader, ShaderText, Slots, Queue, Session, Untile, Tile, Level}
+use Rattle.commands.specs.declared.command.Command.TheVariants.{Check, StrictCheck, Runs, Drawn, Upgrade, Bound, Show, FromText, Asm, Disasm, Shader, ShaderText, StrictShader, StrictShaderText, Slots, Queue, Session, Untile, Tile, Level}
 use Rattle.commands.specs.declared.command.Task.TheVariants.{Read, Make, Tell}
 use Rattle.commands.specs.declared.help.Topic.TheVariants.{Program, Command as CommandTopic, Version, Rule as RuleTopic}
 use Rattle.commands.specs.declared.help.Verb.TheVariants as verb
@@ -67,9 +67,16 @@ slots = number SlotCount (λ slots. ended (Read (Slots slots)))
 abbrev pub queue : Line → Result Task WordFault
 queue = number Buffers (λ buffers. ended (Read (Queue buffers)))
 
--- shader [--asm]
+-- check [--strict]
+abbrev pub check : Line → Result Task WordFault
+check = option (codes "--strict") (ended (Read StrictCheck)) (ended (Read Check))
+
+-- shader [--strict] [--asm]
+abbrev pub strict_shader : Line → Result Task WordFault
+strict_shader = option (codes "--asm") (ended (Read StrictShaderText)) (ended (Read StrictShader))
+
 abbrev pub shader : Line → Result Task WordFault
-shader = option (codes "--asm") (ended (Read ShaderText)) (ended (Read Shader))
+shader = option (codes "--strict") strict_shader (option (codes "--asm") (ended (Read ShaderText)) (ended (Read Shader)))
 
 -- explain RULE, or kind and a number
 abbrev pub told_of : RuleName → Line → Result Task WordFault
@@ -80,7 +87,7 @@ explain = option (codes "kind") (read given_kind told_of) (read given_rule told_
 
 -- the arguments of each command
 abbrev pub asked : Verb → Line → Result Task WordFault
-asked verb.Check = ended (Read Check)
+asked verb.Check = check
 asked verb.Replay = replay
 asked verb.Picture = picture
 asked verb.Upgrade = ended (Read Upgrade)
@@ -162,6 +169,8 @@ limit_of Asm = most_list
 limit_of Disasm = most_list
 limit_of Shader = most_code
 limit_of ShaderText = most_list
+limit_of StrictShader = most_code
+limit_of StrictShaderText = most_list
 limit_of (Slots slots) = most_list
 limit_of (Queue buffers) = most_list
 limit_of Session = most_list

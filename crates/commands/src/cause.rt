@@ -1,6 +1,6 @@
 //! Why a command refuses, as a line for a person.
 ghost use Rattle.std.specs.Prelude.{◌≡◌, Some};
-ghost use Rattle.commands.specs.Cause.{cause_text, is_bare, told_text, kind_of, shader_rule, level_rule, size_line, named_text};
+ghost use Rattle.commands.specs.Cause.{cause_text, is_bare, told_text, kind_of, shader_rule, strict_rule, level_rule, size_line, named_text};
 
 use super::word_fault::WordFault;
 use job_format::Stage;
@@ -9,6 +9,7 @@ use qpu_asm::{AsmFault, FaultPlace, Opcode, Wanted};
 use rule_words::{Family, Line, RuleName};
 use shader_check::ShaderFault;
 use std::fmt;
+use strict_rules::StrictFault;
 use tile_convert::LevelFault;
 
 /// Why a command refused its input, or the program its words. It is printed as one line without a line feed, and takes no memory, also to print.
@@ -20,8 +21,8 @@ pub enum Cause {
     Kind(AsmFault, FaultPlace),
     /// The first fault of a text of bytes.
     Mistake(MakeFault),
-    /// A shader breaks a rule.
-    Shader(ShaderFault),
+    /// A shader breaks a rule at the instruction of this index.
+    Shader(RuleName, u32),
     /// A shader's text has so many instructions, which are too many.
     Long(u64),
     /// The first line of a script that is no call.
@@ -43,11 +44,18 @@ fn kind_of(fault: &AsmFault) -> RuleName
     RuleName::new(Family::Kind, fault.kind)
 }
 
-// The rule's name, as `S24`.
-fn shader_rule(fault: &ShaderFault) -> RuleName
+/// The rule's name, as `S24`.
+pub(crate) fn shader_rule(fault: &ShaderFault) -> RuleName
     ensures { result ≡ shader_rule fault.now }
 {
     RuleName::new(Family::Check(Stage::S), fault.number)
+}
+
+/// The name of a strict rule, as `E3`.
+pub(crate) fn strict_rule(fault: &StrictFault) -> RuleName
+    ensures { result ≡ strict_rule fault.now }
+{
+    RuleName::new(Family::Check(Stage::E), fault.rule.number())
 }
 
 /// The name of the rule that refuses a level, as `U7` or `V2`.
@@ -154,13 +162,12 @@ impl fmt::Display for Cause {
                     fault.line, fault.column, sentence
                 )
             }
-            Cause::Shader(fault) => {
-                let name = shader_rule(fault);
+            Cause::Shader(name, index) => {
                 let sentence = name.sentence();
                 write!(
                     f,
                     "vc4check: {}: {} (instruction {}); see vc4check explain {}",
-                    name, sentence, fault.index, name
+                    name, sentence, index, name
                 )
             }
             Cause::Long(count) => write!(

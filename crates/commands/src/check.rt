@@ -10,7 +10,8 @@ ghost use Rattle.job_check.specs.Faults.{file_stages};
 ghost use Rattle.job_check.specs.Whole.{all_questions, refusal_of};
 ghost use Rattle.dumper.specs.Parts.{part_at, sorted, Ascend};
 ghost use Rattle.dumper.specs.{Spans.parts_of, Text.refused_text};
-ghost use Rattle.commands.specs.Verdict.{image_of, IsCheckAnswer, IsVerdict};
+ghost use Rattle.strict_check.specs.Whole.{strict_questions, strict_refusal_of};
+ghost use Rattle.commands.specs.Verdict.{image_of, IsCheckAnswer, IsStrictCheckAnswer, IsVerdict};
 ghost use Rattle.commands.specs.Image.{IsAccepted};
 ghost use Rattle.commands.specs.Cause.{IsRuleCause};
 ghost use Rattle.commands.specs.Reply.{image_text, reply_status, reply_cause, IsReplyOf, IsReplyReady};
@@ -26,6 +27,7 @@ use job_format::{FileParts, Refusal, read_parts};
 use rule_words::line_of;
 use std::alloc::Global;
 use std::borrow::CowSlice;
+use strict_check::check_strict_parts;
 
 /// A file of which no rule stands, whose contents are slices of its bytes, and the lists of its jobs.
 #[derive(Drop)]
@@ -52,6 +54,17 @@ pub(crate) fn accept<'a>(alloc: Global, bytes: &'a [u8]) -> Result<Accepted<'a>,
         Ok(file) => accept_parts(alloc, file),
         Err(stop) => Err(format_refusal(stop)),
     }
+}
+
+/// The same, and the strict rules last.
+#[tactic(auto, unfolding(strict_check::specs::Whole::strict_questions))]
+fn accept_strict<'a>(alloc: Global, bytes: &'a [u8]) -> Result<Accepted<'a>, Stop<Refusal>>
+    ensures answers { Answers (strict_questions bytes.now) (IsAccepted (file_at bytes.now)) result }
+    ensures spelled { IsOk result → IsFileOf bytes.now (file_at bytes.now) }
+{
+    let accepted = accept(alloc, bytes)?;
+    check_strict_parts(alloc, &accepted.file)?;
+    Ok(accepted)
 }
 
 /// The first rule that stands of these bytes, where one does.
@@ -135,6 +148,21 @@ pub fn check_answer(alloc: Global, bytes: &[u8]) -> Result<Reply<'_>, NoMemory>
     ensures cause { IfOk result (λ a. IsRuleCause bytes.now (refusal_of bytes.now) (reply_cause a)) }
 {
     match accept(alloc, bytes) {
+        Ok(accepted) => Ok(Reply::Image(image_of(alloc, accepted)?)),
+        Err(Stop::Fault(refusal)) => Ok(Reply::Text(refused(alloc, bytes, refusal)?)),
+        Err(Stop::NoMemory) => Err(NoMemory),
+    }
+}
+
+/// What `check --strict` answers to these bytes, for which the strict rules are asked too.
+#[tactic(auto, unfolding(strict_check::specs::Whole::strict_refusal_of), using(field_words::proofs::Questions::first_is))]
+pub fn strict_check_answer(alloc: Global, bytes: &[u8]) -> Result<Reply<'_>, NoMemory>
+    ensures answers { IfOk result (IsReplyOf (IsStrictCheckAnswer bytes.now)) }
+    ensures status { IfOk result (λ a. reply_status a < 2) }
+    ensures ready { IfOk result IsReplyReady }
+    ensures cause { IfOk result (λ a. IsRuleCause bytes.now (strict_refusal_of bytes.now) (reply_cause a)) }
+{
+    match accept_strict(alloc, bytes) {
         Ok(accepted) => Ok(Reply::Image(image_of(alloc, accepted)?)),
         Err(Stop::Fault(refusal)) => Ok(Reply::Text(refused(alloc, bytes, refusal)?)),
         Err(Stop::NoMemory) => Err(NoMemory),

@@ -18,6 +18,8 @@ const MOST_PICTURE: usize = 25_165_824;
 pub enum Command {
     /// `check`: reads a job file and prints the memory that it runs in, or why it is refused.
     Check,
+    /// `check --strict`: the same, and asks the strict rules too.
+    StrictCheck,
     /// `replay`, and `picture --run`: reads a job file and prints what runs of it do; or why it is refused.
     Runs(Trial),
     /// `picture`: reads a job file and writes a picture of its memory, as SVG; or why it is refused.
@@ -39,6 +41,10 @@ pub enum Command {
     Shader,
     /// `shader --asm`: reads shader text and prints the same of its words, or its first fault.
     ShaderText,
+    /// `shader --strict`: as `shader`, and asks the strict rules too.
+    StrictShader,
+    /// `shader --strict --asm`: the same of shader text.
+    StrictShaderText,
     /// `slots <n>`: reads a script of calls on a pool of so many slots, and answers each.
     Slots(u32),
     /// `queue <buffers>`: reads a script of calls on a queue of jobs that name so many buffers, and answers each.
@@ -72,9 +78,10 @@ impl Command {
     {
         match self {
             Command::Untile(_) | Command::Tile(_) | Command::Level(_) => MOST_PICTURE,
-            Command::Shader => MOST_CODE as usize,
+            Command::Shader | Command::StrictShader => MOST_CODE as usize,
             Command::Asm
             | Command::ShaderText
+            | Command::StrictShaderText
             | Command::Disasm
             | Command::Slots(_)
             | Command::Queue(_)

@@ -50,8 +50,9 @@ pub enum Topic {
 type Usage = (&'static str, &'static str);
 
 const CHECK: Usage = (
-    "check [FILE]",
-    "Reads a job file of at most 48 MiB and writes the memory of the accepted jobs, or the first rule that it breaks.",
+    "check [--strict] [FILE]",
+    "Reads a job file of at most 48 MiB and writes the memory of the accepted jobs, or the first rule that it breaks.
+With --strict it asks the strict rules (E) too, last of all.",
 );
 
 const REPLAY: Usage = (
@@ -143,9 +144,10 @@ const DISASM: Usage = (
 );
 
 const SHADER: Usage = (
-    "shader [--asm] [FILE]",
+    "shader [--strict] [--asm] [FILE]",
     "Reads the words of one shader, 8 bytes each, at most 64 KiB, and checks it alone: writes how many uniforms and threads it takes, and its
-samples and address words by the uniforms that they take; or the first rule that it breaks. With --asm it reads shader text, at most 1 MiB.",
+samples and address words by the uniforms that they take; or the first rule that it breaks. With --asm it reads shader text, at most 1 MiB.
+With --strict it asks the strict rules (E) too, last of all.",
 );
 
 const EXPLAIN: Usage = (

@@ -19,6 +19,7 @@ mod scripts;
 mod serve;
 mod shader_text;
 mod shown;
+mod strict_shader;
 mod surfaces;
 mod trial;
 mod upgrading;

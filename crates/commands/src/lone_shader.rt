@@ -8,18 +8,19 @@ ghost use Rattle.job_check.specs.Shaders.{code_questions, told_of};
 ghost use Rattle.qpu_asm.specs.Assembly.{Assembled};
 ghost use Rattle.qpu_isa.specs.Shader.{shader_view};
 ghost use Rattle.shader_check.specs.Rules.{shader_questions};
-ghost use Rattle.commands.specs.Cause.{words_cause, text_cause, IsRefusal};
-ghost use Rattle.commands.specs.declared.cause.Cause.TheVariants.{Shader};
-ghost use Rattle.commands.specs.LoneShader.{position_text, sample_line, address_line, thread_count, head_text, shader_text, shader_refusal, long_text, IsShaderAnswer, IsWordsAnswer, IsShaderTextAnswer};
+ghost use Rattle.commands.specs.Cause.{words_cause, text_cause, shader_cause, IsRefusal};
+ghost use Rattle.commands.specs.declared.cause.Cause.TheVariants.{Shader, Long};
+ghost use Rattle.commands.specs.LoneShader.{position_text, sample_line, address_line, thread_count, head_text, shader_text, shader_refusal, long_text, IsTold, IsShaderAnswer, IsWordsAnswer, IsShaderTextAnswer};
 
 use super::answer::Answer;
-use super::cause::Cause;
+use super::cause::{Cause, shader_rule};
 use super::shader_text::text_refused;
 use field_words::{MOST_WORDS, NoMemory, Stop};
 use itoa::Buffer;
 use job_check::shader_in;
 use qpu_asm::assemble;
 use qpu_isa::{Sample, ShaderInfo};
+use rule_words::RuleName;
 use shader_check::{ShaderFault, check_code};
 use std::alloc::{AllocError, Global};
 
@@ -104,7 +105,7 @@ fn head_text(alloc: Global, uniforms: u32, threads: u32) -> Result<Vec<u8>, Allo
 
 // What is printed of an accepted shader.
 #[tactic(auto, unfolding(crate::specs::LoneShader::shader_text))]
-fn shader_text(alloc: Global, info: &ShaderInfo) -> Result<Vec<u8>, AllocError>
+pub(crate) fn shader_text(alloc: Global, info: &ShaderInfo) -> Result<Vec<u8>, AllocError>
     ensures { IfOk result (λ text. text.items ≡ shader_text (shader_view info.now)) }
 {
     let mut text = head_text(alloc, info.uniforms, thread_count(info.threaded))?;
@@ -113,21 +114,22 @@ fn shader_text(alloc: Global, info: &ShaderInfo) -> Result<Vec<u8>, AllocError>
     Ok(text)
 }
 
-// The answer where this rule is the first that stands.
+/// The answer where this rule is the first that stands, at this instruction.
 #[tactic(auto, unfolding(crate::specs::LoneShader::shader_refusal))]
-fn shader_refused(alloc: Global, fault: ShaderFault) -> Result<Answer, NoMemory>
-    ensures { IfOk result (IsRefusal (shader_refusal fault) (Some (Shader fault))) }
+pub(crate) fn shader_refused(alloc: Global, name: RuleName, index: u32) -> Result<Answer, NoMemory>
+    ensures { IfOk result (IsRefusal (shader_refusal name index) (Some (Shader name index))) }
 {
-    let ShaderFault { number, index } = fault;
-    let text = format!(in alloc; "refused S{number} at instruction {index}\n")?.into_bytes();
-    Ok(Answer::refused(text, Some(Cause::Shader(fault))))
+    let text = format!(in alloc; "refused {name} at instruction {index}\n")?.into_bytes();
+    Ok(Answer::refused(text, Some(Cause::Shader(name, index))))
 }
 
+/// The answer to a shader of so many words, which are too many.
 #[tactic(auto, unfolding(crate::specs::LoneShader::long_text))]
-fn long_text(alloc: Global, count: u64) -> Result<Vec<u8>, AllocError>
-    ensures { IfOk result (λ text. text.items ≡ long_text count) }
+pub(crate) fn long_refused(alloc: Global, count: u64) -> Result<Answer, NoMemory>
+    ensures { IfOk result (IsRefusal (long_text count) (Some (Long count))) }
 {
-    Ok(format!(in alloc; "instructions {count}\n")?.into_bytes())
+    let text = format!(in alloc; "instructions {count}\n")?.into_bytes();
+    Ok(Answer::refused(text, Some(Cause::Long(count))))
 }
 
 /// What `shader` answers to bytes: what the shader of the words that they spell takes and reads, or the first rule that stands of it.
@@ -136,18 +138,18 @@ pub fn shader_answer(alloc: Global, bytes: &[u8]) -> Result<Answer, NoMemory>
     requires { length bytes.now ≤ most_code }
     ensures answers { IfOk result (λ a. IsShaderAnswer bytes.now a.status a.text.items) }
     ensures status { IfOk result (λ a. a.status < 2) }
-    ensures cause { IfOk result (λ a. a.cause ≡ option_map Shader (first_of (code_questions bytes.now))) }
+    ensures cause { IfOk result (λ a. a.cause ≡ option_map shader_cause (first_of (code_questions bytes.now))) }
 {
     match shader_in(alloc, bytes) {
         Ok(info) => Ok(Answer::done(shader_text(alloc, &info)?)),
-        Err(Stop::Fault(fault)) => shader_refused(alloc, fault),
+        Err(Stop::Fault(fault)) => shader_refused(alloc, shader_rule(&fault), fault.index),
         Err(Stop::NoMemory) => Err(NoMemory),
     }
 }
 
-// The checker's answer, as it is told of a shader in a job.
+/// The checker's answer, as it is told of a shader in a job.
 #[tactic(auto, unfolding(job_check::specs::Shaders::told_of))]
-fn checked(alloc: Global, code: &[u64]) -> Result<ShaderInfo, Stop<ShaderFault>>
+pub(crate) fn checked(alloc: Global, code: &[u64]) -> Result<ShaderInfo, Stop<ShaderFault>>
     requires { length code.now ≤ most_words }
     ensures { Answers (shader_questions code.now) (λ info. shader_view info ≡ told_of code.now) result }
 {
@@ -157,18 +159,16 @@ fn checked(alloc: Global, code: &[u64]) -> Result<ShaderInfo, Stop<ShaderFault>>
 // What is answered to a shader of these words.
 #[tactic(auto, using(field_words::proofs::Questions::first_is))]
 fn words_answer(alloc: Global, code: &[u64]) -> Result<Answer, NoMemory>
-    ensures answers { IfOk result (λ a. IsWordsAnswer code.now a.status a.text.items) }
+    ensures answers { IfOk result (λ a. IsWordsAnswer IsTold code.now a.status a.text.items) }
     ensures status { IfOk result (λ a. a.status < 2) }
     ensures cause { IfOk result (λ a. a.cause ≡ words_cause code.now) }
 {
     if code.len() > MOST_WORDS as usize {
-        let count = code.len() as u64;
-        let text = long_text(alloc, count)?;
-        return Ok(Answer::refused(text, Some(Cause::Long(count))));
+        return long_refused(alloc, code.len() as u64);
     }
     match checked(alloc, code) {
         Ok(info) => Ok(Answer::done(shader_text(alloc, &info)?)),
-        Err(Stop::Fault(fault)) => shader_refused(alloc, fault),
+        Err(Stop::Fault(fault)) => shader_refused(alloc, shader_rule(&fault), fault.index),
         Err(Stop::NoMemory) => Err(NoMemory),
     }
 }

@@ -11,7 +11,7 @@ ghost use Rattle.commands.specs.Words.{limit_of, IsWithin};
 
 use super::bounded::bound_answer;
 use super::cause::Cause;
-use super::check::check_answer;
+use super::check::{check_answer, strict_check_answer};
 use super::command::Command;
 use super::drawn::drawn_answer;
 use super::lone_shader::{shader_answer, shader_text_answer};
@@ -20,6 +20,7 @@ use super::reply::{Reply, print};
 use super::scripts::{queue_answer, session_answer, slots_answer};
 use super::shader_text::{asm_answer, disasm_answer};
 use super::shown::{make_answer, show_answer};
+use super::strict_shader::{strict_shader_answer, strict_text_answer};
 use super::surfaces::{level_answer, tile_answer, untile_answer};
 use super::upgrading::upgrade_answer;
 use entry::Ended;
@@ -38,6 +39,7 @@ fn answer_to(alloc: Global, command: Command, bytes: &[u8]) -> Result<Reply<'_>,
 {
     let answer = match command {
         Command::Check => return check_answer(alloc, bytes),
+        Command::StrictCheck => return strict_check_answer(alloc, bytes),
         Command::Runs(trial) => trial_answer(alloc, trial, bytes),
         Command::Drawn => drawn_answer(alloc, bytes),
         Command::Upgrade => upgrade_answer(alloc, bytes),
@@ -48,6 +50,8 @@ fn answer_to(alloc: Global, command: Command, bytes: &[u8]) -> Result<Reply<'_>,
         Command::Disasm => disasm_answer(alloc, bytes),
         Command::Shader => shader_answer(alloc, bytes),
         Command::ShaderText => shader_text_answer(alloc, bytes),
+        Command::StrictShader => strict_shader_answer(alloc, bytes),
+        Command::StrictShaderText => strict_text_answer(alloc, bytes),
         Command::Slots(slots) => slots_answer(alloc, slots, bytes),
         Command::Queue(buffers) => queue_answer(alloc, buffers, bytes),
         Command::Session => session_answer(alloc, bytes),

@@ -6,7 +6,7 @@ ghost use Rattle.commands.specs.Line.{line_of, texts, number_by, given_number, g
 ghost use Rattle.commands.specs.Pictures.{IsPictureWithin};
 ghost use Rattle.commands.specs.Trials.{IsRangeWithin};
 ghost use Rattle.commands.specs.WordFault.{values_of};
-ghost use Rattle.commands.specs.Words.{run, runs, replay, picture, pictured, level, example, slots, queue, shader, explain, asked, task_behind, topic_named, topic_alone, task_or_fault, names_file, is_read, ReadsWithin};
+ghost use Rattle.commands.specs.Words.{run, runs, replay, picture, pictured, level, example, slots, queue, check, shader, strict_shader, explain, asked, task_behind, topic_named, topic_alone, task_or_fault, names_file, is_read, ReadsWithin};
 ghost use Rattle.texture_layouts.specs.Surface.{IsPixelSize};
 
 use super::command::{Command, Task};
@@ -274,10 +274,33 @@ fn explain(mut line: Line) -> Result<Task, WordFault>
     line.end(Task::Tell(Topic::Rule(name)))
 }
 
+fn check(mut line: Line) -> Result<Task, WordFault>
+    ensures value { result ≡ check (line_of line.entry) }
+    ensures within { IfOk result ReadsWithin }
+{
+    if line.begins("--strict") {
+        return line.end(Task::Read(Command::StrictCheck));
+    }
+    line.end(Task::Read(Command::Check))
+}
+
+fn strict_shader(mut line: Line) -> Result<Task, WordFault>
+    ensures value { result ≡ strict_shader (line_of line.entry) }
+    ensures within { IfOk result ReadsWithin }
+{
+    if line.begins("--asm") {
+        return line.end(Task::Read(Command::StrictShaderText));
+    }
+    line.end(Task::Read(Command::StrictShader))
+}
+
 fn shader(mut line: Line) -> Result<Task, WordFault>
     ensures value { result ≡ shader (line_of line.entry) }
     ensures within { IfOk result ReadsWithin }
 {
+    if line.begins("--strict") {
+        return strict_shader(line);
+    }
     if line.begins("--asm") {
         return line.end(Task::Read(Command::ShaderText));
     }
@@ -314,7 +337,7 @@ fn asked(line: Line) -> Result<Task, WordFault>
     ensures within { IfOk result ReadsWithin }
 {
     match line.verb {
-        Verb::Check => line.end(Task::Read(Command::Check)),
+        Verb::Check => check(line),
         Verb::Replay => replay(line),
         Verb::Picture => picture(line),
         Verb::Upgrade => line.end(Task::Read(Command::Upgrade)),

@@ -10,6 +10,7 @@ ghost use Rattle.job_check.specs.Whole.{all_questions};
 ghost use Rattle.accepted_ends.specs.Law.{FileEnds};
 ghost use Rattle.accepted_law.specs.Holdings.{start_by, file_rights, file_starts};
 ghost use Rattle.driver_law.specs.Driver.{FileMayJoin};
+ghost use Rattle.strict_check.specs.Whole.{strict_questions};
 ghost use Rattle.job_safety.specs.Accepted.{starts_by, IsSetUp, IsAccepted};
 ghost use Rattle.job_safety.specs.Clients.{IsApart};
 ghost use Rattle.job_safety.specs.Safe.{AreSafe, AreSame};
@@ -20,6 +21,7 @@ use job_format::Refusal;
 use machine::{Machine, Start};
 use relocation::{Layout, Lengths};
 use std::alloc::Global;
+use strict_check::check_strict_bytes;
 
 /// An accepted file: its version, job by job where its lists lie in the machine's memory and how long they are, and the machine in its
 /// start state.
@@ -122,4 +124,25 @@ pub fn accept(alloc: Global, bytes: &[u8]) -> Result<Accepted, Stop<Refusal>>
         },
         Err(stop) => Err(stop),
     }
+}
+
+/// The same as `accept` of a file that breaks no strict rule either: the strict rules are asked last.
+///
+/// # Errors
+/// The first rule that is broken, by its letter, its number and its place in the bytes; or want of memory.
+#[tactic(auto, unfolding(strict_check::specs::Whole::strict_questions))]
+pub fn accept_strict(alloc: Global, bytes: &[u8]) -> Result<Accepted, Stop<Refusal>>
+    ensures answers { Answers (strict_questions bytes.now) (IsAccepted (file_at bytes.now)) result }
+    ensures spelled { IsOk result → IsFileOf bytes.now (file_at bytes.now) }
+    ensures safe { IsOk result
+        → AreSafe (file_rights (file_at bytes.now)) (memory_of (file_at bytes.now)) (file_starts (file_at bytes.now)) }
+    ensures same { IsOk result
+        → AreSame (file_rights (file_at bytes.now)) (memory_of (file_at bytes.now)) (file_starts (file_at bytes.now)) }
+    ensures apart { IsOk result → IsApart (file_at bytes.now) }
+    ensures ends { IsOk result → FileEnds (file_at bytes.now) }
+    ensures joins { IsOk result → FileMayJoin (file_at bytes.now) }
+{
+    let accepted = accept(alloc, bytes)?;
+    check_strict_bytes(alloc, bytes)?;
+    Ok(accepted)
 }

@@ -7,7 +7,7 @@ mod clients;
 mod files;
 mod strength;
 
-pub use accepting::{Accepted, accept, version_of};
+pub use accepting::{Accepted, accept, accept_strict, version_of};
 pub use clients::clients_are_apart;
 pub use files::{
     accepted_bytes_are_safe, placed_jobs_are_safe, prepared_jobs_may_run, safe_files_follow,

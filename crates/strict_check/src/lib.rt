@@ -1,0 +1,16 @@
+//! The strict check of a job file that breaks no other rule: what the hardware's guide forbids all the same.
+//!
+//! `specs/Stages.antt` lists the rules in the order of refusal, over those of `strict_rules` on shaders and `strict_lists` on lists and
+//! records.
+#![tactic(auto)]
+
+mod check;
+mod lists;
+mod records;
+mod shaders;
+mod uses;
+mod whole;
+
+pub use check::check_strict_parts;
+pub use uses::Uses;
+pub use whole::check_strict_bytes;

@@ -1,0 +1,130 @@
+//! E8 and E11: the shader records of a job.
+ghost use Rattle.std.specs.Prelude.{◌≡◌, ◌≤◌, ◌<◌, ◌+◌, ◌*◌, ◌^◌, length};
+ghost use Rattle.field_words.specs.Words.{u32_at};
+ghost use Rattle.field_words.specs.Questions.{GoesOn};
+ghost use Rattle.job_format.specs.File.{IsWellFormed};
+ghost use Rattle.job_format.specs.Parts.{parts_view};
+ghost use Rattle.shader_records.specs.Sources.{handles_size, source_size};
+ghost use Rattle.strict_check.specs.Uses.{all_uses};
+ghost use Rattle.strict_check.specs.Stages.{record_refused, use_questions, record_questions, records_stage};
+
+use crate::uses::{Uses, uses_named};
+use bin_list::split_front;
+use job_check::{job_at, part_offset};
+use job_format::{FileParts, Refusal, Rule, Stage};
+use packets::opcode::GL_SHADER_STATE;
+use packets::{attribute_count, record_size};
+use strict_lists::{byte_at, selection_fault};
+
+/// The number of the four bytes from this place on, of which those behind the last are zeros.
+fn word_at(bytes: &[u8], at: usize) -> u32
+    requires { at < 2 ^ 32 }
+    ensures { result ≡ u32_at bytes.now at }
+{
+    u32::from_le_bytes([
+        byte_at(bytes, at),
+        byte_at(bytes, at + 1),
+        byte_at(bytes, at + 2),
+        byte_at(bytes, at + 3),
+    ])
+}
+
+/// A strict rule that the records of the job of this number break, at this place in them.
+#[tactic(auto, unfolding(job_check::specs::Faults::part_offset))]
+fn record_refusal(file: &FileParts, number: usize, rule: u8, at: u64) -> Refusal
+    requires well_formed { IsWellFormed (parts_view file.now) }
+    requires inside { number < length file.now.jobs.items }
+    requires near { at < 2 ^ 33 }
+    ensures { result ≡ record_refused (parts_view file.now) number rule at }
+{
+    Refusal {
+        rule: Rule {
+            stage: Stage::E,
+            number: rule,
+        },
+        offset: part_offset(file, number, false) + at,
+    }
+}
+
+/// E8 of the record whose source begins at this place.
+#[tactic(auto, unfolding(crate::specs::Stages::use_questions))]
+fn use_fault(file: &FileParts, number: usize, uses: &[Uses], at: usize) -> Result<(), Refusal>
+    requires well_formed { IsWellFormed (parts_view file.now) }
+    requires inside { number < length file.now.jobs.items }
+    requires uses { uses.now ≡ all_uses (parts_view file.now) }
+    requires near { at < 2 ^ 31 }
+    ensures { GoesOn (use_questions (parts_view file.now) number at) (λ made. Unit {0}) result }
+{
+    let records = job_at(file, number).records;
+    if uses_named(file, number, uses, word_at(records, at)).vpm {
+        return Err(record_refusal(file, number, 8, at as u64));
+    }
+    if uses_named(file, number, uses, word_at(records, at + 4)).tile {
+        return Err(record_refusal(file, number, 8, at as u64 + 4));
+    }
+    if uses_named(file, number, uses, word_at(records, at + 8)).tile {
+        return Err(record_refusal(file, number, 8, at as u64 + 8));
+    }
+    Ok(())
+}
+
+/// The bytes of the handles before the record of a state with this word, and of the whole source.
+#[tactic(auto, unfolding(shader_records::specs::Sources::handles_size))]
+fn handles_size(word: u32) -> usize
+    ensures value { result ≡ handles_size word }
+    ensures limit { result ≤ 44 }
+{
+    4 * (3 + attribute_count(word) as usize)
+}
+
+#[tactic(auto, unfolding(shader_records::specs::Sources::source_size))]
+fn source_size(word: u32) -> usize
+    ensures value { result ≡ source_size word }
+    ensures limit { result ≤ 176 }
+{
+    handles_size(word) + record_size(word) as usize
+}
+
+/// E8 and E11 of the record of a state with this word, whose source begins at this place.
+#[tactic(auto, unfolding(crate::specs::Stages::record_questions), using(field_words::proofs::Questions::answered_none, field_words::proofs::Questions::answered_some))]
+fn record_fault(
+    file: &FileParts,
+    number: usize,
+    uses: &[Uses],
+    at: usize,
+    word: u32,
+) -> Result<(), Refusal>
+    requires well_formed { IsWellFormed (parts_view file.now) }
+    requires inside { number < length file.now.jobs.items }
+    requires uses { uses.now ≡ all_uses (parts_view file.now) }
+    requires near { at < 2 ^ 31 }
+    ensures { GoesOn (record_questions (parts_view file.now) number at word) (λ made. Unit {0}) result }
+{
+    use_fault(file, number, uses, at)?;
+    let from = at + handles_size(word);
+    match selection_fault(job_at(file, number).records, from, attribute_count(word)) {
+        Some(place) => Err(record_refusal(file, number, 11, from as u64 + u64::from(place))),
+        None => Ok(()),
+    }
+}
+
+/// E8 and E11 of the records of the job of this number, where `uses` has what the shader of each buffer uses.
+pub(crate) fn records_stage(file: &FileParts, number: usize, uses: &[Uses]) -> Result<(), Refusal>
+    requires well_formed { IsWellFormed (parts_view file.now) }
+    requires inside { number < length file.now.jobs.items }
+    requires uses { uses.now ≡ all_uses (parts_view file.now) }
+    ensures { GoesOn (records_stage (parts_view file.now) number) (λ made. Unit {0}) result }
+{
+    let mut at = 0;
+    let mut rest = job_at(file, number).bin;
+    while !rest.is_empty() {
+        let (packet, later) = split_front(rest);
+        if packet[0] == GL_SHADER_STATE {
+            let word = word_at(packet, 1);
+            record_fault(file, number, uses, at, word)?;
+            at += source_size(word);
+        }
+        rest = later;
+    }
+    Ok(())
+}
