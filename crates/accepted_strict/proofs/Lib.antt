@@ -1,0 +1,3 @@
+pub mod Jobs
+pub mod Files
+pub mod Drivers

@@ -1,0 +1,12 @@
+pub mod Shaders
+pub mod Marks
+pub mod Stretches
+pub mod Threads
+pub mod Orders
+pub mod Processors
+pub mod Machine
+pub mod Begins
+pub mod Obey
+pub mod Oldest
+pub mod Runs
+pub mod Days

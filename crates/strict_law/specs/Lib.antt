@@ -1,0 +1,5 @@
+pub mod Forbidden
+pub mod Strict
+pub mod Days
+pub mod Order
+pub mod Known
