@@ -1,5 +1,5 @@
 -- One count more, and counts past the last word.
-use Rattle.std.proofs.Common.{◌≡◌, ◌≤◌, ◌<◌, inl, inr, ℕ, zero, suc, ◌+◌, ◌-◌, List, [], ◌∷◌, ◌++◌, length, slice_index, refl, sym, ◌∙◌, ap, arith}
+use Rattle.std.proofs.Common.{◌≡◌, ◌≤◌, ◌<◌, inl, inr, ℕ, zero, suc, ◌+◌, List, [], ◌∷◌, ◌++◌, length, slice_index, refl, sym, ◌∙◌, ap, arith}
 use Rattle.std.proofs.{lemmas.Bool.cases_lt, lemmas.List.length-append}
 use Rattle.shader_flow.specs.Flow.{word}
 use Rattle.qpu_isa.specs.Word.{sig_of, waddr_add_of, waddr_mul_of}

@@ -6,15 +6,15 @@ use Rattle.buffer_table.specs.Table.{buffer_at}
 use Rattle.job_format.specs.Model.{FileModel}
 use Rattle.job_check.specs.{Offsets.content_offset, Shaders.words_of, Shaders.content_of}
 use Rattle.accepted_ends.specs.Bound.{steps, longest_of, bound_of}
-use Rattle.job_bound.specs.{Back.branches, Back.wait_places, Back.first_place, declared.bound.Bound.Bound}
+use Rattle.job_bound.specs.{Back.branches, Back.wait_places, Back.first_place, Items.items_of, declared.bound.Bound.Bound}
 use Rattle.job_bound.specs.declared.bound.Bound.TheVariants.{Steps, Loops}
 use Rattle.job_bound.specs.declared.named.Sought.TheVariants.{LeadsBack, MayWait}
 use Rattle.job_bound.specs.declared.programs.Program.{Program}
 
--- Where no branch leads back, the most steps, how many more for each step in which a renderer stays at an item, and the place of the first
--- instruction that may wait for a request that isn't there; else the place of the first branch that does.
+-- Where no branch leads back, the most steps, how many more for each step in which a renderer stays at an item, how many items there may be,
+-- and the place of the first instruction that may wait for a request that isn't there; else the place of the first branch that does.
 abbrev pub bound_by : Option ℕ → FileModel → Bound
-bound_by None f = Steps (bound_of f) (longest_of f + 1) (first_place MayWait f)
+bound_by None f = Steps (bound_of f) (longest_of f + 1) (items_of f) (first_place MayWait f)
 bound_by (Some offset) f = Loops offset
 
 unfoldable pub bound_in : FileModel → Bound
@@ -22,8 +22,8 @@ bound_in f = bound_by (first_place LeadsBack f) f
 
 -- the lines that are printed
 abbrev pub text_of : Bound → List ℕ
-text_of (Steps most stay None) = codes "steps " ++ (decimal most ++ (codes " and " ++ (decimal stay ++ codes " a stay\nends\n")))
-text_of (Steps most stay (Some offset)) =
+text_of (Steps most stay items None) = codes "steps " ++ (decimal most ++ (codes " and " ++ (decimal stay ++ codes " a stay\nends\n")))
+text_of (Steps most stay items (Some offset)) =
     codes "steps " ++ (decimal most ++ (codes " and " ++ (decimal stay ++ (codes " a stay\nmay wait at " ++ (decimal offset ++ codes "\n")))))
 text_of (Loops offset) = codes "loops at " ++ (decimal offset ++ codes "\n")
 

@@ -13,6 +13,7 @@ ghost use Rattle.job_check.specs.Faults.{table_stage, file_stages};
 ghost use Rattle.job_check.specs.Region.{region_from, IsRegion};
 ghost use Rattle.accepted_ends.specs.Bound.{longest_of, job_bound, bound_of};
 ghost use Rattle.job_bound.specs.Bound.{bound_in, most_program, most_job};
+ghost use Rattle.job_bound.specs.Items.{items_in, items_of};
 
 use crate::binner::{bin_steps, room};
 use crate::named::{Sought, first_place, longest};
@@ -27,10 +28,13 @@ use std::alloc::Global;
 #[derive(Clone, Copy, Debug, PartialEq, Eq)]
 pub enum Bound {
     /// No shader that a handle names has a loop: each run has at most `most` steps, and `stay` more for each step in which a renderer
-    /// stays at an item. `wait` is the place in the file of the first instruction that may wait for a request that isn't there.
+    /// stays at an item, of which there are at most `items`: a run in which none is stayed at more than K times has at most
+    /// `most` + `stay` * K * `items` steps. `wait` is the place in the file of the first instruction that may wait for a request that isn't
+    /// there.
     Steps {
         most: u128,
         stay: u32,
+        items: u64,
         wait: Option<u64>,
     },
     /// The first branch that leads back stands at this place in the file.
@@ -101,6 +105,17 @@ fn items_steps(room: u64, has_bin: bool) -> u128
     u128::from(room) * times
 }
 
+/// For how many items the tile lists of the job of this number have room.
+fn items_in(file: &FileParts, number: usize, region: &Region) -> u64
+    requires faultless { IsFaultless (parts_view file.now) }
+    requires inside { number < length file.now.jobs.items }
+    requires region { IsRegion (parts_view file.now) region.now }
+    ensures value { result ≡ items_in (parts_view file.now) number }
+    ensures few { result ≤ most_items }
+{
+    room(bin_list(file, number, region))
+}
+
 /// The most steps of the job of this number.
 fn job_bound(file: &FileParts, number: usize, region: &Region, longest: u32) -> u128
     requires faultless { IsFaultless (parts_view file.now) }
@@ -115,7 +130,7 @@ fn job_bound(file: &FileParts, number: usize, region: &Region, longest: u32) -> 
     let list = bin_list(file, number, region);
     let frame = frame_at(file, number);
     bin_steps(longest, list)
-        + items_steps(room(list), has_bin)
+        + items_steps(items_in(file, number, region), has_bin)
         + u128::from(frame_steps(frame, has_bin))
 }
 
@@ -134,9 +149,23 @@ fn all_steps(file: &FileParts, region: &Region, longest: u32) -> u128
     steps
 }
 
-/// The bound of an accepted file with these lists.
+/// For how many items the tile lists of all jobs have room.
+fn all_items(file: &FileParts, region: &Region) -> u64
+    requires faultless { IsFaultless (parts_view file.now) }
+    requires region { IsRegion (parts_view file.now) region.now }
+    ensures { result ≡ items_of (parts_view file.now) }
+{
+    let mut items = 0;
+    for number in 0..file.jobs.len() {
+        items += items_in(file, number, region);
+    }
+    items
+}
+
+/// The bound of an accepted file with these lists. It takes time and memory in proportion to the file: each shader is looked at once, however
+/// many handles name it. Only want of memory fails.
 #[tactic(auto, unfolding(crate::specs::Bound::bound_in))]
-fn bound_with(alloc: Global, file: &FileParts, region: &Region) -> Result<Bound, NoMemory>
+pub fn bound_with(alloc: Global, file: &FileParts, region: &Region) -> Result<Bound, NoMemory>
     requires faultless { IsFaultless (parts_view file.now) }
     requires region { IsRegion (parts_view file.now) region.now }
     ensures { IfOk result (λ bound. bound ≡ bound_in (parts_view file.now)) }
@@ -149,16 +178,16 @@ fn bound_with(alloc: Global, file: &FileParts, region: &Region) -> Result<Bound,
     Ok(Bound::Steps {
         most: all_steps(file, region, longest),
         stay: longest + 1,
+        items: all_items(file, region),
         wait: first_place(file, &programs, Sought::MayWait),
     })
 }
 
-/// Checks a file that was read, and tells how many steps its jobs take at most. `Ok` comes exactly where no rule of the file stands. No
-/// memory of the jobs is made. It takes time and memory in proportion to the file: each shader is looked at once, however many handles
-/// name it.
+/// Checks a file that was read, and reports how many steps its jobs take at most. `Ok` comes exactly where no rule of the file is broken. No
+/// memory of the jobs is made. It takes time and memory in proportion to the file.
 ///
 /// # Errors
-/// The first rule that stands, with its place in the file; or want of memory, which never hides a rule of the memory table.
+/// The first rule that is broken, with its place in the file; or want of memory, which never hides a rule of the memory table.
 pub fn find_bound(alloc: Global, file: &FileParts) -> Result<Bound, Stop<Refusal>>
     requires well_formed { IsWellFormed (parts_view file.now) }
     requires fits { Fits (parts_view file.now) }

@@ -1,9 +1,9 @@
 //! The bound on the steps of the jobs of a file, computed from the file.
 //!
-//! Where no shader that a handle of a job names branches back, two numbers bound each run of the jobs: how many steps it
-//! takes at most, and how many more for each step in which a renderer stays at an item. Besides it is told where in the file
-//! the first instruction stands that may wait for a request that isn't there, if any. Else the answer is where in the file
-//! the first such branch stands. What the answers mean are laws (`specs/Law.antt`). There is no branch back exactly where no
+//! Where no shader that a handle of a job names branches back, three numbers bound each run of the jobs: how many steps it
+//! takes at most, how many more for each step in which a renderer stays at an item, and how many items there may be. Besides the
+//! answer has the place in the file of the first instruction that may wait for a request that isn't there, if any. Else it is
+//! the place of the first such branch. What the answers mean are laws (`specs/Law.antt`). There is no branch back exactly where no
 //! shader loops, and no such instruction exactly where no program may wait so (`specs/Back.antt`).
 #![tactic(auto)]
 
@@ -19,8 +19,9 @@ mod wait;
 
 ghost use Rattle.job_bound.specs.Back.{NoneWithoutLoop, NoneWhereServed};
 ghost use Rattle.job_bound.specs.Law.{BoundHolds, EndHolds};
+ghost use Rattle.job_bound.specs.Live.{SubmissionsEndAtItems};
 
-pub use bound::{Bound, find_bound};
+pub use bound::{Bound, bound_with, find_bound};
 pub use named::Sought;
 pub use programs::Program;
 pub use text::{bound_bytes, bound_text};
@@ -39,9 +40,10 @@ pub fn none_where_served()
     ensures { NoneWhereServed }
 {}
 
-/// Whatever bytes they are: where no rule stands of them and the bound is two numbers, each run of their jobs, whichever unit steps next,
-/// whatever words answer, and whatever others write beside lists and code, has at most the first number of steps, and the second more for
-/// each step in which a renderer stays at an item.
+/// Whatever bytes they are: where no rule of them is broken and the bound is three numbers, each run of their jobs, whichever unit steps
+/// next, whatever words answer, and whatever others write beside lists and code, has at most the first number of steps, and the second more
+/// for each step in which a renderer stays at an item. Where a renderer stays at no item more than K times, it has at most the first number
+/// of steps and K times the product of the second and the third.
 #[tactic(auto, using(crate::proofs::Holds::bound_holds_law))]
 pub fn bound_holds()
     ensures { BoundHolds }
@@ -52,4 +54,11 @@ pub fn bound_holds()
 #[tactic(auto, using(crate::proofs::Holds::end_holds_law))]
 pub fn end_holds()
     ensures { EndHolds }
+{}
+
+/// The same of a job that a driver hands in, whatever other jobs come and go: where its renderer stays at none of its items more than K
+/// times, the steps for it are at most the job's share of the first number, and K times the second for each item for which its tile lists
+/// have room.
+pub fn submissions_end_at_items()
+    ensures { SubmissionsEndAtItems }
 {}

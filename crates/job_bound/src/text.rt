@@ -22,11 +22,13 @@ fn line(alloc: Global, bound: &Bound) -> Result<Vec<u8>, NoMemory>
             most,
             stay,
             wait: None,
+            ..
         } => format!(in alloc; "steps {most} and {stay} a stay\nends\n")?,
         Bound::Steps {
             most,
             stay,
             wait: Some(offset),
+            ..
         } => format!(in alloc; "steps {most} and {stay} a stay\nmay wait at {offset}\n")?,
         Bound::Loops { offset } => format!(in alloc; "loops at {offset}\n")?,
     };

@@ -7,7 +7,7 @@ use Rattle.job_format.specs.Parts.{parts_view, job_parts_view}
 use Rattle.ends_law.specs.{Left.AllWhole, Room.room_of, Steps.bin_steps}
 use Rattle.accepted_ends.specs.Bound.{longest_of}
 use Rattle.job_check.specs.Jobs.{job_of, has_bin, bin_list_of}
-use Rattle.job_bound.specs.Frames.{frame_steps}
+use Rattle.job_bound.specs.{Frames.frame_steps, Items.items_in}
 use Rattle.job_bound.proofs.Items.{list_whole, job_is}
 use Rattle.job_bound.proofs.bound.job_bound.Goals as goal
 
@@ -17,13 +17,8 @@ bin_steps-requires-clause-whole c =
     let inside : c.args.number < length f.jobs = omega (arith, c.requires.inside, length-map c.args.file.now.jobs.items job_parts_view) in
     subst (λ list. AllWhole (packets list)) (sym c.bin_list-list.ensures.value) (list_whole f c.args.number c.requires.faultless inside)
 
-pub room-requires : goal.room-requires
-room-requires c =
-    let f = parts_view c.args.file.now in
-    let inside : c.args.number < length f.jobs = omega (arith, c.requires.inside, length-map c.args.file.now.jobs.items job_parts_view) in
-    subst (λ list. AllWhole (packets list)) (sym c.bin_list-list.ensures.value) (list_whole f c.args.number c.requires.faultless inside)
-
 pub returns-clause-value : goal.returns-clause-value
+unfolding items_in
 returns-clause-value c =
     let f = parts_view c.args.file.now in
     let j = c.args.number in
@@ -31,7 +26,7 @@ returns-clause-value c =
     let first : c.bin_steps.result ≡ bin_steps (longest_of f) (packets (bin_list_of f j)) =
     c.bin_steps.ensures.value ∙ ap (λ w. bin_steps w (packets c.bin_list-list.result.now)) c.requires.longest
     ∙ ap (λ list. bin_steps (longest_of f) (packets list)) c.bin_list-list.ensures.value in
-    let room : c.room.result ≡ room_of (packets (bin_list_of f j)) = c.room.ensures.value ∙ ap (λ list. room_of (packets list)) c.bin_list-list.ensures.value in
+    let room : c.items_in.result ≡ room_of (packets (bin_list_of f j)) = c.items_in.ensures.value in
     let second : c.items_steps.result ≡ room_of (packets (bin_list_of f j)) * (1 + number_where (has_bin f j) 1) =
     c.items_steps.ensures.value ∙ ap (λ n. n * (1 + number_where c.has_bin-has_bin.result 1)) room
     ∙ ap (λ b. room_of (packets (bin_list_of f j)) * (1 + number_where b 1)) c.has_bin-has_bin.ensures in
