@@ -12,7 +12,9 @@ _vc4check() {
     "picture --favour") mapfile -t COMPREPLY < <(compgen -W "qpu texture binner renderer" -- "$word") ;;
     "picture --run") mapfile -t COMPREPLY < <(compgen -W "--favour" -- "$word") ;;
     "picture picture") mapfile -t COMPREPLY < <(compgen -W "--run" -- "$word"; compgen -f -- "$word") ;;
-    "shader shader") mapfile -t COMPREPLY < <(compgen -W "--asm" -- "$word"; compgen -f -- "$word") ;;
+    "check check") mapfile -t COMPREPLY < <(compgen -W "--strict" -- "$word"; compgen -f -- "$word") ;;
+    "shader --strict") mapfile -t COMPREPLY < <(compgen -W "--asm" -- "$word"; compgen -f -- "$word") ;;
+    "shader shader") mapfile -t COMPREPLY < <(compgen -W "--strict --asm" -- "$word"; compgen -f -- "$word") ;;
     "untile untile" | "tile tile") mapfile -t COMPREPLY < <(compgen -W "t lt" -- "$word") ;;
     *) mapfile -t COMPREPLY < <(compgen -f -- "$word") ;;
   esac

@@ -1,4 +1,4 @@
-/* From a submission to a job file, and back. docs/JOB_FILE.md has the file's form. */
+/* From a submission to a job file, and back. docs/FORMATS.md has the file's form. */
 #include <stdlib.h>
 #include <string.h>
 #include "job_file.h"

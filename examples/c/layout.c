@@ -47,6 +47,21 @@ static void accepted_file(size_t length) {
     expect("job.render_length", answer, 64, 4, read_at(answer, 48, 4) - read_at(answer, 44, 4));
 }
 
+/* A file that ends before its header: F2. An accepted one, and its submission: the numbers of both are the same. */
+static void bounds(size_t length) {
+    _Alignas(8) uint8_t answer[64] = {0}, other[64] = {0};
+    vc4check_bound(file, 0, (struct vc4check_bound_answer *)(void *)answer);
+    expect("bound_answer.letter", answer, 48, 4, 'F');
+    expect("bound_answer.number", answer, 52, 4, 2);
+    vc4check_bound(file, length, (struct vc4check_bound_answer *)(void *)answer);
+    vc4check_submission_bound(&filled.submission, (struct vc4check_bound_answer *)(void *)other);
+    expect("bound_answer.letter", answer, 48, 4, 0);
+    expect("bound_answer.steps_high", answer, 16, 8, 0);
+    expect("bound_answer.loops", answer, 40, 4, 0);
+    if (read_at(answer, 8, 8) == 0 || read_at(answer, 24, 8) < 2 || read_at(answer, 32, 8) == 0) wrong = 1;
+    for (size_t field = 8; field < 56; field += 4) expect("bound_answer", other, field, 4, read_at(answer, field, 4));
+}
+
 /* The same job as a submission, and then with its handle 0 naming no buffer: H1 at handle 0; and with an unknown kind of buffer 1: F5. */
 static void submissions(void) {
     _Alignas(8) uint8_t answer[512] = {0}, taken[512] = {0}, jobs[512] = {0};
@@ -107,6 +122,7 @@ int main(int count, char **words) {
     if (!submission_of_job_file(file, length, 0xC0000000, &filled)) return 3;
     refused_files(length);
     accepted_file(length);
+    bounds(length);
     submissions();
     shaders();
     if (!wrong) puts("each field is where it was");

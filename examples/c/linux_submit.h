@@ -1,4 +1,4 @@
-/* From Linux's submit ioctl of the vc4 driver to a submission for the checker. docs/LINUX.md says what goes where. */
+/* From Linux's submit ioctl of the vc4 driver to a submission for the checker. docs/LIBRARY.md says what goes where. */
 #ifndef LINUX_SUBMIT_H
 #define LINUX_SUBMIT_H
 

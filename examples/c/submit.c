@@ -1,6 +1,7 @@
 /* submit CHANGES FILE..: checks each job file, and so many copies of it with a byte changed, and the same job as a driver's submission with all its places moved up to addresses of the bus. Both
  * have the same verdict, rule and place, and the same lists but for the highest byte of each address; the lists are to the byte those of
  * vc4check_place at the same addresses. Each submission is asked twice: with its shaders made before, where they can be made, and with none.
+ * The bound of both is the same too.
  * Prints the first file of which that isn't so, or how many were compared. Files that no submission is of are left out (job_file.h). Status
  * 0: all are the same. */
 #include <stdio.h>
@@ -80,6 +81,15 @@ static uint64_t place_in_file(const struct vc4check_verdict *verdict) {
     return place;
 }
 
+/* Whether the bound of the submission is that of the file, but for the offset; `status` is the file's verdict. */
+static bool same_bound(const uint8_t *bytes, size_t length, uint32_t status) {
+    struct vc4check_bound_answer of_file = {0}, answer = {0};
+    if (vc4check_bound(bytes, length, &of_file) != status || vc4check_submission_bound(&filled.submission, &answer) != status) return false;
+    return answer.offset == 0 && answer.steps_low == of_file.steps_low && answer.steps_high == of_file.steps_high
+        && answer.items == of_file.items && answer.stay == of_file.stay && answer.loops == of_file.loops && answer.waits == of_file.waits
+        && answer.letter == of_file.letter && answer.number == of_file.number;
+}
+
 /* Whether the submission is answered as the file is. */
 static bool answers(const struct wanted *wanted, uint8_t *window) {
     const struct vc4check_submission *submission = &filled.submission;
@@ -106,7 +116,7 @@ static int compare(uint8_t *bytes, size_t length, uint8_t *window) {
     uint8_t *moved = job_file_of_submission(&filled.submission, false, &moved_length);
     bool same = vc4check_place(moved, moved_length, wanted.lists, MOST, &moved_answer) == wanted.status && answers(&wanted, window);
     make_shaders(&filled.submission);
-    same = same && answers(&wanted, window);
+    same = same && answers(&wanted, window) && same_bound(bytes, length, wanted.status);
     forget_shaders(&filled.submission);
     free(moved);
     free(wanted.lists);

@@ -25,7 +25,7 @@ extern "C" {
 #endif
 
 /* The version of this header. It is that of the library where vc4check_version() answers the same. */
-#define VC4CHECK_VERSION 3
+#define VC4CHECK_VERSION 4
 
 /* How a call ended. */
 enum {
@@ -71,16 +71,26 @@ struct vc4check_answer {
 };
 
 /*
- * How long the jobs of a file may run. After VC4CHECK_REFUSED `letter`, `number` and `offset` say why, and the others are 0.
- * After VC4CHECK_ACCEPTED `loops` is 0, a run has at most 2^64 * `steps_high` + `steps_low` steps and `stay` more for each in which a renderer
- * stays at an item; or `loops` is 1, and a shader branches back at `offset` of the file. The others are 0.
+ * How long jobs may run, in steps of the machine. After VC4CHECK_REFUSED `letter` and `number` name the first broken rule, and `offset` says
+ * where in the file; the others are 0. After VC4CHECK_ACCEPTED either `loops` is 1, a shader branches back at `offset` of the file, and the
+ * others are 0: then nothing bounds a run. Or `loops` is 0, and with N = 2^64 * `steps_high` + `steps_low` and W = `stay`:
+ *
+ *  - a run has at most N steps, and W more for each step in which a renderer stays at an item. An item is a primitive that a binner put on a
+ *    tile. A renderer stays at it while it fetches a vertex or starts a program there. How often it does is the hardware's;
+ *  - there are at most `items` items. So where none is stayed at more than K times, a run has at most N + W * K * items steps;
+ *  - where `waits` is 0, all shaders are served: a run that can't go on has finished, or its binner waits for tile memory. Where it is 1, a
+ *    program may wait for a request that isn't there: first the instruction at `offset` of the file.
+ *
+ * `offset` is 0 after vc4check_submission_bound, of which there is no file.
  */
 struct vc4check_bound_answer {
     uint64_t offset;
     uint64_t steps_low;
     uint64_t steps_high;
-    uint32_t stay;
+    uint64_t stay;
+    uint64_t items;
     uint32_t loops;
+    uint32_t waits;
     uint32_t letter; /* of the rule, in ASCII */
     uint32_t number; /* of the rule, from 1 on */
 };
@@ -135,7 +145,7 @@ struct vc4check_buffer {
     uint32_t kind;          /* VC4CHECK_PLAIN or VC4CHECK_CODE */
     const uint8_t *content; /* of a Code buffer the shader, of which so many bytes are given; of a Plain one nothing that is read */
     size_t length;
-    const struct vc4check_known *known; /* the block that vc4check_make_shader made of exactly these bytes; or no entry, and this call checks them */
+    const struct vc4check_known *known; /* the block that vc4check_make_shader made of exactly these bytes; or no entry, and vc4check_submit checks them */
     size_t known_count;
 };
 
@@ -167,11 +177,11 @@ struct vc4check_submission {
     size_t buffer_count;
     const uint32_t *handles; /* for each handle of the job the number of its buffer, from 0 on; one may be named twice */
     size_t handle_count;
-    const uint8_t *bin; /* the binner list (docs/BINNER_LIST.md), addresses still to be filled in; of length 0 where the job has none */
+    const uint8_t *bin; /* the binner list (docs/FORMATS.md), addresses still to be filled in; of length 0 where the job has none */
     size_t bin_length;
-    const uint8_t *records; /* for each shader state its handles and then its record (docs/SHADER_RECORDS.md) */
+    const uint8_t *records; /* for each shader state its handles and then its record (docs/FORMATS.md) */
     size_t records_length;
-    const uint8_t *uniforms; /* the uniforms of all shaders, state by state, in words of 4 bytes (docs/SHADER_RECORDS.md) */
+    const uint8_t *uniforms; /* the uniforms of all shaders, state by state, in words of 4 bytes (docs/FORMATS.md) */
     size_t uniforms_length;
     uint32_t client;     /* whose job it is */
     uint32_t flags;      /* VC4CHECK_CLEARS or 0 */
@@ -216,7 +226,7 @@ struct vc4check_verdict {
 #if !defined(__cplusplus) && defined(__STDC_VERSION__) && __STDC_VERSION__ >= 201112L
 _Static_assert(sizeof(struct vc4check_job) == 44, "as long as the library's");
 _Static_assert(sizeof(struct vc4check_answer) == 24 + 8 * 44, "as long as the library's");
-_Static_assert(sizeof(struct vc4check_bound_answer) == 40, "as long as the library's");
+_Static_assert(sizeof(struct vc4check_bound_answer) == 56, "as long as the library's");
 _Static_assert(sizeof(struct vc4check_shader_answer) == 16 + 2 * sizeof(size_t), "as long as the library's");
 _Static_assert(sizeof(struct vc4check_sample) == 20, "as long as the library's");
 _Static_assert(sizeof(struct vc4check_made) == 8 + sizeof(size_t), "as long as the library's");
@@ -257,9 +267,9 @@ uint32_t vc4check_check(const uint8_t *bytes, size_t length, uint8_t *block, siz
 uint32_t vc4check_place(const uint8_t *bytes, size_t length, uint8_t *window, size_t room, struct vc4check_answer *answer);
 
 /*
- * Checks the job file in `bytes`, and tells how many steps a run of its jobs takes at most. No memory of the jobs is made.
+ * Checks the job file in `bytes`, and answers how long its jobs may run. No memory of the jobs is made.
  *
- * VC4CHECK_ACCEPTED   `answer` has the two numbers, or the place of the first branch that leads back.
+ * VC4CHECK_ACCEPTED   `answer` has the numbers, or the place of the first branch that leads back.
  * VC4CHECK_REFUSED    `answer` names the first broken rule, and where.
  * VC4CHECK_NO_MEMORY  `answer` is as before.
  */
@@ -287,10 +297,24 @@ uint32_t vc4check_make_shader(const uint8_t *code, size_t length, struct vc4chec
  *                     `lists_size` is always enough.
  * VC4CHECK_NO_MEMORY  `answer` and the window are as before.
  *
- * Beside what all calls are owed: a `known` of any entries is what vc4check_make_shader made of the buffer's content. An accepted job may run
- * beside others, and in places of finished ones, where the driver keeps five duties (docs/LIBRARY.md, and driver.c).
+ * The answer rests on the blocks: each `known` of any entries is what vc4check_make_shader made of the buffer's content. Where one isn't,
+ * nothing is read or written outside of what is given all the same. A block that can't be a shader's, as one cut off, is as none, and the call
+ * checks all shaders; by one of another shader a job may be accepted that isn't safe, or refused that is.
+ *
+ * An accepted job may run beside others, and in places of finished ones, where the driver keeps five duties (docs/LIBRARY.md, and driver.c).
  */
 uint32_t vc4check_submit(const struct vc4check_submission *submission, uint8_t *window, size_t room, struct vc4check_verdict *answer);
+
+/*
+ * Checks one job of a driver as vc4check_submit does, and answers how long it may run. The numbers bound the steps for this job alone, however
+ * other jobs come and go; `waits` is of a run of it by itself. The call takes longer than vc4check_submit: it checks each shader, and reads no
+ * `known`.
+ *
+ * VC4CHECK_ACCEPTED   `answer` is filled in.
+ * VC4CHECK_REFUSED    `answer` names the first broken rule; vc4check_submit says where.
+ * VC4CHECK_NO_MEMORY  `answer` is as before.
+ */
+uint32_t vc4check_submission_bound(const struct vc4check_submission *submission, struct vc4check_bound_answer *answer);
 
 /*
  * The sentence of a rule: what is wrong where it refuses. `letter` is in ASCII. The text is put into `text`, with a zero byte behind it, and

@@ -82,8 +82,9 @@ static uint32_t say_bound(const uint8_t *bytes, size_t length, struct text *text
 	uint32_t status = vc4check_bound(bytes, length, &told);
 
 	if (status == VC4CHECK_ACCEPTED)
-		say(text, "bound %llu %llu stay %u loops %u at %llu\n", (unsigned long long)told.steps_high, (unsigned long long)told.steps_low,
-		    told.stay, told.loops, (unsigned long long)told.offset);
+		say(text, "bound %llu %llu stay %llu items %llu loops %u waits %u at %llu\n", (unsigned long long)told.steps_high,
+		    (unsigned long long)told.steps_low, (unsigned long long)told.stay, (unsigned long long)told.items, told.loops,
+		    told.waits, (unsigned long long)told.offset);
 	return status;
 }
 

@@ -68,7 +68,7 @@ static const struct submit_buffer *look_up(void *known, uint32_t handle)
 	return &looked_up->buffer;
 }
 
-/* Room for the lists of the job, where it is accepted; docs/LINUX.md has the sum. 0 where it is too much. */
+/* Room for the lists of the job, where it is accepted; docs/LIBRARY.md has the sum. 0 where it is too much. */
 static u32 lists_size(const struct vc4check_submission *submission)
 {
 	const struct vc4check_frame *frame = &submission->frame;

@@ -1,7 +1,7 @@
 -- A block gives back the shader that it was made of.
 use Rattle.std.proofs.Common.{◌≡◌, ◌==◌, ℕ, zero, suc, ◌+◌, ◌-◌, ◌/◌, ◌<◌, ◌≤◌, Bool, true, false, List, [], ◌∷◌, ◌++◌, length, map, get_or, take, drop, refl, ap, sym, subst, Option, Some, None, arith, ◌∙◌, if◌then◌else◌}
 use Rattle.std.proofs.{Math.Nat.min-le_left, Math.Seq.take-append_seam, Math.Seq.drop-append_seam}
-use Rattle.std.proofs.lemmas.List.{length-map, length-append, take_all}
+use Rattle.std.proofs.lemmas.List.{length-map, length-append}
 use Rattle.std.specs.List.{slice_index_or}
 use Rattle.field_words.specs.Sizes.{most_code}
 use Rattle.qpu_isa.specs.{declared.inst.Sample.Sample, Shader.ShaderModel, Shader.IsSoundShader, Shader.no_sample}
@@ -11,7 +11,7 @@ use Rattle.uniform_stream.specs.Stream.{uniforms_of, is_open}
 use Rattle.shader_check.specs.Info.{samples_of, sample_of, is_sample}
 use Rattle.job_check.specs.Shaders.{words_of, told_of}
 use Rattle.job_check.proofs.Codes.{length_words}
-use Rattle.vc4check_c.specs.Block.{known_whole, known_sample, known_address, block_of, position_in, sample_in, address_in}
+use Rattle.vc4check_c.specs.Block.{known_whole, known_sample, known_address, block_of, position_in, sample_in, address_in, whole_word, read_of, IsBlockOf}
 use Rattle.vc4check_c.specs.{Shader.told_position, Shader.told_flag, declared.block.Known.Known}
 
 longer : (list : List ℕ) (n : ℕ) → length list ≤ n → length (list ++ (n ∷ [])) ≤ suc n
@@ -61,7 +61,7 @@ position_back : (position : Option ℕ) → ((k : ℕ) → position ≡ Some k �
 position_back None below = refl
 position_back (Some k) below = grind (arith, below k refl)
 
-pub flag_back : (stands : Bool) → (told_flag stands == 1) ≡ stands
+flag_back : (stands : Bool) → (told_flag stands == 1) ≡ stands
 flag_back true = refl
 flag_back false = refl
 
@@ -90,22 +90,22 @@ samples_back (sample ∷ samples) all =
     let here = all 0 (omega arith) in
     cc (places_back sample.p sample.direct here.four here.below, samples_back samples (λ i inside. all (suc i) (omega (arith, inside))))
 
-pub told_back : (code : List ℕ) → length code ≤ most_code → IsSoundShader (told_of (words_of code)) → map sample_in (map known_sample (samples_of (words_of code))) ≡ samples_of (words_of code)
+told_back : (code : List ℕ) → length code ≤ most_code → IsSoundShader (told_of (words_of code)) → map sample_in (map known_sample (samples_of (words_of code))) ≡ samples_of (words_of code)
 unfolding told_of
 told_back code few sound = samples_back (samples_of (words_of code)) (λ i inside. let s = sound.samples i inside in record {
   four = s.four;
   below = λ n k is. let small = uniforms_fit code few in let here = s.below n k is in omega (arith, small, here);
 })
 
-pub addresses_back : (words : List ℕ) → map address_in (map known_address words) ≡ words
+addresses_back : (words : List ℕ) → map address_in (map known_address words) ≡ words
 addresses_back [] = refl
 addresses_back (word ∷ words) = ap (λ l. word ∷ l) (addresses_back words)
 
 -- How a block reads: its first entry, then as many samples as that says, and then the address words.
-pub record Reads (shader : ShaderModel) (block : List Known) : Type 0 where
+record Reads (shader : ShaderModel) (block : List Known) : Type 0 where
   pub whole : get_or block 0 (record { words = [] }) ≡ known_whole shader
-  pub samples : take (1 + length shader.samples - 1) (drop 1 block) ≡ map known_sample shader.samples
-  pub addresses : take (length block - (1 + length shader.samples)) (drop (1 + length shader.samples) block) ≡ map known_address shader.address_words
+  pub samples : take (length shader.samples) (drop 1 block) ≡ map known_sample shader.samples
+  pub addresses : drop (1 + length shader.samples) block ≡ map known_address shader.address_words
 
 front_taken : {X : Type 0} (front rest : List X) (n : ℕ) → n ≡ length front → take n (front ++ rest) ≡ front
 front_taken front rest n is = subst (λ k. take k (front ++ rest) ≡ front) (sym is) (take-append_seam front rest)
@@ -120,14 +120,31 @@ made_reads shader =
     let addresses = map known_address shader.address_words in
     let n = length shader.samples in
     let counted : n ≡ length samples = sym (length-map shader.samples known_sample) in
-    let long : length (samples ++ addresses) ≡ length samples + length addresses = length-append samples addresses in
     record {
       whole = refl;
-      samples = front_taken samples addresses (1 + n - 1) (omega (arith, counted));
-      addresses =
-          ap (take (length (known_whole shader ∷ (samples ++ addresses)) - (1 + n))) (rest_left (known_whole shader ∷ samples) addresses (1 + n) (omega (arith, counted)))
-          ∙ take_all (length (known_whole shader ∷ (samples ++ addresses)) - (1 + n)) addresses (omega (arith, counted, long));
+      samples = front_taken samples addresses n counted;
+      addresses = rest_left (known_whole shader ∷ samples) addresses (1 + n) (omega (arith, counted));
     }
 
-pub block_reads : (shader : ShaderModel) (block : List Known) → block ≡ block_of shader → Reads shader block
+block_reads : (shader : ShaderModel) (block : List Known) → block ≡ block_of shader → Reads shader block
 block_reads shader block is = subst (Reads shader) (sym is) (made_reads shader)
+
+-- So it reads as that shader.
+abbrev model : ℕ → List Sample → List ℕ → Bool → ShaderModel
+model uniforms samples words threaded = record { uniforms = uniforms; samples = samples; address_words = words; threaded = threaded }
+
+pub made_read : (code : List ℕ) (block : List Known) → IsBlockOf code block → read_of block ≡ told_of (words_of code)
+unfolding read_of told_of
+made_read code block made =
+    let shader : ShaderModel = told_of (words_of code) in
+    let reads = block_reads shader block made.told in
+    let count : whole_word block 2 ≡ length shader.samples = ap (λ entry. get_or entry.words 2 0) reads.whole in
+    let uniforms : whole_word block 0 ≡ shader.uniforms = ap (λ entry. get_or entry.words 0 0) reads.whole in
+    let threaded : (whole_word block 1 == 1) ≡ shader.threaded = ap (λ entry. get_or entry.words 1 0 == 1) reads.whole ∙ flag_back shader.threaded in
+    let samples = ap (λ n. map sample_in (take n (drop 1 block))) count ∙ ap (map sample_in) reads.samples ∙ told_back code made.few made.sound in
+    let addresses = ap (λ n. map address_in (drop (1 + n) block)) count ∙ ap (map address_in) reads.addresses ∙ addresses_back shader.address_words in
+    let read = read_of block in
+    ap (λ n. model n read.samples read.address_words read.threaded) uniforms
+    ∙ ap (λ l. model shader.uniforms l read.address_words read.threaded) samples
+    ∙ ap (λ l. model shader.uniforms shader.samples l read.threaded) addresses
+    ∙ ap (model shader.uniforms shader.samples shader.address_words) threaded

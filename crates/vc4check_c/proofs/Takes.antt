@@ -1,10 +1,11 @@
 -- What is told of a submission of which no rule stands.
-use Rattle.std.proofs.Common.{◌≡◌, ℕ, ◌≤◌, List, [], ◌∷◌, length, get_or, None, ap, subst, arith, ◌∙◌}
+use Rattle.std.proofs.Common.{◌≡◌, ℕ, ◌+◌, ◌≤◌, List, [], ◌∷◌, length, get_or, drop, zero-add, None, refl, ap, subst, arith, ◌∙◌}
 use Rattle.std.specs.List.{AllByRecursion}
-use Rattle.field_words.specs.Questions.{first_of}
+use Rattle.field_words.specs.{Questions.first_of, Writes.with_bytes}
+use Rattle.field_words.proofs.Pieces.{rest_of}
 use Rattle.relocation.specs.{declared.layout.Layout.Layout, Layout.region_end}
-use Rattle.job_check.specs.{declared.region.Region.Region, Emit.IsInside, Jobs.layout_of, Region.region_of, Region.IsRegion}
-use Rattle.job_check.proofs.Counted.{as_many_layouts, as_many_lengths, first_layout, first_lengths}
+use Rattle.job_check.specs.{declared.region.Region.Region, Emit.IsInside, Jobs.layout_of, Region.region_of, Region.IsLaid, Region.IsRegion}
+use Rattle.job_check.proofs.Counted.{as_many_layouts, first_layout, first_lengths}
 use Rattle.vc4check_c.specs.{declared.submission.Submission.Submission, declared.submit.Verdict.Verdict}
 use Rattle.vc4check_c.specs.{Submission.file_of, Submission.submission_questions, Submit.accepted_verdict, Submit.IsTaken, Jobs.no_layout, Jobs.no_lengths}
 
@@ -12,16 +13,17 @@ some_job : (s : Submission) → 1 ≤ length (file_of s).jobs
 unfolding file_of
 some_job s = omega arith
 
-pub inside : (s : Submission) (region : Region) → IsRegion (file_of s) region → length (region_of (file_of s)) ≤ s.lists_size
+inside : (s : Submission) (region : Region) → IsRegion (file_of s) region → length (region_of (file_of s)) ≤ s.lists_size
 unfolding file_of
 inside s region is = let fits = is.fits in omega (arith, fits)
 
--- There is a layout, and there are lengths.
-pub some_lists : (s : Submission) (region : Region) → IsRegion (file_of s) region → (1 ≤ length region.layouts.items) × (1 ≤ length region.lengths.items)
-some_lists s region is = (
-  omega (arith, ap length is.layouts_are, as_many_layouts (file_of s), some_job s),
-  omega (arith, ap length is.lengths_are, as_many_lengths (file_of s), some_job s),
-)
+-- Whatever is told of the shaders: the lists take no more than they may, there is a layout, and there are lengths.
+pub size_inside : (s : Submission) (region : Region) → IsLaid (file_of s) region → length region.bytes.items ≤ s.lists_size
+unfolding file_of
+size_inside s region laid = let fits = laid.fits in omega (arith, laid.size, fits)
+
+pub some_lists : (s : Submission) (region : Region) → IsLaid (file_of s) region → (1 ≤ length region.layouts.items) × (1 ≤ length region.lengths.items)
+some_lists s region laid = (omega (arith, ap length laid.layouts_are, as_many_layouts (file_of s), some_job s), omega (arith, laid.count, some_job s))
 
 first_inside : (size : ℕ) (layouts : List Layout) (none : Layout) → 1 ≤ length layouts → AllByRecursion (IsInside size) layouts → IsInside size (get_or layouts 0 none)
 first_inside size [] none some all = absurd (omega (arith, some))
@@ -33,7 +35,8 @@ is_taken s region verdict stands is told =
     let f = file_of s in
     let layout_is = ap (λ ls. get_or ls 0 no_layout) is.layouts_are ∙ first_layout f no_layout (some_job s) in
     let lengths_are = ap (λ ls. get_or ls 0 no_lengths) is.lengths_are ∙ first_lengths f no_lengths (some_job s) in
-    let one = first_inside (region_end f.regions) region.layouts.items no_layout (some_lists s region is).0 is.each_job in
+    let some : 1 ≤ length region.layouts.items = omega (arith, ap length is.layouts_are, as_many_layouts f, some_job s) in
+    let one = first_inside (region_end f.regions) region.layouts.items no_layout some is.each_job in
     record {
       none_stands = stands;
       inside = inside s region is;
@@ -44,3 +47,6 @@ is_taken s region verdict stands is told =
           ∙ ap (λ l. accepted_verdict (length (region_of f)) l (get_or region.lengths.items 0 no_lengths)) layout_is
           ∙ ap (accepted_verdict (length (region_of f)) (layout_of f 0)) lengths_are;
     }
+
+pub behind_stays : (old bytes new : List ℕ) → new ≡ with_bytes old 0 bytes → drop (length bytes) new ≡ drop (length bytes) old
+behind_stays old bytes new is = ap (drop (length bytes)) is ∙ rest_of (length bytes) bytes (drop (0 + length bytes) old) refl ∙ ap (λ n. drop n old) (zero-add (length bytes))

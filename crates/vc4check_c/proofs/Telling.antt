@@ -1,6 +1,6 @@
 -- Shaders of which there are blocks are checked ones.
-use Rattle.std.proofs.Common.{◌≡◌, ◌==◌, ◌<◌, ◌≤◌, ◌+◌, ℕ, zero, suc, Bool, true, false, List, [], ◌∷◌, length, map, get_or, refl, sym, ap, subst, Some, None, option_map, IfSome, arith, ◌∙◌, ◌⊎◌, inl, inr, if◌then◌else◌}
-use Rattle.std.proofs.{lemmas.Bool.eqb-true, lemmas.List.length-map, lemmas.List.ext_get_or}
+use Rattle.std.proofs.Common.{◌≡◌, ◌==◌, ◌<◌, ◌≤◌, ◌+◌, ℕ, zero, suc, Bool, true, false, List, [], ◌∷◌, length, map, get_or, refl, sym, ap, subst, Option, Some, None, option_map, IfSome, arith, ◌∙◌, inl, inr, if◌then◌else◌}
+use Rattle.std.proofs.{lemmas.Bool.eqb-true, lemmas.Bool.cases_lt, lemmas.List.length-map, lemmas.List.ext_get_or, lemmas.List.get_or_past}
 use Rattle.std.proofs.lemmas.List.FromFn.{length-map-range_with_len, get_or-map-range_with_len}
 use Rattle.std.proofs.lemmas.Option.{get_or_from_slice_get, slice_get-map, slice_get_within}
 use Rattle.std.specs.List.{slice_get}
@@ -9,12 +9,22 @@ use Rattle.field_words.proofs.Questions.{passes, answered_none}
 use Rattle.buffer_table.specs.declared.buffer.Kind.TheVariants.{Plain, Code}
 use Rattle.buffer_table.specs.Table.{buffer_at, past_end}
 use Rattle.qpu_isa.specs.Shader.{ShaderModel, IsSoundShader}
-use Rattle.job_check.specs.Shaders.{words_of, told_of, code_questions, content_of, shader_for, shader_of, shaders_up_to, shaders_of}
-use Rattle.job_check.specs.{Faults.shader_questions_in, Faults.shader_refused, Faults.shader_stage, Faults.shaders_stage, Region.AreChecked}
+use Rattle.job_check.specs.Shaders.{table_of, words_of, told_of, code_questions, content_of, shader_for, shader_of, shaders_up_to, shaders_of}
+use Rattle.job_check.specs.{Faults.shader_questions_in, Faults.shader_refused, Faults.shader_stage, Faults.shaders_stage, Region.AreChecked, Region.Under}
 use Rattle.job_check.proofs.Codes.{AllSound, are_shaders}
 use Rattle.vc4check_c.specs.{declared.submission.GivenBuffer.GivenBuffer, declared.submission.Submission.Submission, Block.IsBlockOf}
-use Rattle.vc4check_c.specs.{Submission.content_in, Submission.entry_in, Submission.file_of, Telling.told_in, Telling.AreBlocks}
-use Rattle.vc4check_c.proofs.Submissions.{inside_at}
+use Rattle.shader_records.specs.Inputs.{IsShaped, AreShaped}
+use Rattle.vc4check_c.specs.{Submission.content_in, Submission.entry_in, Submission.file_of, Block.read_of, Block.IsReadable}
+use Rattle.vc4check_c.specs.Telling.{read_in, AreReadable, AreKnown}
+use Rattle.vc4check_c.proofs.{Submissions.inside_at, Blocks.made_read}
+
+-- what a check tells of the shader in a buffer
+told_in : GivenBuffer → Option ShaderModel
+told_in given = if given.kind == 1 then Some (told_of (words_of given.content.now)) else None
+
+-- Each of the first n Code buffers has the block of its shader.
+abbrev AreBlocks : List GivenBuffer → ℕ → Type 0
+AreBlocks buffers n = (b : ℕ) (given : GivenBuffer) → b < n → slice_get buffers b ≡ Some given → given.kind ≡ 1 → IsBlockOf given.content.now given.known.now
 
 -- no rule stands of any item
 each_nones : {F : Type 0} (questions : ℕ → List (Question F)) (i n : ℕ) → ((k : ℕ) → i ≤ k → k < i + n → first_of (questions k) ≡ None) → first_of (each questions i n) ≡ None
@@ -101,7 +111,7 @@ told_all s =
     ∙ sym (shader_is s b here.0 here.1)
     ∙ sym (get_or-map-range_with_len (shader_of f) 0 (length f.buffers) b b None (omega (arith, below, long)) (omega arith)))
 
-pub blocks_checked : (s : Submission) → AreBlocks s.buffers.now (length s.buffers.now) → AreChecked (file_of s) (map told_in s.buffers.now)
+blocks_checked : (s : Submission) → AreBlocks s.buffers.now (length s.buffers.now) → AreChecked (file_of s) (map told_in s.buffers.now)
 unfolding shaders_stage
 blocks_checked s blocks =
     let buffers = s.buffers.now in
@@ -114,21 +124,70 @@ blocks_checked s blocks =
       are = are_shaders f (map told_in buffers) (told_all s) (all_sound buffers (λ b given here. blocks b given (slice_get_within buffers b given here) here));
     }
 
+-- What the blocks tell has the shape that the check asks.
+shaped_by : (is_code : Bool) (read shader : ShaderModel) → (is_code ≡ true → IsShaped read) → (if is_code then Some read else None) ≡ Some shader → IsShaped shader
+shaped_by true read shader shaped is = let same : read ≡ shader = cc is in subst IsShaped same (shaped refl)
+shaped_by false read shader shaped is = cc
+
+shaped_in : (given : GivenBuffer) (shader : ShaderModel) → (given.kind ≡ 1 → IsReadable given.known.now) → read_in given ≡ Some shader → IsShaped shader
+unfolding read_in
+shaped_in given shader readable is = shaped_by (given.kind == 1) (read_of given.known.now) shader (λ code. (readable (eqb-true given.kind 1 code)).shaped) is
+
+pub are_shaped : (s : Submission) → AreReadable s.buffers.now (length s.buffers.now) → AreShaped (table_of (file_of s)) (map read_in s.buffers.now)
+are_shaped s readable =
+    let buffers = s.buffers.now in
+    record {
+      count = length-map buffers read_in ∙ sym (as_many s);
+      each = λ number shader is.
+          elim (cases_lt number (length buffers)) [
+            | inl inside ↦
+                let here = inside_at buffers number inside in
+                shaped_in here.0 shader (readable number here.0 inside here.1) (sym (mapped_at read_in buffers number here.0 None here.1) ∙ is)
+            | inr past ↦
+                let nothing = get_or_past (map read_in buffers) number None (let many = length-map buffers read_in in omega (arith, past, many)) in
+                cc (nothing, is)
+          ];
+    }
+
+-- what holds where what was told does
+pub where_told : {X : Type 0} {P : Type 0} (told : Option X) (Holds : X → Type 0) → Under told Holds P → IfSome told Holds → P
+where_told None Holds promise holds = promise
+where_told (Some told) Holds promise holds = promise holds
+
+-- Blocks that can be read are those of the shaders, where the caller owes no more, and so they tell what is told of the shaders.
+are_blocks : (buffers : List GivenBuffer) → AreKnown buffers → AreReadable buffers (length buffers) → AreBlocks buffers (length buffers)
+are_blocks buffers known readable = λ b given inside here code. known b given here code (readable b given inside here code)
+
+same_by : (is_code : Bool) (read told : ShaderModel) → (is_code ≡ true → read ≡ told) → (if is_code then Some read else None) ≡ (if is_code then Some told else None)
+same_by true read told same = ap Some (same refl)
+same_by false read told same = refl
+
+read_told : (given : GivenBuffer) → (given.kind ≡ 1 → IsBlockOf given.content.now given.known.now) → read_in given ≡ told_in given
+unfolding read_in told_in
+read_told given block =
+    same_by (given.kind == 1) (read_of given.known.now) (told_of (words_of given.content.now)) (λ is. made_read given.content.now given.known.now (block (eqb-true given.kind 1 is)))
+
+all_told : (buffers : List GivenBuffer) → ((b : ℕ) (given : GivenBuffer) → slice_get buffers b ≡ Some given → given.kind ≡ 1 → IsBlockOf given.content.now given.known.now)
+    → map read_in buffers ≡ map told_in buffers
+all_told [] blocks = refl
+all_told (given ∷ buffers) blocks = cc (read_told given (blocks 0 given refl), all_told buffers (λ b. blocks (suc b)))
+
+pub read_checked : (s : Submission) → AreKnown s.buffers.now → AreReadable s.buffers.now (length s.buffers.now) → AreChecked (file_of s) (map read_in s.buffers.now)
+read_checked s known readable =
+    let buffers = s.buffers.now in
+    let blocks = are_blocks buffers known readable in
+    subst (AreChecked (file_of s)) (sym (all_told buffers (λ b given here. blocks b given (slice_get_within buffers b given here) here))) (blocks_checked s blocks)
+
 -- the block of one buffer more
-last_or_before : (buffers : List GivenBuffer) (b i : ℕ) (given other : GivenBuffer) (is_last : Bool) → (i == b) ≡ is_last → i < b + 1 → AreBlocks buffers b
-    → slice_get buffers b ≡ Some given → slice_get buffers i ≡ Some other → other.kind ≡ 1 → (given.kind ≡ 1 → IsBlockOf given.content.now given.known.now)
-    → IsBlockOf other.content.now other.known.now
-last_or_before buffers b i given other true last below blocks here there code block =
+last_or_before : (buffers : List GivenBuffer) (b i : ℕ) (given other : GivenBuffer) (is_last : Bool) → (i == b) ≡ is_last → i < b + 1 → AreReadable buffers b
+    → slice_get buffers b ≡ Some given → slice_get buffers i ≡ Some other → other.kind ≡ 1 → (given.kind ≡ 1 → IsReadable given.known.now) → IsReadable other.known.now
+last_or_before buffers b i given other true last below before here there code readable =
     let same : i ≡ b = eqb-true i b last in
     let again : slice_get buffers b ≡ Some other = subst (λ k. slice_get buffers k ≡ Some other) same there in
     let is : given ≡ other = cc (here, again) in
-    subst (λ g. IsBlockOf g.content.now g.known.now) is (block (ap (λ g. g.kind) is ∙ code))
-last_or_before buffers b i given other false last below blocks here there code block = blocks i other (grind (arith, last, below)) there code
+    subst (λ g. IsReadable g.known.now) is (readable (ap (λ g. g.kind) is ∙ code))
+last_or_before buffers b i given other false last below before here there code readable = before i other (grind (arith, last, below)) there code
 
-pub blocks_more : (buffers : List GivenBuffer) (b : ℕ) (given : GivenBuffer) → AreBlocks buffers b → slice_get buffers b ≡ Some given
-    → (given.kind ≡ 1 → IsBlockOf given.content.now given.known.now) → AreBlocks buffers (b + 1)
-blocks_more buffers b given blocks here block = λ i other below there code. last_or_before buffers b i given other (i == b) refl below blocks here there code block
-
-pub block_in : (given : GivenBuffer) → (given.known.now ≡ []) ⊎ IsBlockOf given.content.now given.known.now → (given.known.now ≡ [] → ⊥) → IsBlockOf given.content.now given.known.now
-block_in given (inl none) some = absurd (some none)
-block_in given (inr block) some = block
+pub readable_more : (buffers : List GivenBuffer) (b : ℕ) (given : GivenBuffer) → AreReadable buffers b → slice_get buffers b ≡ Some given
+    → (given.kind ≡ 1 → IsReadable given.known.now) → AreReadable buffers (b + 1)
+readable_more buffers b given before here readable = λ i other below there code. last_or_before buffers b i given other (i == b) refl below before here there code readable

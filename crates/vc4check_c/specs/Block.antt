@@ -1,10 +1,11 @@
 -- What is kept of a checked shader for later calls: entries of five words, the first of which tells of the whole shader, and then one for
 -- each sample and each address word.
-use Rattle.std.specs.Prelude.{◌≡◌, ◌≤◌, ◌==◌, ℕ, List, [], ◌∷◌, ◌++◌, length, map, slice_index, Option, Some, None, if◌then◌else◌}
+use Rattle.std.specs.Prelude.{◌≡◌, ◌≤◌, ◌==◌, ◌+◌, ℕ, List, [], ◌∷◌, ◌++◌, length, map, take, drop, slice_index, slice_index_or, Option, Some, None, if◌then◌else◌}
 use Rattle.field_words.specs.{Sizes.most_code, Questions.first_of, Questions.IsFirst}
 use Rattle.qpu_isa.specs.{declared.inst.Sample.Sample, Shader.ShaderModel, Shader.position, Shader.IsSoundShader}
 use Rattle.job_check.specs.Shaders.{words_of, code_questions, told_of}
 use Rattle.shader_check.specs.declared.fault.ShaderFault.{ShaderFault}
+use Rattle.shader_records.specs.Inputs.{IsShaped}
 use Rattle.vc4check_c.specs.{declared.block.Known.Known, declared.block.MadeAnswer.MadeAnswer, Shader.told_position, Shader.told_flag}
 
 abbrev pub known_whole : ShaderModel → Known
@@ -33,6 +34,24 @@ sample_in known = record {
 
 abbrev pub address_in : Known → ℕ
 address_in known = slice_index known.words 0
+
+-- word i of a block's first entry, and what the block tells of a shader: so many samples as that entry says, and then address words
+abbrev pub whole_word : List Known → ℕ → ℕ
+whole_word block i = slice_index (slice_index_or block 0 (record { words = [] })).words i
+
+unfoldable pub read_of : List Known → ShaderModel
+read_of block = record {
+  uniforms = whole_word block 0;
+  samples = map sample_in (take (whole_word block 2) (drop 1 block));
+  address_words = map address_in (drop (1 + whole_word block 2) block);
+  threaded = whole_word block 1 == 1;
+}
+
+-- A block that can be read: it has as many entries as the first says, and what it tells has the shape that the check asks. Blocks that
+-- weren't made of any shader may be like this too.
+pub record IsReadable (block : List Known) : Type 0 where
+  pub count : 1 + whole_word block 2 ≤ length block
+  pub shaped : IsShaped (read_of block)
 
 -- No rule of shaders stands of these bytes, no more than a shader may have, and the block tells of the shader that they hold.
 pub record IsBlockOf (code : List ℕ) (block : List Known) : Type 0 where

@@ -3,7 +3,7 @@
 -- the records, 7 the uniforms.
 use Rattle.std.specs.Prelude.{◌≡◌, ◌≢◌, ◌==◌, ◌+◌, ◌<◌, ◌≤◌, nat_lt, not, ℕ, Bool, false, ◌||◌, List, length, if◌then◌else◌}
 use Rattle.buffer_table.specs.{declared.buffer.Buffer.Buffer, Table.buffer_at}
-use Rattle.job_format.specs.declared.rule.Stage.TheVariants.{F, M, S, H, B, A, U, G, X}
+use Rattle.job_format.specs.declared.rule.Stage.TheVariants.{F, M, S, H, B, A, U, G, X, E}
 use Rattle.job_format.specs.{declared.rule.Stage.Stage, declared.rule.Refusal.Refusal, Offsets.entry_offset, Offsets.entry_size, Model.FileModel}
 use Rattle.job_check.specs.Offsets.{job_offset, content_offset, handles_offset, bin_offset, records_offset, uniforms_offset}
 use Rattle.vc4check_c.specs.declared.spot.Spot.{Spot}
@@ -31,6 +31,7 @@ part_of A number is_behind = if number == 8 then 7 else 6
 part_of U number is_behind = 7
 part_of G number is_behind = 2
 part_of X number is_behind = 2
+part_of E number is_behind = if nat_lt number 8 then 3 else (if number == 8 || number == 11 then 6 else 5)
 
 -- The part that a refusal points into: its rule's, or the header where the refusal lies before that.
 abbrev pub within : FileModel → (part offset : ℕ) → ℕ

@@ -1,5 +1,5 @@
 -- What is told of a driver's submission.
-use Rattle.std.specs.Prelude.{◌≡◌, ℕ, ◌≤◌, length, Option, Some, None, Result, Ok, Err}
+use Rattle.std.specs.Prelude.{◌≡◌, ℕ, ◌≤◌, List, length, drop, Option, Some, None, Result, Ok, Err}
 use Rattle.field_words.specs.{declared.stop.Stop.Stop, declared.stop.Stop.TheVariants.Fault, declared.stop.Stop.TheVariants.NoMemory}
 use Rattle.field_words.specs.Questions.{first_of, IsFirst}
 use Rattle.job_format.specs.declared.rule.Refusal.{Refusal}
@@ -40,6 +40,12 @@ pub record IsTaken (s : Submission) (verdict : Verdict) : Type 0 where
   pub inside : length (region_of (file_of s)) ≤ s.lists_size
   pub placed : IsInside (region_end (file_of s).regions) (layout_of (file_of s) 0)
   pub told : verdict ≡ accepted_verdict (length (region_of (file_of s))) (layout_of (file_of s) 0) (lengths_of (file_of s) 0)
+
+-- Whatever its blocks hold: the lists' bytes lie in the window and in their region, and what is behind them in the window stays.
+pub record IsFront (s : Submission) (old new : List ℕ) (verdict : Verdict) : Type 0 where
+  pub inside : verdict.size ≤ s.lists_size
+  pub fits : verdict.size ≤ length old
+  pub behind : drop verdict.size new ≡ drop verdict.size old
 
 -- What the check of a submission answers: its lists, or the first rule that stands and the place of its offset.
 abbrev pub Tells : Submission → Result Region (Stop Told) → Type 0

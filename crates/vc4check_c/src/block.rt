@@ -1,11 +1,12 @@
 //! A shader that is checked once, when it is made: what the check found out is kept in a block of the caller's.
-ghost use Rattle.std.specs.Prelude.{◌≡◌, ◌≢◌, ◌≤◌, ◌<◌, ◌↔◌, ◌⊎◌, length, map, IfOk};
+ghost use Rattle.std.specs.Prelude.{◌≡◌, ◌≢◌, ◌≤◌, ◌<◌, ◌+◌, ◌↔◌, ◌⊎◌, ℕ, true, length, map, Some, IfOk, IfSome};
 ghost use Rattle.field_words.specs.Sizes.{most_code};
 ghost use Rattle.field_words.specs.Questions.{Answers, first_of};
-ghost use Rattle.qpu_isa.specs.Shader.{shader_view};
+ghost use Rattle.qpu_isa.specs.Shader.{shader_view, sample_at, address_at};
+ghost use Rattle.shader_records.specs.Inputs.{IsShapedSample};
 ghost use Rattle.job_check.specs.Shaders.{words_of, code_questions, told_of};
 ghost use Rattle.vc4check_c.specs.Shader.{with_front};
-ghost use Rattle.vc4check_c.specs.Block.{known_sample, known_address, block_of, made_answer, position_in, sample_in, address_in, IsBlockOf, IsUnmade};
+ghost use Rattle.vc4check_c.specs.Block.{known_sample, known_address, block_of, made_answer, position_in, sample_in, address_in, whole_word, read_of, IsReadable, IsBlockOf, IsUnmade};
 
 use crate::shader::position;
 use crate::status::{ACCEPTED, NO_MEMORY, REFUSED, SHORT, TOO_LONG};
@@ -208,15 +209,11 @@ fn addresses_in(alloc: Global, entries: &[Known]) -> Result<Vec<u32>, AllocError
     Ok(words)
 }
 
-/// What is known of the shader that these bytes hold, from the block that was made of it. The bytes themselves aren't read.
-#[tactic(auto, unfolding(crate::specs::Block::block_of))]
-pub(crate) fn shader_in_block(
-    alloc: Global,
-    code: &[u8],
-    block: &[Known],
-) -> Result<ShaderInfo, AllocError>
-    requires { IsBlockOf code.now block.now }
-    ensures { IfOk result (λ info. shader_view info ≡ told_of (words_of code.now)) }
+/// What a block tells of a shader, which has as many entries as its first says.
+#[tactic(auto, unfolding(crate::specs::Block::read_of))]
+fn read(alloc: Global, block: &[Known]) -> Result<ShaderInfo, AllocError>
+    requires { 1 + whole_word block.now 2 ≤ length block.now }
+    ensures { IfOk result (λ info. shader_view info ≡ read_of block.now) }
 {
     let [uniforms, threaded, count, _, _] = block[0].words;
     let end = 1 + count as usize;
@@ -226,4 +223,70 @@ pub(crate) fn shader_in_block(
         address_words: addresses_in(alloc, &block[end..])?,
         threaded: threaded == 1,
     })
+}
+
+/// Whether a position of a sample is in the stream of so many uniforms, or there is none.
+fn is_inside(position: Option<u32>, uniforms: u32) -> bool
+    ensures { result ≡ true → (k : ℕ) → position ≡ Some k → k < uniforms }
+{
+    match position {
+        Some(k) => k < uniforms,
+        None => true,
+    }
+}
+
+/// Whether a sample's first position is there, and all are in the shader's stream.
+fn is_sample_shaped(info: &ShaderInfo, sample: &Sample) -> bool
+    ensures { result ≡ true → IsShapedSample (shader_view info.now) sample.now }
+{
+    let [first, second, third, fourth] = sample.p;
+    first.is_some()
+        && is_inside(first, info.uniforms)
+        && is_inside(second, info.uniforms)
+        && is_inside(third, info.uniforms)
+        && is_inside(fourth, info.uniforms)
+}
+
+/// The same of all samples.
+fn are_samples_shaped(info: &ShaderInfo) -> bool
+    ensures { result ≡ true → (i : ℕ) → i < length info.now.samples.items →
+        IsShapedSample (shader_view info.now) (sample_at (shader_view info.now) i) }
+{
+    for i in 0..info.samples.len() {
+        if !is_sample_shaped(info, &info.samples[i]) {
+            return false;
+        }
+    }
+    true
+}
+
+/// Whether all address words are in the shader's stream.
+fn are_addresses_inside(info: &ShaderInfo) -> bool
+    ensures { result ≡ true → (j : ℕ) → j < length info.now.address_words.items →
+        address_at (shader_view info.now) j < info.now.uniforms }
+{
+    for j in 0..info.address_words.len() {
+        if info.uniforms <= info.address_words[j] {
+            return false;
+        }
+    }
+    true
+}
+
+/// What a block tells of a shader, and `None` where it can't be read: where it is shorter than it says, or what it tells hasn't the shape
+/// that the check asks. Whose shader it is isn't asked.
+pub(crate) fn shader_in_block(
+    alloc: Global,
+    block: &[Known],
+) -> Result<Option<ShaderInfo>, AllocError>
+    ensures { IfOk result (λ found. IfSome found (λ info. IsReadable block.now × (shader_view info ≡ read_of block.now))) }
+{
+    if block.is_empty() || block.len() < 1 + block[0].words[2] as usize {
+        return Ok(None);
+    }
+    let info = read(alloc, block)?;
+    if are_samples_shaped(&info) && are_addresses_inside(&info) {
+        return Ok(Some(info));
+    }
+    Ok(None)
 }

@@ -10,73 +10,86 @@ use job_bound::{Bound, bound_bytes};
 use job_format::Refusal;
 use std::alloc::Global;
 
-/// What is told of how long the jobs of a file may run. Of an accepted one in which no shader branches back: the most steps of a run, in
-/// two halves of 64 bits, and how many more there may be for each step in which a renderer stays at an item. Of one in which a shader does:
-/// that it loops (1), and the offset in the file of the first such branch. Of a refused one: the rule, by its letter in ASCII and its
-/// number, and the offset of what it is about. The other fields are zero.
+/// How long jobs may run. Of accepted ones in which no shader branches back: the most steps of a run, in two halves of 64 bits, how many more
+/// there may be for each step in which a renderer stays at an item, and how many items there may be; and whether a program may wait for a
+/// request that isn't there (1), with the offset of the first instruction that may. Of accepted ones in which a shader does: that it loops (1),
+/// and the offset of the first such branch. Of refused ones: the rule, by its letter in ASCII and its number, and the offset of what it is
+/// about. Offsets are of the job file. The other fields are zero.
 #[repr(C)]
 #[derive(Clone, Copy, Debug, PartialEq, Eq)]
 pub struct BoundAnswer {
     pub offset: u64,
     pub steps_low: u64,
     pub steps_high: u64,
-    pub stay: u32,
+    pub stay: u64,
+    pub items: u64,
     pub loops: u32,
+    pub waits: u32,
     pub letter: u32,
     pub number: u32,
 }
 
-/// What is told of a bound.
+/// The answer that says nothing.
+pub(crate) const NO_BOUND: BoundAnswer = BoundAnswer {
+    offset: 0,
+    steps_low: 0,
+    steps_high: 0,
+    stay: 0,
+    items: 0,
+    loops: 0,
+    waits: 0,
+    letter: 0,
+    number: 0,
+};
+
+/// The answer for a bound.
 #[tactic(auto, unfolding(crate::specs::Bound::bounded_answer))]
-fn bounded(bound: &Bound) -> BoundAnswer
+pub(crate) fn bounded(bound: &Bound) -> BoundAnswer
     ensures { result ≡ bounded_answer bound.now }
 {
     match *bound {
-        Bound::Steps { most, stay, .. } => BoundAnswer {
-            offset: 0,
+        Bound::Steps {
+            most,
+            stay,
+            items,
+            wait,
+        } => BoundAnswer {
+            offset: wait.unwrap_or(0),
             steps_low: (most % (1u128 << 64)) as u64,
             steps_high: (most / (1u128 << 64)) as u64,
-            stay,
-            loops: 0,
-            letter: 0,
-            number: 0,
+            stay: u64::from(stay),
+            items,
+            waits: u32::from(wait.is_some()),
+            ..NO_BOUND
         },
         Bound::Loops { offset } => BoundAnswer {
             offset,
-            steps_low: 0,
-            steps_high: 0,
-            stay: 0,
             loops: 1,
-            letter: 0,
-            number: 0,
+            ..NO_BOUND
         },
     }
 }
 
-/// What is told of a refused file.
+/// The answer for a refusal.
 #[tactic(auto, unfolding(crate::specs::Bound::unbounded_answer))]
-fn unbounded(refusal: &Refusal) -> BoundAnswer
+pub(crate) fn unbounded(refusal: &Refusal) -> BoundAnswer
     ensures { result ≡ unbounded_answer refusal.now }
 {
     BoundAnswer {
         offset: refusal.offset,
-        steps_low: 0,
-        steps_high: 0,
-        stay: 0,
-        loops: 0,
         letter: u32::from(letter(refusal.rule.stage)),
         number: u32::from(refusal.rule.number),
+        ..NO_BOUND
     }
 }
 
-/// Checks the job file that `bytes` hold, and tells how many steps a run of its jobs takes at most, but for those at which a renderer stays at an item.
-/// No memory of the jobs is made.
+/// Checks the job file that `bytes` hold, and answers how many steps a run of its jobs takes at most. No memory of the jobs is made.
 ///
 /// | Status | Meaning | `answer` |
 /// |---|---|---|
-/// | 0 | accepted | two numbers, or that a shader branches back and where |
-/// | 1 | refused | the first rule that stands, and its offset |
-/// | 3 | want of memory; nothing is said of the file | as before |
+/// | 0 | accepted | the numbers and where a program may wait first, or that a shader branches back and where |
+/// | 1 | refused | the first rule that is broken, and its offset |
+/// | 3 | out of memory; nothing is said of the file | as before |
 #[unsafe(no_mangle)]
 #[tactic(auto, unfolding(job_check::specs::Whole::refusal_of), using(field_words::proofs::Questions::first_is))]
 pub extern "C" fn vc4check_bound(alloc: Global, bytes: &[u8], answer: &mut BoundAnswer) -> u32

@@ -129,6 +129,7 @@ pub(crate) fn letter(stage: Stage) -> u8
         Stage::U => b'U',
         Stage::G => b'G',
         Stage::X => b'X',
+        Stage::E => b'E',
     }
 }
 

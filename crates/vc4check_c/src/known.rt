@@ -1,32 +1,27 @@
 //! What a submission's blocks tell of its shaders.
-ghost use Rattle.std.specs.Prelude.{◌≡◌, [], length, map, slice_get, Some, IfOk, IfSome, false};
+ghost use Rattle.std.specs.Prelude.{◌≡◌, length, map, slice_get, Some, IfOk, IfSome};
 ghost use Rattle.shader_records.specs.Inputs.{shader_option, shaders_view};
-ghost use Rattle.vc4check_c.specs.Block.{IsBlockOf};
-ghost use Rattle.vc4check_c.specs.Telling.{told_in, AreKnown, AreBlocks};
+ghost use Rattle.vc4check_c.specs.Block.{IsReadable};
+ghost use Rattle.vc4check_c.specs.Telling.{read_in, AreReadable};
 
 use crate::block::shader_in_block;
 use crate::submission::GivenBuffer;
 use qpu_isa::ShaderInfo;
 use std::alloc::{AllocError, Global};
 
-/// What is known of the shader in a buffer, or `None` where it is a Plain one.
-#[tactic(auto, unfolding(crate::specs::Telling::told_in))]
-fn shader_at(alloc: Global, given: &GivenBuffer) -> Result<Option<ShaderInfo>, AllocError>
-    requires { given.now.kind ≡ 1 → IsBlockOf given.now.content.now given.now.known.now }
-    ensures { IfOk result (λ shader. shader_option shader ≡ told_in given.now) }
+/// What a buffer's block tells of its shader, of which a Plain one has none; and `None` where the block can't be read.
+#[tactic(auto, unfolding(crate::specs::Telling::read_in))]
+fn shader_at(alloc: Global, given: &GivenBuffer) -> Result<Option<Option<ShaderInfo>>, AllocError>
+    ensures { IfOk result (λ found. IfSome found (λ shader.
+        (shader_option shader ≡ read_in given.now) × (given.now.kind ≡ 1 → IsReadable given.now.known.now))) }
 {
-    if given.kind == 1 {
-        let info = shader_in_block(alloc, given.content, given.known)?;
-        return Ok(Some(info));
+    if given.kind != 1 {
+        return Ok(Some(None));
     }
-    Ok(None)
-}
-
-/// Whether nothing is known of a Code buffer's shader.
-fn is_unknown(given: &GivenBuffer) -> bool
-    ensures { result ≡ false → given.now.kind ≡ 1 → given.now.known.now ≡ [] → ⊥ }
-{
-    given.kind == 1 && given.known.is_empty()
+    match shader_in_block(alloc, given.known)? {
+        Some(info) => Ok(Some(Some(info))),
+        None => Ok(None),
+    }
 }
 
 /// Buffer `b`.
@@ -36,14 +31,13 @@ fn buffer_at<'b, 'a>(buffers: &'b [GivenBuffer<'a>], b: usize) -> Option<&'b Giv
     buffers.get(b)
 }
 
-/// What is known of the shaders in all buffers, one entry for each; `None` where nothing is known of one.
+/// What the blocks of all buffers tell of their shaders, one entry for each buffer; `None` where one can't be read.
 pub(crate) fn shaders_in(
     alloc: Global,
     buffers: &[GivenBuffer],
 ) -> Result<Option<Vec<Option<ShaderInfo>>>, AllocError>
-    requires { AreKnown buffers.now }
     ensures { IfOk result (λ found. IfSome found (λ shaders.
-        (shaders_view shaders.items ≡ map told_in buffers.now) × AreBlocks buffers.now (length buffers.now))) }
+        (shaders_view shaders.items ≡ map read_in buffers.now) × AreReadable buffers.now (length buffers.now))) }
 {
     let mut shaders = Vec::with_capacity(alloc, buffers.len())?;
     for b in 0..buffers.len() {
@@ -51,11 +45,11 @@ pub(crate) fn shaders_in(
             Some(given) => given,
             None => return Ok(None),
         };
-        if is_unknown(given) {
-            return Ok(None);
+        let found = shader_at(alloc, given)?;
+        match found {
+            Some(shader) => shaders.push(shader)?,
+            None => return Ok(None),
         }
-        let shader = shader_at(alloc, given)?;
-        shaders.push(shader)?;
     }
     Ok(Some(shaders))
 }

@@ -70,12 +70,14 @@ fn answers_on_several_jobs(rt: HostRuntime) -> Result<(), Fail> {
         steps_low: 1,
         steps_high: 2,
         stay: 3,
-        loops: 4,
-        letter: 5,
-        number: 6,
+        items: 4,
+        loops: 5,
+        waits: 6,
+        letter: 7,
+        number: 8,
     };
     let text =
-        "BoundAnswer { offset: 0, steps_low: 1, steps_high: 2, stay: 3, loops: 4, letter: 5, number: 6 }";
+        "BoundAnswer { offset: 0, steps_low: 1, steps_high: 2, stay: 3, items: 4, loops: 5, waits: 6, letter: 7, number: 8 }";
     assert!(rt; tells(rt.alloc(), &bound, text)?);
     Ok(())
 }

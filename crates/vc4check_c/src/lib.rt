@@ -15,6 +15,7 @@ mod spot;
 mod status;
 mod submission;
 mod submit;
+mod time;
 mod version;
 
 pub use block::{Known, MadeAnswer};

@@ -2,7 +2,7 @@
 //! doesn't come.
 
 use crate::block::{MadeAnswer, vc4check_make_shader};
-use crate::bound::{BoundAnswer, vc4check_bound};
+use crate::bound::{NO_BOUND, vc4check_bound};
 use crate::jobs::vc4check_check;
 use crate::place::vc4check_place;
 use crate::shader::vc4check_shader;
@@ -28,15 +28,7 @@ fn files_of_48_mib(rt: HostRuntime) -> Result<(), Fail> {
     assert_eq!(rt; vc4check_check(alloc, &file, &mut [], &mut all), SHORT);
     assert_eq!(rt; all.size, 50_860_032);
     assert_eq!(rt; vc4check_place(alloc, &file, &mut [], &mut all), SHORT);
-    let mut bound = BoundAnswer {
-        offset: 0,
-        steps_low: 0,
-        steps_high: 0,
-        stay: 0,
-        loops: 0,
-        letter: 0,
-        number: 0,
-    };
+    let mut bound = NO_BOUND;
     assert_eq!(rt; vc4check_bound(alloc, &file, &mut bound), ACCEPTED);
     Ok(())
 }

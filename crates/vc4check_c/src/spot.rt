@@ -51,6 +51,15 @@ fn part_of(rule: Rule, is_behind: bool) -> u32
         Stage::U => UNIFORMS,
         Stage::G => JOB,
         Stage::X => JOB,
+        Stage::E => {
+            if rule.number < 8 {
+                CONTENT
+            } else if rule.number == 8 || rule.number == 11 {
+                RECORDS
+            } else {
+                BIN
+            }
+        }
     }
 }
 

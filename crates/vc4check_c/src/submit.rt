@@ -1,16 +1,16 @@
 //! The check of a driver's submission, with its lists in the caller's window.
-ghost use Rattle.std.specs.Prelude.{◌≡◌, ◌≢◌, ◌≤◌, ◌<◌, length, None};
+ghost use Rattle.std.specs.Prelude.{◌≡◌, ◌≢◌, ◌≤◌, ◌<◌, length, None, IfOk};
 ghost use Rattle.field_words.specs.Questions.{Answers, first_of};
 ghost use Rattle.field_words.specs.Writes.{with_bytes};
 ghost use Rattle.job_format.specs.Parts.{parts_view};
 ghost use Rattle.job_check.specs.Faults.{place_stages};
-ghost use Rattle.job_check.specs.Region.{region_of, IsRegion};
+ghost use Rattle.job_check.specs.Region.{region_of, IsLaid, IsRegion};
 ghost use Rattle.vc4check_c.specs.Telling.{AreKnown};
 ghost use Rattle.vc4check_c.specs.Types.{IsOfTypes};
 ghost use Rattle.vc4check_c.specs.Safe.{IsSafeToRun};
 ghost use Rattle.vc4check_c.specs.Joins.{MayJoin};
 ghost use Rattle.vc4check_c.specs.Submission.{file_of, own_questions, submission_questions};
-ghost use Rattle.vc4check_c.specs.Submit.{accepted_verdict, refused_verdict, Tells, IsTaken, IsNotTaken};
+ghost use Rattle.vc4check_c.specs.Submit.{accepted_verdict, refused_verdict, Tells, IsTaken, IsFront, IsNotTaken};
 
 use crate::jobs::{JobLists, NO_LISTS, letter, lists_of, put};
 use crate::known::shaders_in;
@@ -72,12 +72,12 @@ fn refused(refusal: &Refusal, spot: &Spot) -> Verdict
     }
 }
 
-/// The rules of the submission's file, in which the shaders are asked only where something isn't known of them.
+/// The rules of the submission's file, in which the shaders are asked only where a block can't be read.
 fn check_file(alloc: Global, given: &Submission, parts: &FileParts) -> Result<Region, Stop<Refusal>>
-    requires known { AreKnown given.now.buffers.now }
     requires own { first_of (own_questions given.now) ≡ None }
     requires parts_are { parts_view parts.now ≡ file_of given.now }
-    ensures { Answers (place_stages (file_of given.now)) (IsRegion (file_of given.now)) result }
+    ensures laid { IfOk result (IsLaid (file_of given.now)) }
+    ensures answers { AreKnown given.now.buffers.now → Answers (place_stages (file_of given.now)) (IsRegion (file_of given.now)) result }
 {
     let told = shaders_in(alloc, given.buffers)?;
     check_parts(alloc, MOST_PLACE, parts, told)
@@ -93,8 +93,8 @@ pub struct Told {
 /// All rules of a submission, and its lists.
 #[tactic(auto, using(field_words::proofs::Questions::passes, field_words::proofs::Questions::stops))]
 fn check(alloc: Global, given: &Submission) -> Result<Region, Stop<Told>>
-    requires { AreKnown given.now.buffers.now }
-    ensures { Tells given.now result }
+    ensures laid { IfOk result (IsLaid (file_of given.now)) }
+    ensures tells { AreKnown given.now.buffers.now → Tells given.now result }
 {
     match parts_in(alloc, given) {
         Ok(parts) => match check_file(alloc, given, &parts) {
@@ -125,6 +125,9 @@ fn size_of(bytes: &[u8], most: u32) -> u32
 /// lists, relocated, are put into the window, from its start on, which stands for the start of the lists' region; the window's further bytes
 /// stay.
 ///
+/// A block that can't be read is as good as none: the shaders are checked then. Of a block that can be read, but was made of another shader,
+/// the answer may be wrong (`AreKnown`), and nothing else: no block leads to a read or a write outside of what is given.
+///
 /// | Status | Meaning | `answer` | `window` |
 /// |---|---|---|---|
 /// | 0 | accepted | size, places and lengths | the lists at its start |
@@ -139,18 +142,19 @@ pub extern "C" fn vc4check_submit(
     window: &mut [u8],
     answer: &mut Verdict,
 ) -> u32
-    requires { AreKnown submission.now.buffers.now }
     ensures statuses { result ≤ 3 }
-    ensures accepted { result ≡ 0 → IsTaken submission.now answer.new }
-    ensures relocated { result ≡ 0 → window.new ≡ with_bytes window.old 0 (region_of (file_of submission.now)) }
-    // With the window's bytes where the answer says, every run of the job is safe: the numbers are of their types, and no more is asked.
-    ensures safe { result ≡ 0 → IsOfTypes submission.now → IsSafeToRun submission.now window.new answer.new }
+    ensures front { result ≡ 0 → IsFront submission.now window.old window.new answer.new }
+    ensures accepted { AreKnown submission.now.buffers.now → result ≡ 0 → IsTaken submission.now answer.new }
+    ensures relocated { AreKnown submission.now.buffers.now → result ≡ 0 → window.new ≡ with_bytes window.old 0 (region_of (file_of submission.now)) }
+    // With the window's bytes where the answer says, every run of the job is safe: the numbers are of their types, the blocks are of their
+    // shaders, and no more is asked.
+    ensures safe { AreKnown submission.now.buffers.now → result ≡ 0 → IsOfTypes submission.now → IsSafeToRun submission.now window.new answer.new }
     // And it may join jobs that are live, where the driver keeps its duties.
-    ensures joins { result ≡ 0 → IsOfTypes submission.now → MayJoin submission.now window.new answer.new }
-    ensures refused { result ≡ 1 → IsNotTaken submission.now (first_of (submission_questions submission.now)) answer.new }
-    ensures short { result ≡ 2 → IsTaken submission.now answer.new }
-    ensures fits { result ≡ 0 → length (region_of (file_of submission.now)) ≤ length window.old }
-    ensures room { result ≡ 2 → length window.old < length (region_of (file_of submission.now)) }
+    ensures joins { AreKnown submission.now.buffers.now → result ≡ 0 → IsOfTypes submission.now → MayJoin submission.now window.new answer.new }
+    ensures refused { AreKnown submission.now.buffers.now → result ≡ 1 → IsNotTaken submission.now (first_of (submission_questions submission.now)) answer.new }
+    ensures short { AreKnown submission.now.buffers.now → result ≡ 2 → IsTaken submission.now answer.new }
+    ensures fits { AreKnown submission.now.buffers.now → result ≡ 0 → length (region_of (file_of submission.now)) ≤ length window.old }
+    ensures room { AreKnown submission.now.buffers.now → result ≡ 2 → length window.old < length (region_of (file_of submission.now)) }
     ensures kept { result ≢ 0 → window.new ≡ window.old }
     ensures starved { result ≡ 3 → answer.new ≡ answer.old }
 {
