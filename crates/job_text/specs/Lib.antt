@@ -1,4 +1,5 @@
 pub mod Cuts
+pub mod Floats
 pub mod Made
 pub mod Meanings
 pub mod Names

@@ -1,11 +1,14 @@
 -- What a field's number means, as it is said behind the number.
-use Rattle.std.specs.Prelude.{ℕ, Bool, ◌++◌, List, [], codes, decimal, ◌==◌, ◌%◌, ◌/◌, Option, Some, None, if◌then◌else◌}
+use Rattle.std.specs.Prelude.{ℕ, Bool, ◌++◌, List, [], map, codes, decimal, ◌==◌, ◌%◌, ◌/◌, ◌^◌, Option, Some, None, if◌then◌else◌}
 use Rattle.packets.specs.StateWord.{attribute_count, is_extended}
 use Rattle.texture_layouts.specs.declared.surface.Tiling.TheVariants.{Raster, T, Lt}
 use Rattle.texture_layouts.specs.{declared.surface.Tiling.Tiling, declared.format.Style.Style, Format.general_style, Format.frame_style}
 use Rattle.texture_layouts.specs.Surface.{size_for}
-use Rattle.job_text.specs.declared.note.Field.TheVariants.{Kind, Flags, HandleIndex, FrameBits, GeneralBits, SurfaceFlags, PrimitiveMode, IndexMode, StateWord, BinnerFlags, RecordFlags}
+use Rattle.job_text.specs.declared.note.Field.TheVariants.{Word, Kind, Flags, HandleIndex, FrameBits, GeneralBits, SurfaceFlags, PrimitiveMode, IndexMode, StateWord, ConfigurationBits, PointWidth, CenterX, CenterY, ScaleX, ScaleY, ScaleZ, OffsetZ, BinnerFlags, RecordFlags, Address}
 use Rattle.job_text.specs.declared.note.Field.{Field}
+use Rattle.job_text.specs.declared.meanings.TheConstants.{DEPTHS}
+use Rattle.job_text.specs.Floats.{float_text, sixteenths_text}
+use Rattle.qpu_text.specs.{Load.hex_text, Pieces.named_in, Pieces.if_so}
 
 abbrev pub tiling_name : Tiling → List ℕ
 tiling_name Raster = codes "raster"
@@ -58,8 +61,45 @@ extended_text n = if is_extended n then codes ", extended)" else codes ")"
 unfoldable pub state_text : ℕ → List ℕ
 state_text n = codes " (attributes: " ++ (decimal (attribute_count n) ++ extended_text n)
 
+-- a flag of the configuration bits by its name, where it is set
+unfoldable pub flag_text : ℕ → ℕ → List ℕ → List ℕ
+flag_text n bit name = if_so (n / 2 ^ bit % 2 == 1) name
+
+-- those of faces, of edges and samples, and of depths
+unfoldable pub face_flags : ℕ → List ℕ
+face_flags n =
+    flag_text n 0 (codes ", front faces") ++ (flag_text n 1 (codes ", back faces") ++ flag_text n 2 (codes ", clockwise is front"))
+
+unfoldable pub edge_flags : ℕ → List ℕ
+edge_flags n =
+    flag_text n 3 (codes ", depth offset") ++ (flag_text n 4 (codes ", smooth points and lines") ++ flag_text n 6 (codes ", four samples a pixel"))
+
+unfoldable pub depth_flags : ℕ → List ℕ
+depth_flags n =
+    flag_text n 15 (codes ", depth written") ++ (flag_text n 16 (codes ", early depth test") ++ flag_text n 17 (codes ", early depth written"))
+
+unfoldable pub flags_text : ℕ → List ℕ
+flags_text n = face_flags n ++ (edge_flags n ++ depth_flags n)
+
+-- the function of the depth test
+unfoldable pub depth_text : ℕ → List ℕ
+depth_text n = codes " (depth test " ++ named_in (map (λ row. row.now) DEPTHS) (n / 4096 % 8)
+
+unfoldable pub configuration_text : ℕ → List ℕ
+configuration_text n = depth_text n ++ (flags_text n ++ codes ")")
+
 -- what the number of a field means; nothing where the name says it
 abbrev pub field_meaning : Field → ℕ → List ℕ
+field_meaning (Word name) n = codes " (" ++ (hex_text n ++ codes ")")
+field_meaning Address n = codes " (" ++ (hex_text n ++ codes ")")
+field_meaning ConfigurationBits n = configuration_text n
+field_meaning PointWidth n = float_text n
+field_meaning CenterX n = sixteenths_text (n % 65536)
+field_meaning CenterY n = sixteenths_text (n % 65536)
+field_meaning ScaleX n = float_text n
+field_meaning ScaleY n = float_text n
+field_meaning ScaleZ n = float_text n
+field_meaning OffsetZ n = float_text n
 field_meaning Kind n = kind_text n
 field_meaning Flags n = said_if (n == 1) (codes " (the clear values are used)")
 field_meaning HandleIndex n = said_if (n == 4294967295) (codes " (absent)")

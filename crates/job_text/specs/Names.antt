@@ -1,6 +1,6 @@
 -- What a line says of its bytes.
 use Rattle.std.specs.Prelude.{ℕ, ◌++◌, List, [], codes, decimal, Option, Some, None}
-use Rattle.job_text.specs.declared.note.Field.TheVariants.{Plain, Kind, Flags, Width, Height, HandleIndex, FrameBits, GeneralBits, SurfaceFlags, PrimitiveMode, IndexMode, Length, FirstIndex, MaxIndex, ListFormat, StateWord, ConfigurationBits, FlatFlags, PointWidth, Boundary, DepthFactor, DepthUnits, ClipLeft, ClipBottom, CenterX, CenterY, ScaleX, ScaleY, ScaleZ, OffsetZ, ListsAddress, ListsBytes, StatesAddress, TilesAcross, TilesDown, BinnerFlags, IndexHandle, FurtherHandle, RecordFlags, Address}
+use Rattle.job_text.specs.declared.note.Field.TheVariants.{Plain, Word, Kind, Flags, Width, Height, HandleIndex, FrameBits, GeneralBits, SurfaceFlags, PrimitiveMode, IndexMode, Length, FirstIndex, MaxIndex, ListFormat, StateWord, ConfigurationBits, FlatFlags, PointWidth, Boundary, DepthFactor, DepthUnits, ClipLeft, ClipBottom, CenterX, CenterY, ScaleX, ScaleY, ScaleZ, OffsetZ, ListsAddress, ListsBytes, StatesAddress, TilesAcross, TilesDown, BinnerFlags, IndexHandle, FurtherHandle, RecordFlags, Address}
 use Rattle.job_text.specs.declared.note.Role.TheVariants.{ColorRead, ColorWrite, ZsRead, ZsWrite, SampleColorWrite, SampleZsWrite}
 use Rattle.job_text.specs.declared.note.Part.TheVariants.{Header, Buffer, Job, Surface, Record, Shader, Attribute}
 use Rattle.job_text.specs.declared.note.Stage.TheVariants.{Fragment, Vertex, Coordinate}
@@ -17,6 +17,7 @@ role_name SampleZsWrite = codes "multisample ZS write"
 -- the name of a field, and how many bytes it has
 abbrev pub field_row : Field → List ℕ × ℕ
 field_row (Plain name size) = (name.now, size)
+field_row (Word name) = (name.now, 4)
 field_row Kind = (codes "kind", 4)
 field_row Flags = (codes "flags", 4)
 field_row Width = (codes "width", 2)

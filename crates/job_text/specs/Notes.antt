@@ -2,10 +2,12 @@
 use Rattle.std.specs.Prelude.{ℕ, ◌++◌, List, [], codes, decimal, drop, slice_index, Option, Some, None}
 use Rattle.field_words.specs.Words.{u32_at, u64_at}
 use Rattle.qpu_asm.specs.Printed.{word_text}
-use Rattle.qpu_isa.specs.Terms.{is_switch, is_end, writes_s}
+use Rattle.qpu_text.specs.Word.{familiar_text}
 use Rattle.job_text.specs.declared.note.Note.TheVariants.{Number, Named, Sized, Handle, Packet, BehindHalt, Records, Uniform, Taken, Data, Instruction, Unread}
 use Rattle.job_text.specs.{declared.note.Note.Note, declared.note.Meaning.Meaning, declared.note.Part.Part, declared.note.Stage.Stage}
-use Rattle.job_text.specs.{declared.note.Field.Field, Meanings.bits_style, Meanings.size_text, Meanings.said_if, Uniforms.meaning_text}
+use Rattle.job_text.specs.{declared.note.Field.Field, Meanings.bits_style, Meanings.size_text, Uniforms.meaning_text}
+use Rattle.job_text.specs.declared.note.Meaning.TheVariants.{Plain}
+use Rattle.job_text.specs.Floats.{float_text}
 use Rattle.job_text.specs.Names.{named_text, of_job, part_text, stage_name}
 use Rattle.job_text.specs.Rows.{packet_text, valued}
 
@@ -18,20 +20,18 @@ abbrev pub taken_text : Option ℕ → List ℕ
 taken_text None = []
 taken_text (Some uniform) = codes "; takes uniform " ++ decimal uniform
 
+-- a word that a shader takes as a number, as a float
+abbrev pub value_text : Meaning → ℕ → List ℕ
+value_text Plain number = float_text number
+value_text meaning number = []
+
 -- which shader takes a uniform, and what it makes of it
 unfoldable pub meant_text : ℕ → Stage → Meaning → List ℕ
 meant_text k stage meaning = codes "; record " ++ (decimal k ++ (codes " " ++ (stage_name stage ++ (codes ": " ++ meaning_text meaning))))
 
--- what an instruction does beside its operations
-unfoldable pub facts_text : ℕ → List ℕ
-facts_text word =
-    said_if (is_switch word) (codes "; thread switch")
-    ++ (said_if (writes_s word 0) (codes "; request to TMU 0")
-    ++ (said_if (writes_s word 1) (codes "; request to TMU 1") ++ said_if (is_end word) (codes "; program end")))
-
--- an instruction as assembler text, the uniform that it takes, and what it does beside its operations
+-- an instruction as assembler text and as familiar text, and the uniform that it takes
 unfoldable pub instruction_text : ℕ → Option ℕ → List ℕ
-instruction_text word uniform = word_text word ++ (taken_text uniform ++ facts_text word)
+instruction_text word uniform = word_text word ++ (codes " | " ++ (familiar_text word ++ taken_text uniform))
 
 -- the number of a buffer's instruction
 unfoldable pub numbered_text : ℕ → ℕ → List ℕ
@@ -55,7 +55,8 @@ note_text (Packet j buffer) bytes = listed_text j buffer bytes
 note_text (BehindHalt j) bytes = of_job j (codes "binner list: behind the halt")
 note_text (Records j) bytes = of_job j (codes "shader records")
 note_text (Uniform j i) bytes = counted j (codes "uniform ") i (codes ": ") bytes
-note_text (Taken j i k stage meaning) bytes = counted j (codes "uniform ") i (codes ": ") bytes ++ meant_text k stage meaning
+note_text (Taken j i k stage meaning) bytes =
+    counted j (codes "uniform ") i (codes ": ") bytes ++ (value_text meaning (u32_at bytes 0) ++ meant_text k stage meaning)
 note_text (Data b) bytes = codes "buffer " ++ (decimal b ++ codes " content")
 note_text (Instruction b i uniform) bytes = numbered_text b i ++ instruction_text (u64_at bytes 0) uniform
 note_text Unread bytes = codes "unread"

@@ -9,19 +9,19 @@ use qpu_isa::ShaderInfo;
 use std::alloc::{AllocError, Global};
 
 const HEADER: [Field; 9] = [
-    Field::Plain("letters", 4),
+    Field::Word("letters"),
     Field::Plain("version", 4),
     Field::Plain("memory size", 4),
-    Field::Plain("lists' place", 4),
+    Field::Word("lists' place"),
     Field::Plain("lists' size", 4),
-    Field::Plain("tile region's place", 4),
+    Field::Word("tile region's place"),
     Field::Plain("tile slots", 4),
     Field::Plain("buffers", 4),
     Field::Plain("jobs", 4),
 ];
 
 const BUFFER: [Field; 5] = [
-    Field::Plain("place", 4),
+    Field::Word("place"),
     Field::Plain("size", 4),
     Field::Plain("client", 4),
     Field::Kind,
@@ -46,8 +46,8 @@ const JOB: [Field; 13] = [
 ];
 
 const CLEAR: [Field; 5] = [
-    Field::Plain("clear colour 0", 4),
-    Field::Plain("clear colour 1", 4),
+    Field::Word("clear colour 0"),
+    Field::Word("clear colour 1"),
     Field::Plain("clear Z", 4),
     Field::Plain("clear stencil", 1),
     Field::Plain("zeros", 3),

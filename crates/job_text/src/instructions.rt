@@ -1,12 +1,10 @@
 //! What a line says of an instruction.
 ghost use Rattle.std.specs.Prelude.{◌≡◌, ◌++◌, OnOk};
-ghost use Rattle.job_text.specs.Notes.{taken_text, facts_text, instruction_text, numbered_text};
+ghost use Rattle.job_text.specs.Notes.{taken_text, instruction_text, numbered_text};
 
-use crate::meanings::put_if;
 use crate::numbers::put_number;
 use qpu_asm::put_word;
-use qpu_isa::word::{is_end, is_switch};
-use qpu_isa::writes::writes_s;
+use qpu_text::put_familiar;
 use std::alloc::AllocError;
 
 // Appends the uniform that an instruction takes, where it takes one.
@@ -22,18 +20,7 @@ fn put_taken(out: &mut Vec<u8>, uniform: Option<usize>) -> Result<(), AllocError
     }
 }
 
-// Appends what an instruction does beside its operations.
-#[tactic(auto, unfolding(crate::specs::Notes::facts_text))]
-fn put_facts(out: &mut Vec<u8>, word: u64) -> Result<(), AllocError>
-    ensures { OnOk result (out.new.items ≡ out.old.items ++ facts_text word) }
-{
-    put_if(out, is_switch(word), b"; thread switch")?;
-    put_if(out, writes_s(word, 0), b"; request to TMU 0")?;
-    put_if(out, writes_s(word, 1), b"; request to TMU 1")?;
-    put_if(out, is_end(word), b"; program end")
-}
-
-/// Appends an instruction as assembler text, the uniform that it takes, and what it does beside its operations.
+/// Appends an instruction as assembler text and as familiar text, and the uniform that it takes.
 #[tactic(auto, unfolding(crate::specs::Notes::instruction_text))]
 pub(crate) fn put_instruction(
     out: &mut Vec<u8>,
@@ -43,9 +30,9 @@ pub(crate) fn put_instruction(
     ensures { OnOk result (out.new.items ≡ out.old.items ++ instruction_text word uniform) }
 {
     put_word(out, word)?;
-    put_taken(out, uniform)?;
-    put_facts(out, word)?;
-    Ok(())
+    out.extend_from_slice(b" | ")?;
+    put_familiar(out, word)?;
+    put_taken(out, uniform)
 }
 
 /// Appends the number of a buffer's instruction.

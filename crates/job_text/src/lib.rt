@@ -10,6 +10,7 @@ mod code;
 mod cuts;
 mod cutting;
 mod fault;
+mod floats;
 mod instructions;
 mod list;
 mod meanings;

@@ -1,12 +1,15 @@
 //! What the number of a field means.
 ghost use Rattle.std.specs.Prelude.{◌≡◌, ◌++◌, ◌%◌, ◌<◌, ◌^◌, codes, OnOk, IfSome};
+ghost use Rattle.qpu_text.specs.Load.{hex_text};
 ghost use Rattle.texture_layouts.specs.Format.{IsShort};
 ghost use Rattle.texture_layouts.specs.Surface.{size_for};
-ghost use Rattle.job_text.specs.Meanings.{tiling_name, style_text, bits_style, size_text, mode_name, index_text, said_if, kind_text, extended_text, state_text, field_meaning};
+ghost use Rattle.job_text.specs.Meanings.{tiling_name, style_text, bits_style, size_text, mode_name, index_text, said_if, kind_text, extended_text, state_text, flag_text, face_flags, edge_flags, depth_flags, flags_text, depth_text, configuration_text, field_meaning};
 
+use crate::floats::{put_float, put_sixteenths};
 use crate::note::Field;
 use crate::numbers::put_number;
 use packets::{attribute_count, is_extended};
+use qpu_text::{if_so, named, put_all, put_hex};
 use std::alloc::AllocError;
 use texture_layouts::{Style, Tiling, frame_style, general_style, surface_size};
 
@@ -152,11 +155,100 @@ fn put_state(out: &mut Vec<u8>, number: u32) -> Result<(), AllocError>
     Ok(())
 }
 
+/// Which depths pass the depth test, by its function's number.
+pub(crate) const DEPTHS: [&str; 8] = [
+    "never",
+    "less",
+    "equal",
+    "less or equal",
+    "greater",
+    "not equal",
+    "greater or equal",
+    "always",
+];
+
+// Appends a flag's name, where it is set.
+#[tactic(auto, unfolding(crate::specs::Meanings::flag_text))]
+fn put_flag(out: &mut Vec<u8>, number: u32, bit: u32, name: &'static str) -> Result<(), AllocError>
+    requires { bit < 32 }
+    ensures { OnOk result (out.new.items ≡ out.old.items ++ flag_text number bit name.now) }
+{
+    out.extend_from_slice(if_so(number / (1 << bit) % 2 == 1, name).as_bytes())
+}
+
+#[tactic(auto, unfolding(crate::specs::Meanings::face_flags))]
+fn put_face_flags(out: &mut Vec<u8>, number: u32) -> Result<(), AllocError>
+    ensures { OnOk result (out.new.items ≡ out.old.items ++ face_flags number) }
+{
+    put_flag(out, number, 0, ", front faces")?;
+    put_flag(out, number, 1, ", back faces")?;
+    put_flag(out, number, 2, ", clockwise is front")
+}
+
+#[tactic(auto, unfolding(crate::specs::Meanings::edge_flags))]
+fn put_edge_flags(out: &mut Vec<u8>, number: u32) -> Result<(), AllocError>
+    ensures { OnOk result (out.new.items ≡ out.old.items ++ edge_flags number) }
+{
+    put_flag(out, number, 3, ", depth offset")?;
+    put_flag(out, number, 4, ", smooth points and lines")?;
+    put_flag(out, number, 6, ", four samples a pixel")
+}
+
+#[tactic(auto, unfolding(crate::specs::Meanings::depth_flags))]
+fn put_depth_flags(out: &mut Vec<u8>, number: u32) -> Result<(), AllocError>
+    ensures { OnOk result (out.new.items ≡ out.old.items ++ depth_flags number) }
+{
+    put_flag(out, number, 15, ", depth written")?;
+    put_flag(out, number, 16, ", early depth test")?;
+    put_flag(out, number, 17, ", early depth written")
+}
+
+#[tactic(auto, unfolding(crate::specs::Meanings::flags_text))]
+fn put_flags(out: &mut Vec<u8>, number: u32) -> Result<(), AllocError>
+    ensures { OnOk result (out.new.items ≡ out.old.items ++ flags_text number) }
+{
+    put_face_flags(out, number)?;
+    put_edge_flags(out, number)?;
+    put_depth_flags(out, number)
+}
+
+#[tactic(auto, unfolding(crate::specs::Meanings::depth_text))]
+fn put_depth(out: &mut Vec<u8>, number: u32) -> Result<(), AllocError>
+    ensures { OnOk result (out.new.items ≡ out.old.items ++ depth_text number) }
+{
+    put_all(
+        out,
+        &[" (depth test ", named(&DEPTHS, (number / 4096 % 8) as u8)],
+    )
+}
+
+#[tactic(auto, unfolding(crate::specs::Meanings::configuration_text))]
+fn put_configuration(out: &mut Vec<u8>, number: u32) -> Result<(), AllocError>
+    ensures { OnOk result (out.new.items ≡ out.old.items ++ configuration_text number) }
+{
+    put_depth(out, number)?;
+    put_flags(out, number)?;
+    out.extend_from_slice(b")")
+}
+
+fn put_word(out: &mut Vec<u8>, number: u32) -> Result<(), AllocError>
+    ensures { OnOk result (out.new.items ≡ out.old.items ++ (codes " (" ++ (hex_text number ++ codes ")"))) }
+{
+    out.extend_from_slice(b" (")?;
+    put_hex(out, number)?;
+    out.extend_from_slice(b")")
+}
+
 /// Appends what the number of a field means.
 pub(crate) fn put_meaning(out: &mut Vec<u8>, field: Field, number: u32) -> Result<(), AllocError>
     ensures { OnOk result (out.new.items ≡ out.old.items ++ field_meaning field number) }
 {
     match field {
+        Field::Word(_) | Field::Address => put_word(out, number),
+        Field::ConfigurationBits => put_configuration(out, number),
+        Field::CenterX | Field::CenterY => put_sixteenths(out, (number % 65536) as u16),
+        Field::PointWidth | Field::ScaleX | Field::ScaleY | Field::ScaleZ | Field::OffsetZ =>
+            put_float(out, number),
         Field::Kind => out.extend_from_slice(kind_text(number).as_bytes()),
         Field::Flags => put_if(out, number == 1, b" (the clear values are used)"),
         Field::HandleIndex => put_if(out, number == u32::MAX, b" (absent)"),

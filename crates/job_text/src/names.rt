@@ -48,6 +48,7 @@ pub(crate) fn field_row(field: Field) -> (&'static str, usize)
 {
     match field {
         Field::Plain(name, size) => (name, size),
+        Field::Word(name) => (name, 4),
         Field::Kind => ("kind", 4),
         Field::Flags => ("flags", 4),
         Field::Width => ("width", 2),

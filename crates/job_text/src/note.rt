@@ -5,6 +5,8 @@
 pub enum Field {
     /// One of this name and so many bytes, whose number means itself.
     Plain(&'static str, usize),
+    /// One of this name and four bytes, which is read in hexadecimal too.
+    Word(&'static str),
     Kind,
     Flags,
     Width,

@@ -1,7 +1,8 @@
 //! What a line says of its bytes.
 ghost use Rattle.std.specs.Prelude.{◌≡◌, ◌++◌, drop, OnOk};
-ghost use Rattle.job_text.specs.Notes.{counted, field_text, meant_text, listed_text, note_text};
+ghost use Rattle.job_text.specs.Notes.{counted, value_text, field_text, meant_text, listed_text, note_text};
 
+use crate::floats::put_float;
 use crate::instructions::{put_instruction, put_numbered};
 use crate::meanings::{bits_style, put_size};
 use crate::names::{put_named, put_of_job, put_part, stage_name};
@@ -35,6 +36,16 @@ fn put_counted(
     put_number(out, count)?;
     out.extend_from_slice(what)?;
     put_number(out, number(bytes) as usize)
+}
+
+// Appends the value as a float of a word that a shader takes as a number.
+fn put_value(out: &mut Vec<u8>, meaning: Meaning, number: u32) -> Result<(), AllocError>
+    ensures { OnOk result (out.new.items ≡ out.old.items ++ value_text meaning number) }
+{
+    match meaning {
+        Meaning::Plain => put_float(out, number),
+        _ => Ok(()),
+    }
 }
 
 // Appends which shader takes a uniform, and what it makes of it.
@@ -103,6 +114,7 @@ pub(crate) fn put_note(out: &mut Vec<u8>, note: Note, bytes: &[u8]) -> Result<()
         Note::Uniform(job, index) => put_counted(out, job, b"uniform ", index, b": ", bytes)?,
         Note::Taken(job, index, record, stage, meaning) => {
             put_counted(out, job, b"uniform ", index, b": ", bytes)?;
+            put_value(out, meaning, number(bytes))?;
             put_meant(out, record, stage, meaning)?
         }
         Note::Data(buffer) => {

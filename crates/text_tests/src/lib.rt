@@ -5,6 +5,8 @@
 #[cfg(test)]
 mod job_io_tests;
 #[cfg(test)]
+mod qpu_text_tests;
+#[cfg(test)]
 mod rule_words_tests;
 #[cfg(test)]
 mod script_tests;

@@ -5,7 +5,7 @@ use std::alloc::{AllocError, Global};
 use std::test::*;
 
 /// The stages, and the number of the last rule of each.
-const STAGES: [(Stage, u8); 9] = [
+const STAGES: [(Stage, u8); 10] = [
     (Stage::F, 7),
     (Stage::M, 5),
     (Stage::S, 27),
@@ -15,6 +15,7 @@ const STAGES: [(Stage, u8); 9] = [
     (Stage::U, 9),
     (Stage::G, 13),
     (Stage::X, 1),
+    (Stage::E, 13),
 ];
 
 /// Whether the rule has a sentence of one line that a terminal shows whole, and an explanation.
@@ -37,7 +38,7 @@ fn each_rule_has_words(rt: HostRuntime) -> Result<(), Fail> {
             assert_eq!(rt; has_words(stage, number), !missing, "{stage}{number}");
         }
         assert!(rt; !has_words(stage, 0));
-        assert!(rt; !has_words(stage, last + 1));
+        assert!(rt; !has_words(stage, last.wrapping_add(1)));
     }
     for kind in [b"1", b"2", b"3", b"4", b"5"] {
         assert!(rt; kind_named(kind).is_some());
@@ -83,6 +84,7 @@ fn a_place_is_told_by_its_thing(rt: HostRuntime) -> Result<(), Fail> {
         ((Stage::X, 1), 88, "entry of job 0, byte 12"),
         ((Stage::S, 24), 208, "shader of buffer 1, instruction 1"),
         ((Stage::S, 2), 216, "shader of buffer 1, instruction 2"),
+        ((Stage::E, 3), 208, "shader of buffer 1, instruction 1"),
         ((Stage::H, 1), 216, "handles of job 0, handle 0"),
         ((Stage::H, 1), 220, "handles of job 0, handle 1"),
         ((Stage::B, 1), 224, "binner list of job 0, byte 0"),
