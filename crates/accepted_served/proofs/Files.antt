@@ -13,14 +13,16 @@ use Rattle.job_check.specs.Jobs.{job_of, layout_of, has_bin, bin_list_of, places
 use Rattle.job_check.specs.{Emit.memory_of, Shaders.table_of}
 use Rattle.machine_law.specs.Units.{EachAt}
 use Rattle.accepted_law.specs.{Ends.IsShaderOf, Ends.DrawShaders, Parts.BinWalks, Settled.Grounds}
-use Rattle.accepted_law.specs.Holdings.{plain_of, file_rights, file_starts, start_of, config_for}
+use Rattle.accepted_law.specs.Holdings.{config_for}
+use Rattle.promises.specs.Holdings.{plain_of, file_rights, file_starts, start_of}
+use Rattle.promises.specs.Finished.{may_wait, waits, job_waits, file_waits}
+use Rattle.promises.specs.Steps.{one_if}
 use Rattle.accepted_law.proofs.{BinWalking.bins_walk_law, BinWalking.layout_is_low, ByJob.each_from, Holding.bin_is, Tables.buffer_low}
 use Rattle.accepted_law.proofs.Joining.{all_ground, job_begins, files_begin_law, has_read_only}
 use Rattle.accepted_ends.proofs.{Cut.packets_walk, Shaders.named_off, Files.packets_are}
-use Rattle.ends_law.specs.Steps.{one_if}
-use Rattle.served_law.specs.{Finish.DrawServed, Finish.JobMayFinish, Raises.waits_in, Raises.raised_by, Waits.may_wait}
+use Rattle.served_law.specs.{Finish.DrawServed, Finish.JobMayFinish, Raises.waits_in, Raises.raised_by}
 use Rattle.served_law.proofs.Finish.{jobs_finish_law}
-use Rattle.accepted_served.specs.{Law.FilesFinish, Served.waits, Served.job_waits, Served.file_waits}
+use Rattle.accepted_served.specs.Law.{FilesFinish}
 use Rattle.accepted_served.proofs.{Raised.emission_raises, Waited.render_few}
 
 is_served : (f : FileModel) (j : ℕ) (code : List ℕ) → file_waits f ≡ false → j < length f.jobs → IsShaderOf f j code → may_wait code ≡ false

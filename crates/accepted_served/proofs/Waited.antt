@@ -8,7 +8,7 @@ use Rattle.packets.specs.declared.packet.Packet.{Packet}
 use Rattle.render_list.specs.Frame.{color_read, zs_read, zs_write, multisample_color, multisample_zs, color_write, place_at, is_full, surface_at, full_place, is_first_tile, is_last_tile, tiles_across, tiles_down}
 use Rattle.render_list.specs.Text.{packet_where, head_packet, clear_packet, clear_slots, front_slots, without_color, without_zs, load_packet, load_slot, idle_store, wait_slot, list_slot, full_store, full_store_slot, zs_store, zs_store_slot, color_store, color_store_slot, is_there, more_after_multisample_zs, more_after_multisample_color, some_before_zs, some_before_color, load_slots, list_slots, write_slots, tile_slots, span_slots, row_slots, all_tile_slots, render_slots}
 use Rattle.machine_plan.specs.Regions.{Every}
-use Rattle.ends_law.specs.Steps.{one_if}
+use Rattle.promises.specs.Steps.{one_if}
 use Rattle.served_law.specs.Raises.{waits_of, waits_in}
 
 waits_both : (slots others : List (Option Packet)) → waits_in (slots ++ others) ≡ waits_in slots + waits_in others

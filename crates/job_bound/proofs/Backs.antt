@@ -3,16 +3,16 @@
 use Rattle.std.proofs.Common.{◌≡◌, ℕ, zero, suc, ◌+◌, ◌*◌, ◌<◌, ◌≤◌, Bool, true, false, List, [], ◌∷◌, length, Option, Some, None, refl, arith, ◌∙◌}
 use Rattle.std.specs.Prelude.{slice_index}
 use Rattle.field_words.specs.Questions.{Question, Ask, first_of, each}
-use Rattle.field_words.proofs.{Questions.passes, Nones.each_none}
+use Rattle.field_words.proofs.{Questions.passes, Questions.answered_none, Nones.each_none, Nones.none_answered}
 use Rattle.shader_flow.specs.{Bounded.some_below, Flow.end_of, Flow.checked_of}
 use Rattle.shader_flow.proofs.Bounded.{some_below_none, some_below_not}
 use Rattle.job_format.specs.Model.{FileModel}
 use Rattle.job_check.specs.{Jobs.job_of, Offsets.content_offset}
-use Rattle.ends_law.specs.Loops.{goes_back, has_loop}
-use Rattle.served_law.specs.Waits.{waits_at, may_wait}
-use Rattle.accepted_served.specs.Served.{waits, job_waits, file_waits}
-use Rattle.accepted_ends.specs.Bound.{loops, shader_named, job_loops, file_loops}
-use Rattle.job_bound.specs.Back.{branch_question, branches, wait_question, wait_places, asked, handle_places, job_places, file_places, NoneWithoutLoop, NoneWhereServed}
+use Rattle.promises.specs.Finished.{may_wait, waits, job_waits, file_waits}
+use Rattle.promises.specs.Bounded.{loops, shader_named, job_loops, file_loops}
+use Rattle.promises.specs.Steps.{goes_back, has_loop}
+use Rattle.strict_rules.specs.Rules.{waits_at, wait_question, wait_questions}
+use Rattle.job_bound.specs.Back.{branch_question, branches, wait_places, asked, handle_places, job_places, file_places, NoneWithoutLoop, NoneWhereServed}
 use Rattle.job_bound.specs.declared.named.Sought.{Sought}
 use Rattle.job_bound.specs.declared.named.Sought.TheVariants.{LeadsBack, MayWait}
 
@@ -58,16 +58,18 @@ back_to (Some code) place none =
     none_to (branch_question code place) (goes_back code) (end_of code) (λ k below. none_asked (goes_back code k) (place + 8 * k)) none
 
 wait_from : (shader : Option (List ℕ)) (place : ℕ) → waits shader ≡ false → first_of (wait_places shader place) ≡ None
-unfolding may_wait
+unfolding may_wait wait_question wait_questions
 wait_from None place none = refl
 wait_from (Some code) place none =
-    none_from (wait_question code place) (λ i. waits_at code i) (checked_of code) (λ k below. asked_none (waits_at code k) (place + 8 * k)) none
+    answered_none (λ i. place + 8 * i) (wait_questions code)
+    (none_from (wait_question code) (λ i. waits_at code i) (checked_of code) (λ k below. asked_none (waits_at code k) k) none)
 
 wait_to : (shader : Option (List ℕ)) (place : ℕ) → first_of (wait_places shader place) ≡ None → waits shader ≡ false
-unfolding may_wait
+unfolding may_wait wait_question wait_questions
 wait_to None place none = refl
 wait_to (Some code) place none =
-    none_to (wait_question code place) (λ i. waits_at code i) (checked_of code) (λ k below. none_asked (waits_at code k) (place + 8 * k)) none
+    none_to (wait_question code) (λ i. waits_at code i) (checked_of code) (λ k below. none_asked (waits_at code k) k)
+    (none_answered (λ i. place + 8 * i) (wait_questions code) none)
 
 abbrev tested : Sought → Option (List ℕ) → Bool
 tested LeadsBack shader = loops shader

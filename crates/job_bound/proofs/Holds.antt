@@ -10,12 +10,12 @@ use Rattle.machine_law.proofs.{Begins.each_begins, Owes.start_fine}
 use Rattle.field_words.specs.Words.{IsBytes}
 use Rattle.job_format.specs.{Model.FileModel, Reading.file_at}
 use Rattle.job_check.specs.{Emit.memory_of, Jobs.bin_list_of, Whole.refusal_of}
-use Rattle.accepted_law.specs.{Holdings.fixed_of, Holdings.plain_of, Holdings.file_rights, Holdings.file_starts, Holdings.start_of, Neighbours.IsFaultless, Settled.Grounds}
+use Rattle.accepted_law.specs.Settled.{Grounds}
+use Rattle.promises.specs.Holdings.{fixed_of, plain_of, file_rights, file_starts, start_of}
+use Rattle.promises.specs.{Prepared.IsFaultless, Bounded.Ends, Bounded.longest_of, Bounded.bound_of, Steps.room_of, Steps.stay_count}
 use Rattle.accepted_law.proofs.{BinWalking.bins_walk_law, ByJob.each_from}
 use Rattle.accepted_law.proofs.Joining.{all_begin, all_ground, files_begin_law, has_read_only, job_begins}
 use Rattle.job_safety.proofs.Safety.{bytes_spell, faultless}
-use Rattle.ends_law.specs.{Ends.Ends, Room.room_of, Stays.stay_count}
-use Rattle.accepted_ends.specs.Bound.{longest_of, bound_of}
 use Rattle.accepted_ends.proofs.Files.{files_end_by_law, packets_are}
 use Rattle.accepted_served.proofs.Files.{files_finish_law}
 use Rattle.job_bound.specs.{Back.first_place, Bound.bound_by, Bound.bound_in, Items.item_stays, Items.items_in, Items.items_of, Law.RunsWithin, Law.KeepsBound, Law.KeepsEnd, Law.BoundHolds, Law.EndHolds}

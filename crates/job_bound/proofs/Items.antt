@@ -8,12 +8,13 @@ use Rattle.job_format.specs.{declared.file.Frame.Frame, Model.FileModel}
 use Rattle.render_list.specs.{Frame.IsTileSet, Surfaces.is_outside_grid, Text.number_where, Text.render_slots}
 use Rattle.job_check.specs.{Emit.memory_of, Shaders.table_of}
 use Rattle.job_check.specs.Jobs.{job_of, has_bin, grid_from, grid_of, slot_of, places_in, bin_list_of}
-use Rattle.accepted_law.specs.{Ends.DrawShaders, Holdings.config_for, Parts.BinWalks, Neighbours.IsFaultless}
+use Rattle.accepted_law.specs.{Ends.DrawShaders, Holdings.config_for, Parts.BinWalks}
+use Rattle.promises.specs.Steps.{room_of, bin_steps, render_steps, job_steps}
+use Rattle.promises.specs.{Prepared.IsFaultless, Bounded.job_bound, Bounded.longest_of}
 use Rattle.accepted_law.specs.Settled.{Settled, Grounds}
 use Rattle.accepted_law.proofs.{BinWalking.bins_walk_law, Joining.all_ground, RenderWalking.frame_setup, RenderWalking.in_grid}
-use Rattle.ends_law.specs.{Left.AllWhole, Room.room_of, Steps.bin_steps, Steps.render_steps, Steps.job_steps}
+use Rattle.ends_law.specs.Left.{AllWhole}
 use Rattle.ends_law.proofs.Begins.{walks_whole}
-use Rattle.accepted_ends.specs.Bound.{job_bound, longest_of}
 use Rattle.accepted_ends.proofs.Cut.{packets_walk}
 use Rattle.job_bound.specs.Frames.{frame_steps}
 use Rattle.job_bound.proofs.{Settled.settled, Tiles.steps_render, Visits.IsAcross, Visits.visits_render}

@@ -10,4 +10,3 @@ pub mod Rooms
 pub mod Settled
 pub mod Tiles
 pub mod Visits
-mod Counted

@@ -10,7 +10,8 @@ use Rattle.job_check.specs.Jobs.{job_of, layout_of, layouts_of, bin_list_of}
 use Rattle.job_check.specs.Region.{region_size, region_from, regions_parts, region_of}
 use Rattle.job_check.proofs.{Emission.contents_fit, Layouts.lists_inside, Layouts.lists_apart, Windows.length_placed}
 use Rattle.job_check.proofs.Regions.{zeros_long, size_more, from_is, memory_made}
-use Rattle.accepted_law.specs.{Neighbours.IsFaultless, Settled.Settled, Settled.Grounds}
+use Rattle.accepted_law.specs.Settled.{Settled, Grounds}
+use Rattle.promises.specs.Prepared.{IsFaultless}
 use Rattle.accepted_law.proofs.{Joining.all_ground, Streams.piece_at}
 use Rattle.job_bound.proofs.Settled.{settled}
 

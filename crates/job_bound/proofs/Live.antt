@@ -23,23 +23,24 @@ use Rattle.machine_law.specs.{Units.EachAt, Units.UnitsFine}
 use Rattle.machine_law.proofs.Owes.{PickedFine, first_fine}
 use Rattle.job_format.specs.Model.{FileModel}
 use Rattle.job_check.specs.{Emit.memory_of, Jobs.bin_list_of}
-use Rattle.accepted_law.specs.Holdings.{plain_of, job_rights, file_rights, start_of}
+use Rattle.promises.specs.Holdings.{plain_of, job_rights, file_rights, start_of}
+use Rattle.promises.specs.Steps.{room_of, stays, unit_stays, renderer_stays, one_if}
+use Rattle.promises.specs.Days.{Admitted, Day, Files, Happening, Steps, Changes, Finds, Admits, Retires, Resets, HasNoWork, Job, admitted_at, after}
+use Rattle.promises.specs.Days.{dawn, found_at, happen, rights_in}
+use Rattle.promises.specs.{Bounded.longest_of, Bounded.job_bound, Bounded.bound_of, Drivers.MaySubmit, Drivers.job_in}
 use Rattle.accepted_law.proofs.{BinWalking.bins_walk_law, ByJob.rights_are, Joining.all_ground, Joining.has_read_only, Joining.job_begins, Prepared.prepared_memories_agree_law}
-use Rattle.accepted_ends.specs.Bound.{longest_of, job_bound, bound_of}
 use Rattle.accepted_ends.proofs.Files.{packets_are}
-use Rattle.ends_law.specs.{Room.room_of, Stays.stays, Stays.unit_stays, Stays.renderer_stays, Steps.one_if}
-use Rattle.ends_law.proofs.Plans.{Comes, keeps_both}
-use Rattle.day_law.specs.Day.{Admitted, Day, Files, Happening, Steps, Changes, Finds, Admits, Retires, Resets, HasNoWork, Job, MayHappen, AllMayHappen, admitted_at, after, dawn, found_at, happen, rights_in}
+use Rattle.ends_law.proofs.Plans.{Comes, keeps_both, weaker}
+use Rattle.day_law.specs.Day.{MayHappen, AllMayHappen}
 use Rattle.day_law.proofs.{Alone.jobs_begin_alone_law, Days.all_happen, Days.dawn_known, Keeping.below_itself, Keeping.happens, Keeping.or_none, Known.IsKnown, Known.keeps}
 use Rattle.day_law.proofs.Lists.{each_append, each_goes, last_at, still_at, without, without_long, without_others}
 use Rattle.day_law.proofs.Own.{Holds, IsQuiet, every_nth, facts, solo, solo_plain}
 use Rattle.day_ends.specs.Ends.{own_stay, own_stays}
-use Rattle.driver_law.specs.Driver.{MaySubmit, job_in}
 use Rattle.driver_law.proofs.{Driver.all_may, Driver.may_be_admitted_law, Ends.submissions_end_law}
 use Rattle.job_bound.specs.Items.{stays_at, renderer_stays_at, unit_stays_at, items_in, items_of}
 use Rattle.job_bound.specs.Live.{own_item_stay, own_item_stays, IsBoundedAt, SubmissionsEndAtItems, KeepsLive}
 use Rattle.job_bound.proofs.{Backs.none_without_loop, Holds.numbers_are}
-use Rattle.job_bound.proofs.Puts.{all_come, so_comes}
+use Rattle.job_bound.proofs.Puts.{all_come}
 use Rattle.job_bound.proofs.Rooms.{AllKeep, JobKeeps, ListsKeep, RoomBegins, binner_turned, few_below, renderer_turned, start_keeps, stays_in, total_add, total_below, unit_keeps}
 
 -- Of job j alone: it has no more items, and no work left, or all is known of it as if it were alone.
@@ -74,7 +75,7 @@ own_binner : (one : Admitted) (j most number : ℕ) (s : Lists) (free : Free) (w
 unfolding binner_ready
 own_binner one j most number s free words m here (few, inl quiet) on = absurd (quiet_binner s s.binner.work free quiet.binner on)
 own_binner one j most number s free words m here (few, inr keeps) on =
-    so_comes (binner_of number) (λ turned. JobKeeps (solo one) (solo_plain one) one.first 1 (λ k. most) 0 turned.lists) (λ turned. OnlyOwn one j most number turned.lists) (λ turned known. λ is. alone one most turned.lists known) (binner_plan s free words) m
+    weaker (binner_of number) (λ turned. JobKeeps (solo one) (solo_plain one) one.first 1 (λ k. most) 0 turned.lists) (λ turned. OnlyOwn one j most number turned.lists) (λ turned known. λ is. alone one most turned.lists known) (binner_plan s free words) m
     (binner_turned (binner_of number) (solo one) (solo_plain one) one.first 1 (λ k. most) 0 s free words m here keeps on)
 
 own_renderer : (one : Admitted) (j most number : ℕ) (s : Lists) (free : Free) (words m : List ℕ) → Holds m one → OwnKeeps one most s → glanced (renderer_ready s) m ≡ true
@@ -82,7 +83,7 @@ own_renderer : (one : Admitted) (j most number : ℕ) (s : Lists) (free : Free) 
 unfolding renderer_ready
 own_renderer one j most number s free words m here (few, inl quiet) on = absurd (quiet_renderer s s.renderer.inside m quiet.renderer on)
 own_renderer one j most number s free words m here (few, inr keeps) on =
-    so_comes (renderer_of number) (λ turned. JobKeeps (solo one) (solo_plain one) one.first 1 (λ k. most) 0 turned.lists) (λ turned. OnlyOwn one j most number turned.lists) (λ turned known. λ is. alone one most turned.lists known) (renderer_plan s free words) m
+    weaker (renderer_of number) (λ turned. JobKeeps (solo one) (solo_plain one) one.first 1 (λ k. most) 0 turned.lists) (λ turned. OnlyOwn one j most number turned.lists) (λ turned known. λ is. alone one most turned.lists known) (renderer_plan s free words) m
     (renderer_turned (renderer_of number) (solo one) (solo_plain one) one.first 1 (λ k. most) 0 s free words m here keeps on)
 
 binner_by : (one : Admitted) (j most number : ℕ) (s : Lists) (free : Free) (words m : List ℕ) (own : Bool) → (number == j) ≡ own → Holds m one → OnlyOwn one j most number s → glanced (binner_ready s free) m ≡ true

@@ -8,7 +8,7 @@ use Rattle.buffer_table.specs.declared.buffer.Kind.TheVariants.{Plain, Code}
 use Rattle.buffer_table.specs.Handles.{AreNumbersOf, is_plain, is_named, code_of}
 use Rattle.job_format.specs.Model.{FileModel}
 use Rattle.job_check.specs.{Jobs.job_of, Offsets.content_offset, Shaders.table_of, Shaders.content_of}
-use Rattle.accepted_ends.specs.Bound.{shader_in, shader_named, greatest_below}
+use Rattle.promises.specs.Bounded.{shader_in, shader_named, greatest_below}
 use Rattle.job_bound.specs.Bound.{code_for, code_in, IsProgramOf, AreProgramsUpTo, no_program}
 use Rattle.job_bound.specs.declared.programs.Program.{Program}
 

@@ -6,8 +6,8 @@ use Rattle.packets.specs.{Opcode.indexed_primitive_list, Opcode.array_primitive_
 use Rattle.bin_list.specs.Packets.{opcode, front_packet, behind, cut, packets}
 use Rattle.bin_list.proofs.Walk.{front_behind, front_some, cut_nothing}
 use Rattle.list_machine.specs.Binner.{work_of, primitive_of}
-use Rattle.ends_law.specs.{Left.IsWhole, Left.AllWhole, Room.room_in, Room.room_of}
-use Rattle.ends_law.specs.Steps.{draws, programs_left, work_steps, packet_steps, bin_steps}
+use Rattle.ends_law.specs.Left.{IsWhole, AllWhole}
+use Rattle.promises.specs.Steps.{room_in, room_of, draws, programs_left, work_steps, packet_steps, bin_steps}
 use Rattle.bin_walks.proofs.Walking.{long_indexed}
 
 -- Cutting at most as many packets as there are bytes cuts all.

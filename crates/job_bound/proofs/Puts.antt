@@ -9,7 +9,7 @@ use Rattle.packets.specs.{declared.config.Config.Config, declared.packet.Packet.
 use Rattle.bin_list.specs.Packets.{opcode}
 use Rattle.machine_plan.specs.{declared.who.Who.Who, declared.launch.Free.Free, Choice.word_at, Glance.glanced, World.mapped}
 use Rattle.machine_plan.specs.{Memory.bytes_at, Memory.stored, Plan.Plan, Plan.Done, Plan.Wilds, Plan.Reads, Plan.Looks, Plan.Writes}
-use Rattle.machine_plan.proofs.{Plans.keeps_weaker, Worlds.keeps_mapped}
+use Rattle.machine_plan.proofs.Worlds.{keeps_mapped}
 use Rattle.list_machine.specs.Lists.{Lists, Turned, turned_to, quiet, past, incremented, flushed, with_work, with_block, most_items}
 use Rattle.list_machine.specs.Blocks.{tiles_of, has_room, spot_of, item_of, zeros, is_full, block_place, next_place, link_place, put_here, put_plan}
 use Rattle.list_machine.specs.Binner.{configured, with_word, started, clear_plan, begin_plan, work_of, drawn, draw_plan, halted, is_unknown, packet_plan, read_plan, fetched_with, started_with, chosen_tile, tile_plan, item_plan, work_plan, binner_by, binner_plan, item_may, work_may, binner_may, binner_ready}
@@ -23,24 +23,19 @@ use Rattle.list_law.proofs.Binning.{read_keeps, taken_is, ready_item, plan_flush
 use Rattle.list_law.proofs.{Bytes.none_left, Bytes.bytes_front, Bytes.bytes_behind, Bytes.byte_front, Bytes.behind_ends}
 use Rattle.list_law.proofs.Safe.{keeps_if}
 use Rattle.ends_law.specs.Left.{AllWhole}
-use Rattle.ends_law.specs.Room.{items_within, room_in, room_of, room_by, Counted}
-use Rattle.ends_law.proofs.Plans.{AnyLook, AnyAccess, Comes}
+use Rattle.ends_law.specs.Room.{room_by, Counted}
+use Rattle.promises.specs.Steps.{items_within, room_in, room_of}
+use Rattle.ends_law.proofs.Plans.{AnyLook, AnyAccess, Comes, comes_any}
 use Rattle.ends_law.proofs.Renderer.{frame_stored, general_stored, waiting_loaded, wait_goes}
 use Rattle.ends_law.proofs.Rooms.{counted_here, counted_further, only_is, few_within}
 
--- A plan comes to what is so of anything, to what follows from what it comes to, and to the same where that is put into something.
+-- A plan comes to what is so of anything.
 pub all_come : {R : Type 0} (who : Who) (P : R → Type 0) → ((r : R) → P r) → (plan : Plan R) (m : List ℕ) → Comes who P plan m
 all_come who P all (Done r) m = all r
 all_come who P all Wilds m = tt
 all_come who P all (Reads p n next) m = (tt, all_come who P all (next (bytes_at m p n)) m)
 all_come who P all (Looks p n next) m = (tt, all_come who P all (next (bytes_at m p n)) m)
 all_come who P all (Writes p bs next) m = (tt, all_come who P all next (stored m p bs))
-
-pub so_comes : {R : Type 0} (who : Who) (P Q : R → Type 0) → ((one : R) → P one → Q one) → (plan : Plan R) (m : List ℕ) → Comes who P plan m → Comes who Q plan m
-so_comes who P Q goes plan m comes = keeps_weaker who AnyLook AnyLook AnyAccess AnyAccess (λ k one. P one) (λ k one. Q one) (λ p n h. h) (λ a h. h) (λ k one known. goes one known) plan m comes
-
-pub put_comes : {R T : Type 0} (who : Who) (put : R → T) (P : R → Type 0) (Q : T → Type 0) → ((one : R) → P one → Q (put one)) → (plan : Plan R) (m : List ℕ) → Comes who P plan m → Comes who Q (mapped put plan) m
-put_comes who put P Q puts plan m comes = keeps_mapped put who AnyLook AnyAccess (λ k next. Q next) plan m (so_comes who P (λ one. Q (put one)) puts plan m comes)
 
 -- The binner stands at packets that make room for no more items than `most`; so does the configuration that is kept; and there are no more.
 pub record RoomLeft (K : List ℕ → Type 0) (c : Config) (most place end : ℕ) (config : Option Config) (blocks : ℕ) (items : List Item) : Type 0 where
@@ -235,19 +230,16 @@ render_packet_goes : (who : Who) (K : List ℕ → Type 0) (c : Config) (most : 
 unfolding render_packet_plan
 render_packet_goes who K c most s words m left = (tt, (tt, acted_goes who K c most s _ words m _ left))
 
--- At an item, what a plan comes to with these lists.
-with_lists : {X : Type 0} (who : Who) (K : List ℕ → Type 0) (c : Config) (most : ℕ) (s : Lists) (put : X → Turned) (plan : Plan X) (m : List ℕ) → ((x : X) → TurnedRoom K c most (put x)) → Comes who (TurnedRoom K c most) (mapped put plan) m
-with_lists who K c most s put plan m all = keeps_mapped put who AnyLook AnyAccess (λ k turned. TurnedRoom K c most turned) plan m (all_come who (λ x. TurnedRoom K c most (put x)) all plan m)
-
+-- At an item.
 vertex_goes : (who : Who) (K : List ℕ → Type 0) (c : Config) (most : ℕ) (s : Lists) (item : Item) (words m : List ℕ) → JobRoom K c most s → Comes who (TurnedRoom K c most) (vertex_plan s item words) m
 unfolding vertex_plan
 vertex_goes who K c most s item words m left =
     let plan = fetch_plan item.primitive item.word (word_at words 1 % item.primitive.length) in
-    keeps_if who AnyLook AnyAccess (λ k turned. TurnedRoom K c most turned) m (item.primitive.length == 0) (Done (quiet s)) (mapped (fetched s) plan) (λ on. left) (λ off. with_lists who K c most s (fetched s) plan m (λ index. left))
+    keeps_if who AnyLook AnyAccess (λ k turned. TurnedRoom K c most turned) m (item.primitive.length == 0) (Done (quiet s)) (mapped (fetched s) plan) (λ on. left) (λ off. comes_any who (TurnedRoom K c most) (fetched s) (λ index. left) plan m)
 
 program_goes : (who : Who) (K : List ℕ → Type 0) (c : Config) (most : ℕ) (s : Lists) (program : Program) (free : Free) (item : Item) (m : List ℕ) → JobRoom K c most s → Comes who (TurnedRoom K c most) (program_plan s program free item) m
 unfolding program_plan
-program_goes who K c most s program free item m left = with_lists who K c most s (turned_to s) (start_plan program free item.word) m (λ launch. left)
+program_goes who K c most s program free item m left = comes_any who (TurnedRoom K c most) (turned_to s) (λ launch. left) (start_plan program free item.word) m
 
 choice_goes : (who : Who) (K : List ℕ → Type 0) (c : Config) (most : ℕ) (s : Lists) (free : Free) (words m : List ℕ) (sub : SubList) (found : Found) → JobRoom K c most s → Comes who (TurnedRoom K c most) (choice_plan s free words sub found) m
 unfolding choice_plan

@@ -22,11 +22,11 @@ use Rattle.machine.specs.Step.{Event, with_lists, with_qpu, is_ahead, binner_may
 use Rattle.machine.specs.{declared.job.Start.Start, State.Units, State.State, State.Picked, State.item_at as processor_at, State.binner_job, State.renderer_job, State.job_start}
 use Rattle.machine_law.specs.{Begins.DrawBegins, Begins.JobBegins, Jobs.ArePlain, Jobs.JobFine, Jobs.LaunchFine, Laws.AreFine, Units.EachAt}
 use Rattle.machine_law.proofs.{Begins.each_begins, Begins.text_stays, Owes.PickedFine, Owes.first_fine, Owes.put_each, Owes.not_held, Owes.units_owe_law}
-use Rattle.ends_law.specs.{Room.room_of, Stays.is_at_item, Stays.stays, Stays.renderer_stays, Stays.unit_stays, Stays.stay_count, Steps.one_if}
+use Rattle.promises.specs.Steps.{room_of, is_at_item, stays, renderer_stays, unit_stays, stay_count, one_if}
 use Rattle.ends_law.proofs.{Begins.walks_whole, Machine.comes_by, Rooms.counted_none}
-use Rattle.ends_law.proofs.Plans.{Comes, keeps_both}
+use Rattle.ends_law.proofs.Plans.{Comes, comes_into, keeps_both}
 use Rattle.job_bound.specs.Items.{is_item, is_at, stays_at, renderer_stays_at, unit_stays_at, item_stays}
-use Rattle.job_bound.proofs.Puts.{JobRoom, TurnedRoom, all_come, binner_goes, put_comes, renderer_goes}
+use Rattle.job_bound.proofs.Puts.{JobRoom, TurnedRoom, all_come, binner_goes, renderer_goes}
 
 -- What is known of each job, by its number, stays known in a step of its list units over this memory.
 pub record ListsKeep (P : ℕ → Lists → Type 0) (m : List ℕ) : Type 0 where
@@ -42,18 +42,18 @@ binner_unit : (P : ℕ → Lists → Type 0) (u : Units) (found : Option (Picked
 binner_unit P u None words m keep all picked may = absurd (false≢true may)
 binner_unit P u (Some b) words m keep all picked may =
     let free = free_in u.qpus in
-    put_comes (binner_of b.number) (with_lists u b.number) (λ turned. P b.number turned.lists) (AllKeep P) (λ turned known. put_each P 0 b.number b.number u.jobs turned.lists (omega arith) known all) (binner_plan b.item free words) m
+    comes_into (binner_of b.number) (with_lists u b.number) (λ turned. P b.number turned.lists) (AllKeep P) (λ turned known. put_each P 0 b.number b.number u.jobs turned.lists (omega arith) known all) (binner_plan b.item free words) m
     (keep.binner b.number b.item free words picked (not_held (is_ahead b.number (renderer_job u)) (binner_ready b.item free) m may))
 
 renderer_unit : (P : ℕ → Lists → Type 0) (u : Units) (found : Option (Picked Lists)) (words m : List ℕ) → ListsKeep P m → AllKeep P u → IfSome found (PickedFine P) → IsTrue (glanced (renderer_may found) m)
     → Comes (renderer_turn u found words).who (AllKeep P) (renderer_turn u found words).plan m
 renderer_unit P u None words m keep all picked may = absurd (false≢true may)
 renderer_unit P u (Some r) words m keep all picked may =
-    put_comes (renderer_of r.number) (with_lists u r.number) (λ turned. P r.number turned.lists) (AllKeep P) (λ turned known. put_each P 0 r.number r.number u.jobs turned.lists (omega arith) known all) (renderer_plan r.item (free_in u.qpus) words) m
+    comes_into (renderer_of r.number) (with_lists u r.number) (λ turned. P r.number turned.lists) (AllKeep P) (λ turned known. put_each P 0 r.number r.number u.jobs turned.lists (omega arith) known all) (renderer_plan r.item (free_in u.qpus) words) m
     (keep.renderer r.number r.item (free_in u.qpus) words picked may)
 
 qpu_unit : (P : ℕ → Lists → Type 0) (u : Units) (who : Who) (k : ℕ) (plan : Plan Qpu) (m : List ℕ) → AllKeep P u → Comes who (AllKeep P) (mapped (with_qpu u k) plan) m
-qpu_unit P u who k plan m all = put_comes who (with_qpu u k) (λ q. Unit {0}) (AllKeep P) (λ q any. all) plan m (all_come who (λ q. Unit {0}) (λ q. tt) plan m)
+qpu_unit P u who k plan m all = comes_into who (with_qpu u k) (λ q. Unit {0}) (AllKeep P) (λ q any. all) plan m (all_come who (λ q. Unit {0}) (λ q. tt) plan m)
 
 qpu_by : (P : ℕ → Lists → Type 0) (u : Units) (k : ℕ) (found : Option Qpu) (words m : List ℕ) → AllKeep P u → Comes (qpu_turn u k found words).who (AllKeep P) (qpu_turn u k found words).plan m
 qpu_by P u k None words m all = all

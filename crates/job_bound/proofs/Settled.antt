@@ -3,7 +3,8 @@ use Rattle.std.proofs.Common.{ℕ, ◌<◌, length}
 use Rattle.buffer_table.specs.Handles.{AreNumbersOf}
 use Rattle.job_format.specs.Model.{FileModel}
 use Rattle.job_check.specs.{Jobs.job_of, Shaders.table_of}
-use Rattle.accepted_law.specs.{Neighbours.IsFaultless, Settled.Settled}
+use Rattle.accepted_law.specs.Settled.{Settled}
+use Rattle.promises.specs.Prepared.{IsFaultless}
 use Rattle.accepted_law.proofs.Settling.{files_settle_law}
 
 pub settled : (f : FileModel) (j : ℕ) → IsFaultless f → j < length f.jobs → Settled f j

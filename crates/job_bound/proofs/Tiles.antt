@@ -7,7 +7,7 @@ use Rattle.packets.specs.declared.packet.Packet.TheVariants.{LoadFullResolution,
 use Rattle.packets.specs.declared.packet.Packet.{Packet}
 use Rattle.render_list.specs.Frame.{place_at, surface_at, is_full, full_place, is_first_tile, is_last_tile, tiles_across, tiles_down, IsTileSet, ArePlacesOf}
 use Rattle.render_list.specs.Text.{number_where, packet_where, idle_store, head_packet, clear_packet, clear_slots, front_slots, load_packet, load_slot, wait_slot, list_place, list_slot, full_store, full_store_slot, zs_store, zs_store_slot, color_store, color_store_slot, is_there, some_before_zs, some_before_color, more_after_multisample_zs, more_after_multisample_color, load_slots, list_slots, write_slots, tile_slots, span_slots, row_slots, all_tile_slots, render_slots}
-use Rattle.ends_law.specs.Steps.{entered, all_entered, render_steps}
+use Rattle.promises.specs.Steps.{entered, all_entered, render_steps}
 use Rattle.job_bound.specs.Frames.{loads_steps, write_steps, writes_steps, frame_loads, frame_writes, tile_steps, frame_steps}
 
 -- All tiles of a set take less than a million steps.

@@ -6,7 +6,7 @@ use Rattle.job_format.specs.declared.file.Frame.{Frame}
 use Rattle.packets.specs.declared.packet.Packet.{Packet}
 use Rattle.render_list.specs.Text.{number_where, list_place, front_slots, tile_slots, span_slots, row_slots, all_tile_slots, render_slots}
 use Rattle.render_list.specs.Frame.{tiles_across, tiles_down, IsTileSet, ArePlacesOf}
-use Rattle.ends_law.specs.Steps.{one_if, all_entered, times, most_times, most_visits}
+use Rattle.promises.specs.Steps.{one_if, all_entered, times, most_times, most_visits}
 use Rattle.job_bound.proofs.Tiles.{quiet_front, entered_two, tile_entered}
 
 -- The numbers rise, from `low` on and below `high`.

@@ -1,14 +1,12 @@
 -- The branches that lead back, and the instructions that may wait for a request that isn't there, of the shaders that handles name, by where
 -- they stand in the file.
-use Rattle.std.specs.Prelude.{◌≡◌, ◌↔◌, ◌≤◌, ℕ, ◌+◌, ◌*◌, false, List, [], ◌∷◌, length, Option, Some, None, slice_index}
-use Rattle.field_words.specs.Questions.{Question, Ask, first_of, each}
-use Rattle.shader_flow.specs.Flow.{end_of, checked_of}
+use Rattle.std.specs.Prelude.{◌≡◌, ◌↔◌, ℕ, ◌+◌, ◌*◌, false, List, [], ◌∷◌, length, Option, Some, None, slice_index}
+use Rattle.field_words.specs.Questions.{Question, Ask, first_of, each, answered}
+use Rattle.shader_flow.specs.Flow.{end_of}
 use Rattle.job_format.specs.Model.{FileModel}
 use Rattle.job_check.specs.{Jobs.job_of, Offsets.content_offset}
-use Rattle.ends_law.specs.Loops.{goes_back}
-use Rattle.served_law.specs.Waits.{outstanding, waits_at}
-use Rattle.accepted_ends.specs.Bound.{shader_named, file_loops}
-use Rattle.accepted_served.specs.Served.{file_waits}
+use Rattle.promises.specs.{Steps.goes_back, Bounded.shader_named, Bounded.file_loops, Finished.file_waits}
+use Rattle.strict_rules.specs.Rules.{wait_questions}
 use Rattle.job_bound.specs.declared.named.Sought.{Sought}
 use Rattle.job_bound.specs.declared.named.Sought.TheVariants.{LeadsBack, MayWait}
 
@@ -21,18 +19,10 @@ abbrev pub branches : Option (List ℕ) → ℕ → List (Question ℕ)
 branches None place = []
 branches (Some code) place = each (branch_question code place) 0 (end_of code)
 
--- May a program wait at instruction i for a request that isn't there? It is answered so too, and asked of each instruction that is checked.
-abbrev pub wait_question : List ℕ → ℕ → ℕ → List (Question ℕ)
-wait_question code place i = Ask (waits_at code i) (place + 8 * i) ∷ []
-
+-- The instructions at which a program may wait for a request that isn't there, or for room, by their places.
 abbrev pub wait_places : Option (List ℕ) → ℕ → List (Question ℕ)
 wait_places None place = []
-wait_places (Some code) place = each (wait_question code place) 0 (checked_of code)
-
--- How many requests and results a TMU has before each instruction, from 0 to the number of words.
-pub record AreCounts (code : List ℕ) (tmu : ℕ) (counts : List ℕ) : Type 0 where
-  pub size : length counts ≡ length code + 1
-  pub each : (i : ℕ) → i ≤ length code → slice_index counts i ≡ outstanding code tmu i
+wait_places (Some code) place = answered (λ i. place + 8 * i) (wait_questions code)
 
 -- what is sought in a shader
 abbrev pub asked : Sought → Option (List ℕ) → ℕ → List (Question ℕ)

@@ -5,7 +5,7 @@ use Rattle.buffer_table.specs.{declared.buffer.Kind.Kind, declared.buffer.Kind.T
 use Rattle.buffer_table.specs.Table.{buffer_at}
 use Rattle.job_format.specs.Model.{FileModel}
 use Rattle.job_check.specs.{Offsets.content_offset, Shaders.words_of, Shaders.content_of}
-use Rattle.accepted_ends.specs.Bound.{steps, longest_of, bound_of}
+use Rattle.promises.specs.Bounded.{steps, longest_of, bound_of}
 use Rattle.job_bound.specs.{Back.branches, Back.wait_places, Back.first_place, Items.items_of, declared.bound.Bound.Bound}
 use Rattle.job_bound.specs.declared.bound.Bound.TheVariants.{Steps, Loops}
 use Rattle.job_bound.specs.declared.named.Sought.TheVariants.{LeadsBack, MayWait}

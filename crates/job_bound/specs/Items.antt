@@ -9,7 +9,7 @@ use Rattle.list_machine.specs.{declared.state.Found.Found, declared.state.SubLis
 use Rattle.machine.specs.{State.Units, State.State, State.Picked, State.renderer_job, Step.Event, Step.step}
 use Rattle.job_format.specs.Model.{FileModel}
 use Rattle.job_check.specs.Jobs.{bin_list_of}
-use Rattle.ends_law.specs.{Room.room_of, Steps.one_if}
+use Rattle.promises.specs.Steps.{room_of, one_if}
 
 -- The renderer of a job is at item n: a primitive that its binner put on a tile. The items of a job are numbered as they are put, from 0 on.
 abbrev pub is_item : ℕ → Option Found → Bool

@@ -5,9 +5,7 @@ use Rattle.machine_plan.specs.{Others.Happening, Others.OthersRun, Regions.Right
 use Rattle.machine.specs.{State.Units, State.State, State.units_start, Step.Event, Step.ready, Step.turn}
 use Rattle.job_format.specs.{Model.FileModel, Reading.file_at}
 use Rattle.job_check.specs.{Emit.memory_of, Whole.refusal_of}
-use Rattle.accepted_law.specs.Holdings.{fixed_of, file_rights, file_starts}
-use Rattle.ends_law.specs.Stays.{step_count, stay_count}
-use Rattle.served_law.specs.Finish.{Finishes}
+use Rattle.promises.specs.{Holdings.fixed_of, Holdings.file_rights, Holdings.file_starts, Steps.step_count, Steps.stay_count, Finished.Finishes}
 use Rattle.job_bound.specs.{Bound.bound_in, Items.item_stays, declared.bound.Bound.TheVariants.Steps}
 
 -- Each run from these units over this memory, whichever unit steps next, whatever words answer it, and also while others write, has at most

@@ -1,11 +1,11 @@
 -- What a driver's job is bounded by, whatever else comes and goes, where its renderer stays at none of its items too often.
 use Rattle.std.specs.Prelude.{◌≡◌, ◌≤◌, ℕ, ◌+◌, ◌*◌, false, List, [], ◌∷◌, length, Option}
 use Rattle.job_format.specs.Model.{FileModel}
-use Rattle.accepted_ends.specs.Bound.{file_loops, longest_of, job_bound}
-use Rattle.day_law.specs.Day.{Day, Job, Happening, Steps as UnitSteps, Admits, AllMayHappen, after, dawn, happen}
+use Rattle.promises.specs.Days.{Day, Job, Happening, Steps as UnitSteps, Admits, after, dawn, happen}
+use Rattle.promises.specs.{Bounded.file_loops, Bounded.longest_of, Bounded.job_bound, Drivers.AllDriverMay, Drivers.MaySubmit, Drivers.job_in}
+use Rattle.promises.specs.{Steps.one_if}
+use Rattle.day_law.specs.Day.{AllMayHappen}
 use Rattle.day_ends.specs.Ends.{own_steps}
-use Rattle.driver_law.specs.Driver.{AllDriverMay, MaySubmit, job_in}
-use Rattle.ends_law.specs.Steps.{one_if}
 use Rattle.job_bound.specs.{Bound.bound_in, Items.unit_stays_at, Items.items_in, declared.bound.Bound.TheVariants.Steps}
 
 -- In how many of the steps among what happens the renderer stays at item n of job j.

@@ -3,13 +3,13 @@ ghost use Rattle.std.specs.Prelude.{◌≡◌, ◌<◌, ◌≤◌, ◌^◌, leng
 ghost use Rattle.field_words.specs.Sizes.{most_words};
 ghost use Rattle.field_words.specs.Questions.{first_of};
 ghost use Rattle.shader_flow.specs.Flow.{end_of};
-ghost use Rattle.ends_law.specs.Loops.{goes_back};
+ghost use Rattle.promises.specs.Steps.{goes_back};
 ghost use Rattle.job_bound.specs.Back.{branches};
 
 use qpu_isa::word::{is_branch, target};
 
 /// Whether the instruction at `at` is a branch into its own slots, to itself or to before it.
-#[tactic(auto, unfolding(ends_law::specs::Loops::goes_back))]
+#[tactic(auto, unfolding(promises::specs::Steps::goes_back))]
 fn goes_back(code: &[u64], at: u32) -> bool
     requires few { length code.now ≤ most_words }
     requires inside { at < length code.now }

@@ -6,8 +6,7 @@ ghost use Rattle.bin_list.specs.Packets.{packets};
 ghost use Rattle.list_machine.specs.Binner.{work_of};
 ghost use Rattle.list_machine.specs.Lists.{most_items};
 ghost use Rattle.ends_law.specs.Left.{IsWhole, AllWhole};
-ghost use Rattle.ends_law.specs.Room.{items_within, room_in, room_of};
-ghost use Rattle.ends_law.specs.Steps.{draws, work_steps, packet_steps, bin_steps};
+ghost use Rattle.promises.specs.Steps.{items_within, room_in, room_of, draws, work_steps, packet_steps, bin_steps};
 ghost use Rattle.job_bound.specs.Bound.{most_program, most_packet};
 
 use bin_list::split_front;
@@ -17,7 +16,7 @@ use packets::opcode::{ARRAY_PRIMITIVE_LIST, INDEXED_PRIMITIVE_LIST, TILE_BINNING
 use packets::{Config, config_in};
 
 /// Whether the packet draws a primitive.
-#[tactic(auto, unfolding(ends_law::specs::Steps::draws))]
+#[tactic(auto, unfolding(promises::specs::Steps::draws))]
 fn draws(packet: &[u8]) -> bool
     requires { IsWhole packet.now }
     ensures value { result ≡ draws packet.now }
@@ -77,7 +76,7 @@ pub fn bin_steps(longest: u32, list: &[u8]) -> u128
 }
 
 /// For how many items the tile lists have room under a configuration: one in each tile's first block, and seven in each further block.
-#[tactic(auto, using(list_machine::proofs::Putting::tiles_limit), unfolding(ends_law::specs::Room::items_within, list_machine::specs::Blocks::tiles_of, list_machine::specs::Blocks::further_offset))]
+#[tactic(auto, using(list_machine::proofs::Putting::tiles_limit), unfolding(promises::specs::Steps::items_within, list_machine::specs::Blocks::tiles_of, list_machine::specs::Blocks::further_offset))]
 fn items_within(config: &Config) -> u64
     ensures value { result ≡ items_within config.now }
     ensures few { result ≤ most_items }
@@ -89,7 +88,7 @@ fn items_within(config: &Config) -> u64
 }
 
 /// For how many items a packet makes room, where it sets a configuration.
-#[tactic(auto, unfolding(ends_law::specs::Room::room_in, packets::specs::Length::bin_length))]
+#[tactic(auto, unfolding(promises::specs::Steps::room_in, packets::specs::Length::bin_length))]
 fn packet_room(packet: &[u8]) -> u64
     requires { IsWhole packet.now }
     ensures value { result ≡ room_in packet.now }

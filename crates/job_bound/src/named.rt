@@ -2,9 +2,8 @@
 ghost use Rattle.std.specs.Prelude.{◌≡◌, ◌<◌, ◌≤◌, length, slice_index};
 ghost use Rattle.field_words.specs.Questions.{first_of};
 ghost use Rattle.job_format.specs.Parts.{parts_view};
-ghost use Rattle.accepted_law.specs.Neighbours.{IsFaultless};
+ghost use Rattle.promises.specs.{Prepared.IsFaultless, Bounded.shader_named, Bounded.job_longest, Bounded.longest_of};
 ghost use Rattle.job_check.specs.{Jobs.job_of, Offsets.content_offset};
-ghost use Rattle.accepted_ends.specs.Bound.{shader_named, job_longest, longest_of};
 ghost use Rattle.job_bound.specs.Back.{handle_places, job_places, first_place};
 ghost use Rattle.job_bound.specs.Bound.{IsProgramOf, AreProgramsOf, most_program};
 

@@ -5,7 +5,7 @@ ghost use Rattle.shader_flow.specs.Flow.{EndsAt};
 ghost use Rattle.job_format.specs.File.{IsWellFormed};
 ghost use Rattle.job_format.specs.Parts.{parts_view};
 ghost use Rattle.job_check.specs.Shaders.{words_of};
-ghost use Rattle.ends_law.specs.Loops.{instruction_steps, program_steps};
+ghost use Rattle.promises.specs.Steps.{instruction_steps, program_steps};
 ghost use Rattle.job_bound.specs.Bound.{code_in, most_program, IsProgramOf, AreProgramsOf};
 
 use crate::back::first_back;
@@ -29,7 +29,7 @@ pub struct Program {
 }
 
 /// The steps of an instruction: its own, and that of the texture unit which serves what it asks for.
-#[tactic(auto, unfolding(ends_law::specs::Loops::instruction_steps))]
+#[tactic(auto, unfolding(promises::specs::Steps::instruction_steps))]
 fn instruction_steps(word: u64) -> u32
     ensures value { result ≡ instruction_steps word }
     ensures few { result ≤ 2 }
@@ -42,7 +42,7 @@ fn instruction_steps(word: u64) -> u32
 }
 
 /// The steps of a program of a shader without loops, whose program end is the instruction `end`.
-#[tactic(auto, unfolding(ends_law::specs::Loops::program_steps))]
+#[tactic(auto, unfolding(promises::specs::Steps::program_steps))]
 fn program_steps(code: &[u64], end: u32) -> u32
     requires { EndsAt code.now end }
     ensures value { result ≡ program_steps code.now }
@@ -62,11 +62,11 @@ fn program_in(alloc: Global, bytes: &[u8], place: u64) -> Result<Program, NoMemo
     ensures { IfOk result (IsProgramOf (Some (words_of bytes.now)) place) }
 {
     let code = words_of(alloc, bytes)?;
-    let end = flow(alloc, &code)?.end;
+    let flow = flow(alloc, &code)?;
     Ok(Program {
-        steps: program_steps(&code, end),
-        back: first_back(&code, end, place),
-        wait: find_wait(alloc, &code, end, place)?,
+        steps: program_steps(&code, flow.end),
+        back: first_back(&code, flow.end, place),
+        wait: find_wait(&code, &flow, place),
     })
 }
 

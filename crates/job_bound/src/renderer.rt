@@ -74,7 +74,8 @@ fn tile_steps(frame: &Frame, has_bin: bool) -> u64
 #[tactic(auto, using(crate::proofs::Tiles::tiles_limit))]
 fn tiles_steps(frame: &Frame, has_bin: bool) -> u64
     requires { IsTileSet frame.now }
-    ensures value { result ≡ tiles_down frame.now * (tiles_across frame.now * tile_steps frame.now has_bin) }
+    ensures value { result ≡ tiles_down frame.now
+        * (tiles_across frame.now * tile_steps frame.now has_bin) }
     ensures limit { result ≤ 983040 }
 {
     let across = u64::from(frame.max_x - frame.min_x) + 1;

@@ -41,7 +41,8 @@ fn line(alloc: Global, bound: &Bound) -> Result<Vec<u8>, NoMemory>
 /// The first rule that stands, by its letter, its number and its place in the bytes; or want of memory.
 #[tactic(auto, unfolding(job_check::specs::Whole::questions_within))]
 pub fn bound_bytes(alloc: Global, bytes: &[u8]) -> Result<Bound, Stop<Refusal>>
-    ensures answers { Answers (all_questions bytes.now) (λ bound. bound ≡ bound_in (file_at bytes.now)) result }
+    ensures answers { Answers (all_questions bytes.now)
+        (λ bound. bound ≡ bound_in (file_at bytes.now)) result }
     ensures format { NeverHidesFault (answered format_refused (format_questions bytes.now)) result }
     ensures spelled { IsOk result → IsFileOf bytes.now (file_at bytes.now) }
 {
@@ -58,7 +59,8 @@ pub fn bound_bytes(alloc: Global, bytes: &[u8]) -> Result<Bound, Stop<Refusal>>
 /// The first rule that stands, by its letter, its number and its place in the bytes; or want of memory.
 #[tactic(auto, unfolding(crate::specs::Bound::bound_text))]
 pub fn bound_text(alloc: Global, bytes: &[u8]) -> Result<Vec<u8>, Stop<Refusal>>
-    ensures answers { Answers (all_questions bytes.now) (λ text. text.items ≡ bound_text (file_at bytes.now)) result }
+    ensures answers { Answers (all_questions bytes.now)
+        (λ text. text.items ≡ bound_text (file_at bytes.now)) result }
     ensures spelled { IsOk result → IsFileOf bytes.now (file_at bytes.now) }
 {
     let bound = bound_bytes(alloc, bytes)?;

@@ -9,7 +9,8 @@ use Rattle.qpu_machine.specs.Qpu.{idle_qpu}
 use Rattle.machine.specs.{declared.job.Start.Start, State.job_start, State.units_start}
 use Rattle.machine_law.specs.{Begins.JobBegins, Units.EachAt}
 use Rattle.ends_law.proofs.Begins.{draws_so, lists_so, bin_starts, render_starts}
-use Rattle.served_law.specs.{Finish.DrawServed, Finish.JobMayFinish, Waits.may_wait}
+use Rattle.served_law.specs.Finish.{DrawServed, JobMayFinish}
+use Rattle.promises.specs.Finished.{may_wait}
 use Rattle.served_law.specs.Known.{LaunchServed, QpuServed, AllGo, JobServed, UnitsServed}
 
 -- none of the packets that walk ends the list
@@ -53,7 +54,7 @@ each_begin rights plains first k (start ∷ starts) all = (all.0.begins, each_be
 -- idle processors have nothing outstanding
 idle_served : (rights : List Rights) (K : List ℕ → Type 0) (count : ℕ) → Every (QpuServed rights K) (replicate count idle_qpu)
 idle_served rights K zero = tt
-idle_served rights K (suc count) = (record { first = tt; other = tt; led = refl }, idle_served rights K count)
+idle_served rights K (suc count) = (record { first = (refl, refl); other = (refl, refl); led = refl; beside = tt }, idle_served rights K count)
 
 pub start_served : (rights : List Rights) (plains : ℕ → List Interval) (first : List ℕ) (starts : List Start) → EachAt (JobMayFinish rights plains first) 0 starts → UnitsServed rights (HasReadOnly rights first) (units_start starts)
 start_served rights plains first starts all = record {

@@ -1,13 +1,14 @@
 -- Where no unit may step, all is finished, or the binner's job waits for room.
-use Rattle.std.proofs.Common.{◌≡◌, ◌≤◌, ◌<◌, ◌⊎◌, inl, inr, ℕ, zero, suc, ◌+◌, ◌==◌, ◌&&◌, ◌||◌, not, Bool, true, false, if◌then◌else◌, List, [], ◌∷◌, ◌++◌, length, slice_index, Option, Some, None, IfSome, refl, sym, ◌∙◌, ap, subst, arith}
+use Rattle.std.proofs.Common.{◌≡◌, ◌≤◌, ◌<◌, ◌⊎◌, inl, inr, ℕ, zero, suc, ◌+◌, ◌==◌, ◌&&◌, ◌||◌, Bool, true, false, if◌then◌else◌, List, [], ◌∷◌, ◌++◌, length, slice_index, Option, Some, None, IfSome, refl, sym, ◌∙◌, ap, subst, arith}
 use Rattle.std.proofs.{lemmas.Bool.and_from, lemmas.Bool.and_parts, lemmas.Bool.not-false, lemmas.Bool.or_parts, lemmas.Bool.true≢false, lemmas.Bool.false≢true, lemmas.Grind.common_steps}
 use Rattle.std.proofs.{lemmas.Bool.Decides.nat_tests, lemmas.List.length-append}
 use Rattle.std.specs.{Prelude.is_some, Prelude.is_none, Prelude.nat_lt, List.list_all}
+use Rattle.field_words.specs.declared.access.Access.{Access}
 use Rattle.field_words.specs.declared.access.Actor.TheVariants.{Binner as TheBinner, Renderer as TheRenderer, Qpu as TheQpu, Tmu as TheTmu}
 use Rattle.field_words.specs.Pieces.{joined as joined_bytes}
 use Rattle.packets.specs.{declared.packet.Packet.Packet, Opcode.wait_on_semaphore}
 use Rattle.machine_plan.specs.Regions.{Every, Interval, Inside, Rights, rights_of, IsSafeAccess, HasReadOnly}
-use Rattle.machine_plan.specs.{declared.launch.Free.Free, Glance.Now, Glance.At, Glance.glanced, Memory.bytes_at, World.Owes}
+use Rattle.machine_plan.specs.{declared.launch.Free.Free, Glance.Now, Glance.At, Glance.glanced, Memory.bytes_at, Others.Happening, Others.OthersRun, World.Owes}
 use Rattle.machine_plan.proofs.Others.{Holds, run_holds}
 use Rattle.list_machine.specs.{declared.state.SubList.SubList, declared.state.Work.Work, Lists.Lists, Start.can_start}
 use Rattle.list_machine.specs.Binner.{has_binner_work, item_may, work_may, binner_may as may_bin, binner_ready}
@@ -16,16 +17,18 @@ use Rattle.list_law.proofs.{Bytes.none_left, Logs.same}
 use Rattle.apart_law.proofs.{Parts.some_same, Places.first_is}
 use Rattle.qpu_machine.specs.Qpu.{active_of, queued, ready_by, qpu_ready, oldest, takes_first, takes_other, slot_from, free_in, is_idle}
 use Rattle.qpu_machine.specs.{declared.state.Qpu.Qpu, declared.state.Request.Request, declared.state.Thread.Thread, Step.thread_ready}
+use Rattle.machine.specs.declared.job.Start.{Start}
 use Rattle.machine.specs.State.{Units, State, Picked, first_where, item_at, binner_job, renderer_job, units_start}
-use Rattle.machine.specs.Step.{is_ahead, binner_may, renderer_may, qpu_may, tmu_may, unit_turn, ready, turn, enabled, finished}
+use Rattle.machine.specs.Step.{Event, is_ahead, binner_may, renderer_may, qpu_may, tmu_may, unit_turn, ready, turn, enabled, finished}
 use Rattle.machine_law.specs.{Jobs.ArePlain, Laws.AreFine, Units.EachAt}
 use Rattle.machine_law.proofs.{Begins.each_begins, Owes.units_owe_law, Owes.start_fine}
 use Rattle.ends_law.specs.Left.{BinRest, RenderRest}
 use Rattle.ends_law.proofs.{Plans.keeps_both, Rests.render_skip, Rests.slot_first}
-use Rattle.served_law.specs.{Finish.WaitsForRoom, Finish.UnitsWait, Finish.IsStill, Finish.JobsFinish, Raises.waits_in, Raises.raised_by}
-use Rattle.served_law.specs.Known.{ThreadServed, QpuServed, JobMeets, JobServed, UnitsServed}
-use Rattle.served_law.proofs.{Begins.each_begin, Begins.start_served, Machine.unit_serves, Processors.SlotServed, Processors.active_served}
-use Rattle.served_law.proofs.{Renderer.byte_waits, Threads.thread_may}
+use Rattle.served_law.specs.{Finish.JobMayFinish, Finish.JobsFinish, Raises.waits_in, Raises.raised_by}
+use Rattle.promises.specs.Finished.{WaitsForRoom, UnitsWait, IsStill}
+use Rattle.served_law.specs.Known.{ThreadServed, SlotServed, QpuServed, JobMeets, JobServed, UnitsServed}
+use Rattle.served_law.proofs.{Begins.each_begin, Begins.start_served, Machine.unit_serves, Processors.active_served}
+use Rattle.served_law.proofs.{Renderer.byte_waits, Room.all_few, Threads.thread_may}
 
 -- A processor of which no unit may step is idle.
 no_requests : (requests : List Request) → is_some (oldest requests) ≡ false → requests ≡ []
@@ -254,15 +257,27 @@ owes_both rights plains first plain =
           (owes.keeps u m e known.0 has may) (unit_serves rights (HasReadOnly rights first) u e.unit e.words m has known.1 may);
     }
 
+record IsKnown (rights : List Rights) (first : List ℕ) (t : State) : Type 0 where
+  has : HasReadOnly rights first t.memory
+  units : UnitsServed rights (HasReadOnly rights first) t.units
+
+ran_known : (rights : List Rights) (plains : ℕ → List Interval) (first m : List ℕ) (starts : List Start) → ArePlain rights plains → HasReadOnly rights first m → EachAt (JobMayFinish rights plains first) 0 starts
+    → (happenings : List (Happening Event)) (found : List Access) (t : State) → OthersRun ready turn rights (record { memory = m; units = units_start starts }) happenings found t → IsKnown rights first t
+ran_known rights plains first m starts plain has all happenings found t run =
+    let I : Units → Type 0 = λ u. AreFine rights plains first u × UnitsServed rights (HasReadOnly rights first) u in
+    let w : State = record { memory = m; units = units_start starts } in
+    let fine = start_fine rights plains first starts (each_begins rights plains first 0 starts (each_begin rights plains first 0 starts all)) in
+    let ran = run_holds ready turn rights first I (owes_both rights plains first plain) happenings w (record { units = (fine, start_served rights plains first starts all); has = has }) run.allowed in
+    let last : Holds rights first I t = subst (λ (s : State). Holds rights first I s) (sym run.last) ran.0 in
+    let known = last.units in
+    record { has = last.has; units = known.1 }
+
 pub jobs_finish_law : JobsFinish
 jobs_finish_law rights plains first m starts plain has all = record {
   every_run = λ happenings found t run still.
-      let K = HasReadOnly rights first in
-      let I : Units → Type 0 = λ u. AreFine rights plains first u × UnitsServed rights K u in
-      let w : State = record { memory = m; units = units_start starts } in
-      let fine = start_fine rights plains first starts (each_begins rights plains first 0 starts (each_begin rights plains first 0 starts all)) in
-      let ran = run_holds ready turn rights first I (owes_both rights plains first plain) happenings w (record { units = (fine, start_served rights plains first starts all); has = has }) run.allowed in
-      let last : Holds rights first I t = subst (λ (s : State). Holds rights first I s) (sym run.last) ran.0 in
-      let known = last.units in
-      stands_still rights K t last.has known.1 still;
+      let known = ran_known rights plains first m starts plain has all happenings found t run in
+      stands_still rights (HasReadOnly rights first) t known.has known.units still;
+  room = λ happenings found t run.
+      let known = ran_known rights plains first m starts plain has all happenings found t run in
+      all_few rights (HasReadOnly rights first) t.units.qpus t.memory known.has known.units.qpus;
 }

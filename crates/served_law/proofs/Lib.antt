@@ -1,7 +1,11 @@
+pub mod Shaders
+pub mod Marks
+pub mod Beside
 pub mod Threads
 pub mod Processors
 pub mod Binner
 pub mod Renderer
 pub mod Machine
 pub mod Begins
+pub mod Room
 pub mod Finish

@@ -21,8 +21,8 @@ use Rattle.machine.specs.State.{Units, Picked, item_at, put_at, binner_job, rend
 use Rattle.machine_law.specs.Laws.{AreFine}
 use Rattle.machine_law.proofs.Owes.{PickedFine, item_fine, put_each, first_fine, units_owe_law, not_held}
 use Rattle.ends_law.proofs.{Machine.comes_by, Plans.Comes, Plans.comes_any, Plans.comes_into, Plans.keeps_both}
-use Rattle.served_law.specs.Known.{LaunchServed, QpuServed, JobServed, UnitsServed, StepsServe}
-use Rattle.served_law.proofs.Processors.{SlotServed, active_served, went_served, served_served, launched_served, launched_long}
+use Rattle.served_law.specs.Known.{LaunchServed, SlotServed, QpuServed, JobServed, UnitsServed, StepsServe}
+use Rattle.served_law.proofs.Processors.{active_served, went_served, served_served, launched_served, launched_long}
 use Rattle.served_law.proofs.{Threads.ThreadGoes, Threads.thread_goes, Binner.TurnedMeets, Binner.binner_meets, Renderer.renderer_meets}
 
 -- What a step of a list unit of job j came to is known again, and so is the program that it starts.
@@ -104,22 +104,22 @@ renderer_serves rights K u (Some r) words m here all picked may =
     comes_into (renderer_of r.number) (with_lists u r.number) (JobTurned rights K r.number) (UnitsServed rights K) (λ turned one. lists_served rights K u r.number turned all one) (renderer_plan r.item free words) m
     (renderer_turned rights K r.number r.item free words m here picked may)
 
-slot_serves : (rights : List Rights) (K : List ℕ → Type 0) (k : ℕ) (u : Units) (q : Qpu) (slot : Option Thread) (words m : List ℕ) → K m → UnitsServed rights K u → QpuServed rights K q
+slot_serves : (rights : List Rights) (K : List ℕ → Type 0) (k : ℕ) (u : Units) (q : Qpu) (slot : Option Thread) (words m : List ℕ) → active_of q ≡ slot → K m → UnitsServed rights K u → QpuServed rights K q
     → SlotServed rights K (queued q.second q.queue0.items) (queued q.second q.queue1.items) slot → IsTrue (glanced (ready_by slot q) m)
     → Comes (record { unit = TheQpu k; job = job_of_thread slot }) (UnitsServed rights K) (mapped (with_qpu u k) (plan_by slot q words)) m
-slot_serves rights K k u q None words m here all known thread may = absurd (false≢true may)
-slot_serves rights K k u q (Some t) words m here all known thread may =
+slot_serves rights K k u q None words m active here all known thread may = absurd (false≢true may)
+slot_serves rights K k u q (Some t) words m active here all known thread may =
     let who : Who = record { unit = TheQpu k; job = t.job } in
     let queued0 : ℕ = queued q.second q.queue0.items in
     let queued1 : ℕ = queued q.second q.queue1.items in
     let plan : Plan ThreadTurn = thread_plan t words in
     comes_into who (with_qpu u k) (QpuServed rights K) (UnitsServed rights K) (λ next one. qpu_served rights K u k next all one) (mapped (went q t) plan) m
-    (comes_into who (went q t) (ThreadGoes rights K queued0 queued1) (QpuServed rights K) (λ turn one. went_served rights K q t turn known one) plan m (thread_goes rights K queued0 queued1 t who words m here thread may))
+    (comes_into who (went q t) (ThreadGoes rights K queued0 queued1 t) (QpuServed rights K) (λ turn one. went_served rights K q t turn active known one) plan m (thread_goes rights K queued0 queued1 t who words m here thread may))
 
 qpu_serves : (rights : List Rights) (K : List ℕ → Type 0) (k : ℕ) (u : Units) (found : Option Qpu) (words m : List ℕ) → K m → UnitsServed rights K u → IfSome found (QpuServed rights K)
     → IsTrue (glanced (qpu_may found) m) → Comes (qpu_turn u k found words).who (UnitsServed rights K) (qpu_turn u k found words).plan m
 qpu_serves rights K k u None words m here all known may = absurd (false≢true may)
-qpu_serves rights K k u (Some q) words m here all known may = slot_serves rights K k u q (active_of q) words m here all known (active_served rights K q known) may
+qpu_serves rights K k u (Some q) words m here all known may = slot_serves rights K k u q (active_of q) words m refl here all known (active_served rights K q known) may
 
 request_serves : (rights : List Rights) (K : List ℕ → Type 0) (k tmu : ℕ) (u : Units) (q : Qpu) (found : Option Request) (words m : List ℕ) → UnitsServed rights K u → QpuServed rights K q → oldest (queue_of q tmu) ≡ found
     → Comes (record { unit = TheTmu k tmu; job = job_of_request found }) (UnitsServed rights K) (mapped (with_qpu u k) (serving found q tmu words)) m

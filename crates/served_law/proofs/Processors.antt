@@ -1,5 +1,5 @@
 -- What is known of a processor: after a step of its thread, after one of a texture unit, and where a program starts in it.
-use Rattle.std.proofs.Common.{◌≡◌, ◌≢◌, ℕ, suc, ◌+◌, ◌==◌, ◌&&◌, ◌||◌, not, Bool, true, false, if◌then◌else◌, List, [], ◌∷◌, ◌++◌, length, Option, Some, None, IfSome, refl, sym, ◌∙◌, ap, subst, arith}
+use Rattle.std.proofs.Common.{◌≡◌, ◌≢◌, ℕ, suc, ◌+◌, ◌==◌, ◌&&◌, ◌||◌, not, Bool, true, false, if◌then◌else◌, List, [], ◌∷◌, ◌++◌, length, Option, Some, None, refl, sym, ◌∙◌, ap, subst, arith}
 use Rattle.std.proofs.{lemmas.Bool.and_parts, lemmas.Bool.true≢false, lemmas.List.length-append}
 use Rattle.std.proofs.lemmas.List.Sums.{sum_by-cons, sum_by_push}
 use Rattle.std.specs.Prelude.{drop, is_some, is_none, option_map}
@@ -9,15 +9,12 @@ use Rattle.qpu_machine.specs.declared.state.Fate.TheVariants.{GoesOn, Switches, 
 use Rattle.qpu_machine.specs.Qpu.{active_of, is_of, queued, left_by, gives_way, woken_slot, queue_with, settled, went, oldest, queue_of, with_result, dropped, given, served, has_none, is_beside, takes_first, takes_other, in_first, in_other, started_in, launched}
 use Rattle.qpu_machine.specs.{declared.state.Asked.Asked, declared.state.Fate.Fate, declared.state.Qpu.Qpu, declared.state.Request.Request}
 use Rattle.qpu_machine.specs.{declared.state.Thread.Thread, Start.thread_of, Step.ThreadTurn}
-use Rattle.ends_law.specs.Steps.{one_if}
+use Rattle.promises.specs.{Steps.one_if, Finished.may_wait}
 use Rattle.list_law.proofs.Logs.{same}
 use Rattle.ends_law.proofs.Processors.{still_at}
-use Rattle.served_law.specs.Waits.{may_wait}
-use Rattle.served_law.specs.Known.{LaunchServed, ThreadServed, is_led, QpuServed}
+use Rattle.served_law.specs.Known.{LaunchServed, ThreadServed, SlotServed, is_led, QpuServed}
+use Rattle.served_law.proofs.Beside.{IsLike, beside_turn, beside_both, like_same, like_woken, like_result, like_left, beside_threaded, runs_beside}
 use Rattle.served_law.proofs.Threads.{asks, ThreadGoes, thread_begins}
-
-abbrev pub SlotServed : List Rights → (List ℕ → Type 0) → (queued0 queued1 : ℕ) → Option Thread → Type 0
-SlotServed rights K queued0 queued1 slot = IfSome slot (ThreadServed rights K queued0 queued1)
 
 -- by equal counts
 slot_same : (rights : List Rights) (K : List ℕ → Type 0) (queued0 queued1 same0 same1 : ℕ) (slot : Option Thread) → queued0 ≡ same0 → queued1 ≡ same1 → SlotServed rights K queued0 queued1 slot → SlotServed rights K same0 same1 slot
@@ -28,7 +25,7 @@ slot_same rights K queued0 queued1 same0 same1 slot first second left =
 woken_served : (rights : List Rights) (K : List ℕ → Type 0) (queued0 queued1 : ℕ) (over : Bool) (slot : Option Thread) → SlotServed rights K queued0 queued1 slot → SlotServed rights K queued0 queued1 (woken_slot over slot)
 unfolding still_at
 woken_served rights K queued0 queued1 false slot left = left
-woken_served rights K queued0 queued1 true None left = tt
+woken_served rights K queued0 queued1 true None left = left
 woken_served rights K queued0 queued1 true (Some t) left =
     record { there = still_at (rights_of rights t.job) K (λ code. may_wait code ≡ false) t true t.a t.b t.results0.items t.results1.items left.there; tmu0 = left.tmu0; tmu1 = left.tmu1 }
 
@@ -77,10 +74,10 @@ led_other true None own runs = led_none (is_some own)
 led_other true (Some t) own runs = refl
 
 -- A step of the active thread.
-own_served : (rights : List Rights) (K : List ℕ → Type 0) (queued0 queued1 : ℕ) (t : Thread) (fate : Fate) → (fate ≢ Ends → ThreadServed rights K queued0 queued1 t) → SlotServed rights K queued0 queued1 (left_by fate t)
-own_served rights K queued0 queued1 t GoesOn left = left (λ e. cc)
-own_served rights K queued0 queued1 t Switches left = left (λ e. cc)
-own_served rights K queued0 queued1 t Ends left = tt
+own_served : (rights : List Rights) (K : List ℕ → Type 0) (queued0 queued1 : ℕ) (t : Thread) (fate : Fate) → (fate ≢ Ends → ThreadServed rights K queued0 queued1 t) → (fate ≡ Ends → (queued0 ≡ 0) × (queued1 ≡ 0)) → SlotServed rights K queued0 queued1 (left_by fate t)
+own_served rights K queued0 queued1 t GoesOn left over = left (λ e. cc)
+own_served rights K queued0 queued1 t Switches left over = left (λ e. cc)
+own_served rights K queued0 queued1 t Ends left over = over refl
 
 own_runs : (t : Thread) (fate : Fate) → gives_way fate ≡ false → is_some (left_by fate t) ≡ true
 own_runs t GoesOn stays = refl
@@ -88,24 +85,26 @@ own_runs t Switches stays = absurd (true≢false stays)
 own_runs t Ends stays = absurd (true≢false stays)
 
 settled_served : (rights : List Rights) (K : List ℕ → Type 0) (q : Qpu) (second : Bool) (job : ℕ) (own : Option Thread) (over : Bool) (asked : Option Asked)
-    → QpuServed rights K (record q { second = second }) → SlotServed rights K (queued second q.queue0.items + asks 0 asked) (queued second q.queue1.items + asks 1 asked) own → (over ≡ false → is_some own ≡ true)
+    → QpuServed rights K (record q { second = second }) → SlotServed rights K (queued second q.queue0.items + asks 0 asked) (queued second q.queue1.items + asks 1 asked) own → (over ≡ false → is_some own ≡ true) → IsLike own (if second then q.other else q.first)
     → QpuServed rights K (settled (record q { second = second }) job own over asked)
 unfolding settled
-settled_served rights K q true job own over asked left slot runs = record {
+settled_served rights K q true job own over asked left slot runs like = record {
   first = slot_same rights K (queued false q.queue0.items) (queued false q.queue1.items) (queued false (queue_with 0 true job asked q.queue0.items)) (queued false (queue_with 1 true job asked q.queue1.items)) (woken_slot over q.first)
       (sym (other_queued 0 true job asked q.queue0.items)) (sym (other_queued 1 true job asked q.queue1.items))
       (woken_served rights K (queued false q.queue0.items) (queued false q.queue1.items) over q.first left.first);
   other = slot_same rights K (queued true q.queue0.items + asks 0 asked) (queued true q.queue1.items + asks 1 asked) (queued true (queue_with 0 true job asked q.queue0.items)) (queued true (queue_with 1 true job asked q.queue1.items)) own
       (sym (own_queued 0 true job asked q.queue0.items)) (sym (own_queued 1 true job asked q.queue1.items)) slot;
   led = led_first over q.first own runs;
+  beside = beside_both q.first q.other (woken_slot over q.first) own (like_woken over q.first) like left.beside;
 }
-settled_served rights K q false job own over asked left slot runs = record {
+settled_served rights K q false job own over asked left slot runs like = record {
   first = slot_same rights K (queued false q.queue0.items + asks 0 asked) (queued false q.queue1.items + asks 1 asked) (queued false (queue_with 0 false job asked q.queue0.items)) (queued false (queue_with 1 false job asked q.queue1.items)) own
       (sym (own_queued 0 false job asked q.queue0.items)) (sym (own_queued 1 false job asked q.queue1.items)) slot;
   other = slot_same rights K (queued true q.queue0.items) (queued true q.queue1.items) (queued true (queue_with 0 false job asked q.queue0.items)) (queued true (queue_with 1 false job asked q.queue1.items)) (woken_slot over q.other)
       (sym (other_queued 0 false job asked q.queue0.items)) (sym (other_queued 1 false job asked q.queue1.items))
       (woken_served rights K (queued true q.queue0.items) (queued true q.queue1.items) over q.other left.other);
   led = led_other over q.other own runs;
+  beside = beside_both q.first q.other own (woken_slot over q.other) like (like_woken over q.other) left.beside;
 }
 
 active_by : (rights : List Rights) (K : List ℕ → Type 0) (second : Bool) (queue0 queue1 : List Request) (first other : Option Thread) → SlotServed rights K (queued false queue0) (queued false queue1) first
@@ -116,12 +115,13 @@ active_by rights K false queue0 queue1 first other one two = one
 pub active_served : (rights : List Rights) (K : List ℕ → Type 0) (q : Qpu) → QpuServed rights K q → SlotServed rights K (queued q.second q.queue0.items) (queued q.second q.queue1.items) (active_of q)
 active_served rights K q left = active_by rights K q.second q.queue0.items q.queue1.items q.first q.other left.first left.other
 
-pub went_served : (rights : List Rights) (K : List ℕ → Type 0) (q : Qpu) (t : Thread) (turn : ThreadTurn) → QpuServed rights K q → ThreadGoes rights K (queued q.second q.queue0.items) (queued q.second q.queue1.items) turn
+pub went_served : (rights : List Rights) (K : List ℕ → Type 0) (q : Qpu) (t : Thread) (turn : ThreadTurn) → active_of q ≡ Some t → QpuServed rights K q → ThreadGoes rights K (queued q.second q.queue0.items) (queued q.second q.queue1.items) t turn
     → QpuServed rights K (went q t turn)
-went_served rights K q t turn left goes =
+went_served rights K q t turn active left goes =
     settled_served rights K q q.second t.job (left_by turn.leaves.fate turn.thread) (gives_way turn.leaves.fate) turn.leaves.asked left
-    (own_served rights K (queued q.second q.queue0.items + asks 0 turn.leaves.asked) (queued q.second q.queue1.items + asks 1 turn.leaves.asked) turn.thread turn.leaves.fate goes.left)
+    (own_served rights K (queued q.second q.queue0.items + asks 0 turn.leaves.asked) (queued q.second q.queue1.items + asks 1 turn.leaves.asked) turn.thread turn.leaves.fate goes.left goes.over)
     (own_runs turn.thread turn.leaves.fate)
+    (subst (λ (slot : Option Thread). IsLike (left_by turn.leaves.fate turn.thread) slot) (sym active) (like_left t turn.thread turn.leaves.fate goes.threaded))
 
 -- A step of a texture unit: a thread's oldest request becomes a result.
 pub got_by : {X : Type 0} (here : Bool) (results : List X) (row : X) → length (if here then results ++ row ∷ [] else results) ≡ length results + one_if here
@@ -135,7 +135,7 @@ kept_by false results row = length-append results (row ∷ [])
 got_served : (rights : List Rights) (K : List ℕ → Type 0) (before0 before1 after0 after1 tmu : ℕ) (row : Option (List ℕ)) (slot : Option Thread) → before0 ≡ after0 + one_if (tmu == 0) → before1 ≡ after1 + one_if (not (tmu == 0))
     → SlotServed rights K before0 before1 slot → SlotServed rights K after0 after1 (option_map (with_result tmu row) slot)
 unfolding still_at
-got_served rights K before0 before1 after0 after1 tmu row None fewer0 fewer1 left = tt
+got_served rights K before0 before1 after0 after1 tmu row None fewer0 fewer1 left = (let none = left.0 in omega (arith, none, fewer0), let none = left.1 in omega (arith, none, fewer1))
 got_served rights K before0 before1 after0 after1 tmu row (Some t) fewer0 fewer1 left =
     let count0 = left.tmu0 in
     let count1 = left.tmu1 in
@@ -199,6 +199,7 @@ served_by rights K tmu q true request row left is mine =
       first = slot_same rights K (queued false q.queue0.items) (queued false q.queue1.items) (queued false requests0) (queued false requests1) q.first two.0 two.1 left.first;
       other = got_served rights K (queued true q.queue0.items) (queued true q.queue1.items) (queued true requests0) (queued true requests1) tmu row q.other one.0 one.1 left.other;
       led = got_led q.second true tmu row q.first q.other left.led;
+      beside = beside_both q.first q.other q.first (option_map (with_result tmu row) q.other) (like_same q.first) (like_result tmu row q.other) left.beside;
     }
 served_by rights K tmu q false request row left is mine =
     let one = taken_mine (tmu == 0) false q.queue0.items q.queue1.items request is mine in
@@ -209,6 +210,7 @@ served_by rights K tmu q false request row left is mine =
       first = got_served rights K (queued false q.queue0.items) (queued false q.queue1.items) (queued false requests0) (queued false requests1) tmu row q.first one.0 one.1 left.first;
       other = slot_same rights K (queued true q.queue0.items) (queued true q.queue1.items) (queued true requests0) (queued true requests1) q.other two.0 two.1 left.other;
       led = got_led q.second false tmu row q.first q.other left.led;
+      beside = beside_both q.first q.other (option_map (with_result tmu row) q.first) q.other (like_result tmu row q.first) (like_same q.other) left.beside;
     }
 
 pub served_served : (rights : List Rights) (K : List ℕ → Type 0) (tmu : ℕ) (q : Qpu) (request : Request) (row : Option (List ℕ)) → QpuServed rights K q → oldest (queue_of q tmu) ≡ Some request
@@ -231,20 +233,21 @@ starts_beside true first t = refl
 starts_beside false None t = refl
 starts_beside false (Some o) t = refl
 
-in_first_served : (rights : List Rights) (K : List ℕ → Type 0) (threaded : Bool) (q : Qpu) (t : Thread) → takes_first threaded q ≡ true → ThreadServed rights K 0 0 t → QpuServed rights K q → QpuServed rights K (in_first q t)
+in_first_served : (rights : List Rights) (K : List ℕ → Type 0) (threaded : Bool) (q : Qpu) (t : Thread) → takes_first threaded q ≡ true → t.threaded ≡ threaded → ThreadServed rights K 0 0 t → QpuServed rights K q → QpuServed rights K (in_first q t)
 unfolding in_first takes_first
-in_first_served rights K threaded q t takes thread left =
+in_first_served rights K threaded q t takes is thread left =
     let parts = and_parts (is_none q.first && has_none false q) (if threaded then is_beside q.other else (is_none q.other && has_none true q)) takes in
     let none = none_queued false q (and_parts (is_none q.first) (has_none false q) parts.0).1 in
     record {
       first = slot_same rights K 0 0 (queued false q.queue0.items) (queued false q.queue1.items) (Some t) (sym none.0) (sym none.1) thread;
       other = left.other;
       led = starts_led q.second t q.other;
+      beside = runs_beside threaded t q is parts.1;
     }
 
-in_other_served : (rights : List Rights) (K : List ℕ → Type 0) (threaded : Bool) (q : Qpu) (t : Thread) → takes_other threaded q ≡ true → ThreadServed rights K 0 0 t → QpuServed rights K q → QpuServed rights K (in_other q t)
+in_other_served : (rights : List Rights) (K : List ℕ → Type 0) (threaded : Bool) (q : Qpu) (t : Thread) → takes_other threaded q ≡ true → t.threaded ≡ threaded → ThreadServed rights K 0 0 t → QpuServed rights K q → QpuServed rights K (in_other q t)
 unfolding in_other takes_other
-in_other_served rights K threaded q t takes thread left =
+in_other_served rights K threaded q t takes is thread left =
     let parts = and_parts threaded ((is_none q.other && has_none true q) && is_beside q.first) takes in
     let more = and_parts (is_none q.other && has_none true q) (is_beside q.first) parts.1 in
     let none = none_queued true q (and_parts (is_none q.other) (has_none true q) more.0).1 in
@@ -252,6 +255,7 @@ in_other_served rights K threaded q t takes thread left =
       first = left.first;
       other = slot_same rights K 0 0 (queued true q.queue0.items) (queued true q.queue1.items) (Some t) (sym none.0) (sym none.1) thread;
       led = starts_beside q.second q.first t;
+      beside = beside_turn (Some t) q.first (beside_threaded t q.first (is ∙ parts.0) more.1);
     }
 
 -- by which side a test chooses
@@ -259,18 +263,22 @@ pub chosen_by : {X : Type 0} (P : X → Type 0) (b : Bool) (x y : X) → (b ≡ 
 chosen_by P true x y one two = one refl
 chosen_by P false x y one two = two refl
 
-started_served : (rights : List Rights) (K : List ℕ → Type 0) (threaded : Bool) (t : Thread) (qpus : List Qpu) → ThreadServed rights K 0 0 t → Every (QpuServed rights K) qpus → Every (QpuServed rights K) (started_in threaded t qpus)
-started_served rights K threaded t [] thread all = tt
-started_served rights K threaded t (q ∷ qpus) thread all =
+started_served : (rights : List Rights) (K : List ℕ → Type 0) (threaded : Bool) (t : Thread) (qpus : List Qpu) → t.threaded ≡ threaded → ThreadServed rights K 0 0 t → Every (QpuServed rights K) qpus → Every (QpuServed rights K) (started_in threaded t qpus)
+started_served rights K threaded t [] is thread all = tt
+started_served rights K threaded t (q ∷ qpus) is thread all =
     let All = Every (QpuServed rights K) in
     chosen_by All (takes_first threaded q) (in_first q t ∷ qpus) (if takes_other threaded q then in_other q t ∷ qpus else q ∷ started_in threaded t qpus)
-    (λ takes. (in_first_served rights K threaded q t takes thread all.0, all.1))
+    (λ takes. (in_first_served rights K threaded q t takes is thread all.0, all.1))
     (λ off. chosen_by All (takes_other threaded q) (in_other q t ∷ qpus) (q ∷ started_in threaded t qpus)
-    (λ takes. (in_other_served rights K threaded q t takes thread all.0, all.1))
-    (λ none. (all.0, started_served rights K threaded t qpus thread all.1)))
+    (λ takes. (in_other_served rights K threaded q t takes is thread all.0, all.1))
+    (λ none. (all.0, started_served rights K threaded t qpus is thread all.1)))
+
+threaded_as : (j : ℕ) (launch : Launch) → (thread_of j launch).threaded ≡ launch.threaded
+unfolding thread_of
+threaded_as j launch = refl
 
 pub launched_served : (rights : List Rights) (K : List ℕ → Type 0) (j : ℕ) (launch : Launch) (qpus : List Qpu) → LaunchServed rights K j launch → Every (QpuServed rights K) qpus → Every (QpuServed rights K) (launched j launch qpus)
-launched_served rights K j launch qpus served all = started_served rights K launch.threaded (thread_of j launch) qpus (thread_begins rights K j launch served) all
+launched_served rights K j launch qpus served all = started_served rights K launch.threaded (thread_of j launch) qpus (threaded_as j launch) (thread_begins rights K j launch served) all
 
 -- and there are as many processors as before
 started_long : (threaded : Bool) (t : Thread) (qpus : List Qpu) → length (started_in threaded t qpus) ≡ length qpus

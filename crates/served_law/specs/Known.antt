@@ -1,5 +1,5 @@
 -- What is known of threads, processors and jobs whose shaders wait for nothing but queued requests.
-use Rattle.std.specs.Prelude.{◌≡◌, ◌≢◌, ◌≤◌, ℕ, ◌+◌, ◌||◌, Bool, true, false, List, length, Option, IfSome, IsTrue, is_some, is_none, if◌then◌else◌}
+use Rattle.std.specs.Prelude.{◌≡◌, ◌≢◌, ◌≤◌, ℕ, ◌+◌, ◌||◌, Bool, true, false, List, length, Option, Some, None, IsTrue, is_some, is_none, if◌then◌else◌}
 use Rattle.machine_plan.specs.{declared.launch.Launch.Launch, Regions.Interval, Regions.Every, Regions.Rights, Regions.rights_of, Regions.HasReadOnly}
 use Rattle.packets.specs.{declared.config.Config.Config, declared.packet.Packet.Packet, Opcode.halt}
 use Rattle.bin_list.specs.Packets.{opcode}
@@ -9,7 +9,9 @@ use Rattle.qpu_machine.specs.{declared.state.Qpu.Qpu, declared.state.Thread.Thre
 use Rattle.machine.specs.{State.Units, State.State, Step.Event, Step.may, Step.step}
 use Rattle.machine_law.specs.{Jobs.ArePlain, Laws.AreFine, Units.EachAt}
 use Rattle.ends_law.specs.Left.{LaunchSo, ThreadAt, BinRest, RenderRest}
-use Rattle.served_law.specs.{Raises.waits_in, Raises.raised_by, Waits.outstanding, Waits.may_wait}
+use Rattle.strict_rules.specs.Queue.{queue_of}
+use Rattle.served_law.specs.Raises.{waits_in, raised_by}
+use Rattle.promises.specs.Finished.{may_wait}
 
 -- Job j may start the program: it is that of a shader that waits for nothing else.
 abbrev pub LaunchServed : List Rights → (List ℕ → Type 0) → ℕ → Launch → Type 0
@@ -19,18 +21,30 @@ LaunchServed rights K j = LaunchSo (rights_of rights j) K (λ code. may_wait cod
 -- its results as many as the shader has outstanding there.
 pub record ThreadServed (rights : List Rights) (K : List ℕ → Type 0) (queued0 queued1 : ℕ) (t : Thread) : Type 0 where
   pub there : ThreadAt (rights_of rights t.job) K (λ code. may_wait code ≡ false) t
-  pub tmu0 : queued0 + length t.results0.items ≡ outstanding there.home.code 0 there.index
-  pub tmu1 : queued1 + length t.results1.items ≡ outstanding there.home.code 1 there.index
+  pub tmu0 : queued0 + length t.results0.items ≡ length (queue_of there.home.code 0 there.index)
+  pub tmu1 : queued1 + length t.results1.items ≡ length (queue_of there.home.code 1 there.index)
 
 -- where a thread of the processor runs, the active one does
 abbrev pub is_led : Bool → Option Thread → Option Thread → Bool
 is_led second first other = is_some (if second then other else first) || is_none (if second then first else other)
 
--- so do both threads of a processor
+-- so it is where a thread runs; one that is idle has nothing
+abbrev pub SlotServed : List Rights → (List ℕ → Type 0) → (queued0 queued1 : ℕ) → Option Thread → Type 0
+SlotServed rights K queued0 queued1 None = (queued0 ≡ 0) × (queued1 ≡ 0)
+SlotServed rights K queued0 queued1 (Some t) = ThreadServed rights K queued0 queued1 t
+
+-- two threads that run both run threaded programs
+abbrev pub AreBeside : Option Thread → Option Thread → Type 0
+AreBeside None other = Unit {0}
+AreBeside (Some t) None = Unit {0}
+AreBeside (Some t) (Some o) = (t.threaded ≡ true) × (o.threaded ≡ true)
+
+-- so it is of both threads of a processor
 pub record QpuServed (rights : List Rights) (K : List ℕ → Type 0) (q : Qpu) : Type 0 where
-  pub first : IfSome q.first (ThreadServed rights K (queued false q.queue0.items) (queued false q.queue1.items))
-  pub other : IfSome q.other (ThreadServed rights K (queued true q.queue0.items) (queued true q.queue1.items))
+  pub first : SlotServed rights K (queued false q.queue0.items) (queued false q.queue1.items) q.first
+  pub other : SlotServed rights K (queued true q.queue0.items) (queued true q.queue1.items) q.other
   pub led : is_led q.second q.first q.other ≡ true
+  pub beside : AreBeside q.first q.other
 
 -- none of these packets ends a binner list
 abbrev pub AllGo : List (List ℕ) → Type 0

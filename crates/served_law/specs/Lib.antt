@@ -1,4 +1,3 @@
-pub mod Waits
 pub mod Raises
 pub mod Known
 pub mod Finish

@@ -97,3 +97,15 @@ has_vpm_part code = some_below (checked_of code) (λ k. uses_vpm (word code k))
 
 unfoldable pub has_tile_part : List ℕ → Bool
 has_tile_part code = some_below (checked_of code) (λ k. uses_tile (word code k))
+
+-- At the instruction a program may wait for ever, as requests and loads don't match or have no room; or it ends and leaves set-up words or
+-- requests, whose room a later program lacks.
+unfoldable pub waits_at : List ℕ → ℕ → Bool
+waits_at code i = e2 code i || e3 code i
+
+-- Is it so at the instruction at i? It is answered by i, and asked of each checked instruction.
+unfoldable pub wait_question : List ℕ → ℕ → List (Question ℕ)
+wait_question code i = Ask (waits_at code i) i ∷ []
+
+unfoldable pub wait_questions : List ℕ → List (Question ℕ)
+wait_questions code = each (wait_question code) 0 (checked_of code)

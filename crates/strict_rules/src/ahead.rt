@@ -48,7 +48,8 @@ fn taken_ahead(code: &[u64], last: usize, tmu: u8, at: usize) -> usize
     requires last { last ≡ checked_of code.now }
     requires inside { last ≤ length code.now }
     requires near { at < most_words }
-    ensures { result ≡ load_count code.now tmu at + load_count code.now tmu (at + 1) + load_count code.now tmu (at + 2) }
+    ensures { result ≡ load_count code.now tmu at + load_count code.now tmu (at + 1)
+        + load_count code.now tmu (at + 2) }
 {
     load_count(code, last, tmu, at)
         + load_count(code, last, tmu, at + 1)
@@ -87,7 +88,8 @@ pub(crate) fn keeps_older(code: &[u64], last: usize, at: usize, walked: &Walked)
     requires inside { last ≤ length code.now }
     requires near { at < most_words }
     requires walked { IsWalked code.now at walked.now }
-    ensures { result ≡ (has_older (acted code.now at) (queue_of code.now 0 (at + 3)) || has_older (acted code.now at) (queue_of code.now 1 (at + 3))) }
+    ensures { result ≡ (has_older (acted code.now at) (queue_of code.now 0 (at + 3))
+        || has_older (acted code.now at) (queue_of code.now 1 (at + 3))) }
 {
     let taken0 = taken_ahead(code, last, 0, at);
     let taken1 = taken_ahead(code, last, 1, at);

@@ -14,9 +14,11 @@ mod rule;
 mod rules;
 mod state;
 mod step;
+mod wait;
 mod words;
 
 pub use check::check_strict;
 pub use parts::{has_tile_part, has_vpm_part};
 pub use rule::{StrictFault, StrictRule};
 pub use state::{Request, Unit, Walked};
+pub use wait::first_wait;

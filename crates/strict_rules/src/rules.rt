@@ -4,7 +4,7 @@ ghost use Rattle.field_words.specs.Questions.{first_of};
 ghost use Rattle.shader_flow.specs.Flow.{end_of};
 ghost use Rattle.shader_flow.specs.Pending.{takes};
 ghost use Rattle.strict_rules.specs.Queue.{most_slots, most_requests};
-ghost use Rattle.strict_rules.specs.Rules.{e1, e2, meets_requests, loads_none, lacks_slot, lacks_room, leaves_requests, e3, loads_early, switches_late, e4, e5, e6, e7, index_questions};
+ghost use Rattle.strict_rules.specs.Rules.{e1, e2, meets_requests, loads_none, lacks_slot, lacks_room, leaves_requests, e3, loads_early, switches_late, e4, e5, e6, e7, index_questions, waits_at};
 ghost use Rattle.strict_rules.specs.Walk.{IsKept};
 
 use crate::ahead::{keeps_older, keeps_words, requests};
@@ -106,6 +106,14 @@ fn breaks_e3(here: &Here) -> bool
     (meets_requests(here)
         || (loads_none(here, 0, &here.walked.unit0) || loads_none(here, 1, &here.walked.unit1)))
         || (lacks_slot(here) || (lacks_room(here) || leaves_requests(here)))
+}
+
+// A program may wait for ever at the instruction, or a later one.
+#[tactic(auto, unfolding(crate::specs::Rules::waits_at))]
+pub(crate) fn waits(here: &Here) -> bool
+    ensures { result ≡ waits_at here.now.code here.now.at }
+{
+    breaks_e2(here) || breaks_e3(here)
 }
 
 // A load takes a request that no switch has acted after.

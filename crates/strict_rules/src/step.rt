@@ -39,7 +39,8 @@ pub(crate) fn next_pending(code: &[u64], last: usize, tmu: u8, at: usize, pendin
 fn count_after(word: u64, tmu: u8, count: u32) -> u32
     requires number { tmu < 2 }
     requires bound { count ≤ 2 * most_words }
-    ensures value { result ≡ (if loads word tmu then count - 1 else count) + (if writes_s word tmu then 1 else 0) }
+    ensures value { result ≡ (if loads word tmu then count - 1 else count)
+        + (if writes_s word tmu then 1 else 0) }
     ensures bound { result ≤ count + 1 }
 {
     let left = if loads(word, tmu) {
@@ -138,8 +139,10 @@ pub(crate) fn step(code: &[u64], last: usize, at: usize, walked: &mut Walked)
     requires inside { last ≤ length code.now }
     requires few { length code.now ≤ most_words }
     requires here { at < last }
-    requires room0 { writes_s (word code.now at) 0 ≡ true → array_vec_len walked.old.unit0.queue < 4 }
-    requires room1 { writes_s (word code.now at) 1 ≡ true → array_vec_len walked.old.unit1.queue < 4 }
+    requires room0 { writes_s (word code.now at) 0 ≡ true
+        → array_vec_len walked.old.unit0.queue < 4 }
+    requires room1 { writes_s (word code.now at) 1 ≡ true
+        → array_vec_len walked.old.unit1.queue < 4 }
     requires before { IsWalked code.now at walked.old }
     ensures { IsWalked code.now (at + 1) walked.new }
 {

@@ -2,7 +2,8 @@
 use Rattle.std.proofs.Common.{◌≡◌, List, length, ℕ, sym, ap, subst, arith, ◌∙◌}
 use Rattle.bin_list.specs.Packets.{packets}
 use Rattle.bin_list.proofs.Walk.{some_left, none_left}
-use Rattle.ends_law.specs.{Left.IsWhole, Left.AllWhole, Steps.packet_steps, Steps.bin_steps}
+use Rattle.ends_law.specs.Left.{IsWhole, AllWhole}
+use Rattle.promises.specs.Steps.{packet_steps, bin_steps}
 use Rattle.job_bound.proofs.Packets.{whole_more, steps_more, steps_none, fewer_left}
 use Rattle.job_bound.proofs.binner.bin_steps.Goals as goal
 

@@ -1,6 +1,7 @@
 use Rattle.std.proofs.Common.{◌≡◌, ◌≤◌, ◌+◌, ◌*◌, length}
 use Rattle.bin_list.specs.Packets.{packets}
-use Rattle.ends_law.specs.{Left.AllWhole, Steps.bin_steps}
+use Rattle.ends_law.specs.Left.{AllWhole}
+use Rattle.promises.specs.Steps.{bin_steps}
 use Rattle.job_bound.specs.Bound.{most_packet}
 use Rattle.job_bound.proofs.binner.bin_steps.Given as goal
 

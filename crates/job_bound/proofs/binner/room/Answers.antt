@@ -4,7 +4,8 @@ use Rattle.std.proofs.lemmas.Grind.{common_steps}
 use Rattle.std.specs.Prelude.{max}
 use Rattle.bin_list.specs.Packets.{packets}
 use Rattle.bin_list.proofs.Walk.{some_left, none_left}
-use Rattle.ends_law.specs.{Left.IsWhole, Left.AllWhole, Room.room_in, Room.room_of}
+use Rattle.ends_law.specs.Left.{IsWhole, AllWhole}
+use Rattle.promises.specs.Steps.{room_in, room_of}
 use Rattle.job_bound.proofs.Packets.{whole_more, room_more, room_none, fewer_left}
 use Rattle.job_bound.proofs.binner.room.Goals as goal
 

@@ -2,7 +2,8 @@ use Rattle.std.proofs.Common.{◌≡◌, ◌≤◌, length}
 use Rattle.std.specs.Prelude.{max}
 use Rattle.bin_list.specs.Packets.{packets}
 use Rattle.list_machine.specs.Lists.{most_items}
-use Rattle.ends_law.specs.{Left.AllWhole, Room.room_of}
+use Rattle.ends_law.specs.Left.{AllWhole}
+use Rattle.promises.specs.Steps.{room_of}
 use Rattle.job_bound.proofs.binner.room.Given as goal
 
 -- the most so far and that of the packets that are left is that of all

@@ -3,7 +3,8 @@ use Rattle.std.proofs.Common.{◌<◌, length, arith, ap, sym, subst, ◌∙◌}
 use Rattle.std.proofs.lemmas.List.{length-map}
 use Rattle.bin_list.specs.Packets.{packets}
 use Rattle.job_format.specs.Parts.{parts_view, job_parts_view}
-use Rattle.ends_law.specs.{Left.AllWhole, Room.room_of}
+use Rattle.ends_law.specs.Left.{AllWhole}
+use Rattle.promises.specs.Steps.{room_of}
 use Rattle.job_bound.specs.Items.{items_in}
 use Rattle.job_bound.proofs.Items.{list_whole}
 use Rattle.job_bound.proofs.bound.items_in.Goals as goal

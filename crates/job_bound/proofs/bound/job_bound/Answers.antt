@@ -4,8 +4,8 @@ use Rattle.std.proofs.lemmas.List.{length-map}
 use Rattle.bin_list.specs.Packets.{packets}
 use Rattle.render_list.specs.Text.{number_where}
 use Rattle.job_format.specs.Parts.{parts_view, job_parts_view}
-use Rattle.ends_law.specs.{Left.AllWhole, Room.room_of, Steps.bin_steps}
-use Rattle.accepted_ends.specs.Bound.{longest_of}
+use Rattle.ends_law.specs.Left.{AllWhole}
+use Rattle.promises.specs.{Steps.room_of, Steps.bin_steps, Bounded.longest_of}
 use Rattle.job_check.specs.Jobs.{job_of, has_bin, bin_list_of}
 use Rattle.job_bound.specs.{Frames.frame_steps, Items.items_in}
 use Rattle.job_bound.proofs.Items.{list_whole, job_is}

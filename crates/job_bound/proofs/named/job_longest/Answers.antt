@@ -2,7 +2,7 @@
 use Rattle.std.proofs.{Common.◌≡◌, Common.length, Common.max, Common.sym, Common.ap, Common.arith, Common.◌∙◌, lemmas.Grind.common_steps}
 use Rattle.job_format.specs.Parts.{parts_view}
 use Rattle.job_check.specs.Jobs.{job_of}
-use Rattle.accepted_ends.specs.Bound.{steps, shader_named, greatest_below, job_longest}
+use Rattle.promises.specs.Bounded.{steps, shader_named, greatest_below, job_longest}
 use Rattle.job_bound.specs.Bound.{most_program}
 use Rattle.job_bound.proofs.Naming.{greatest_none, greatest_on}
 use Rattle.job_bound.proofs.named.job_longest.Goals as goal

@@ -1,6 +1,6 @@
 use Rattle.std.proofs.Common.{◌≡◌, ◌≤◌}
 use Rattle.job_format.specs.Parts.{parts_view}
-use Rattle.accepted_ends.specs.Bound.{steps, shader_named, greatest_below}
+use Rattle.promises.specs.Bounded.{steps, shader_named, greatest_below}
 use Rattle.job_bound.specs.Bound.{most_program}
 use Rattle.job_bound.proofs.named.job_longest.Given as goal
 

@@ -2,7 +2,7 @@
 use Rattle.std.proofs.{Common.◌≡◌, Common.length, Common.max, Common.sym, Common.ap, Common.arith, Common.◌∙◌, lemmas.List.length-map}
 use Rattle.std.proofs.lemmas.Grind.{common_steps}
 use Rattle.job_format.specs.Parts.{parts_view, job_parts_view}
-use Rattle.accepted_ends.specs.Bound.{greatest_below, job_longest, longest_of}
+use Rattle.promises.specs.Bounded.{greatest_below, job_longest, longest_of}
 use Rattle.job_bound.specs.Bound.{most_program}
 use Rattle.job_bound.proofs.Naming.{greatest_none, greatest_on}
 use Rattle.job_bound.proofs.named.longest.Goals as goal

@@ -1,6 +1,6 @@
 use Rattle.std.proofs.Common.{◌≡◌, ◌≤◌}
 use Rattle.job_format.specs.Parts.{parts_view}
-use Rattle.accepted_ends.specs.Bound.{job_longest, greatest_below}
+use Rattle.promises.specs.Bounded.{job_longest, greatest_below}
 use Rattle.job_bound.specs.Bound.{most_program}
 use Rattle.job_bound.proofs.named.longest.Given as goal
 

@@ -1,7 +1,7 @@
 -- One instruction more.
 use Rattle.std.proofs.Common.{◌≡◌, ℕ, suc, ◌+◌, List, refl, ap, arith}
 use Rattle.shader_flow.specs.Flow.{word}
-use Rattle.ends_law.specs.Loops.{instruction_steps, steps_before}
+use Rattle.promises.specs.Steps.{instruction_steps, steps_before}
 use Rattle.job_bound.proofs.programs.program_steps.Goals as goal
 
 pub loop-at-init : goal.loop-at-init

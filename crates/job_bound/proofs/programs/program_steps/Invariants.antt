@@ -1,5 +1,5 @@
 use Rattle.std.proofs.Common.{◌≡◌, ◌≤◌, ◌*◌}
-use Rattle.ends_law.specs.Loops.{steps_before}
+use Rattle.promises.specs.Steps.{steps_before}
 use Rattle.job_bound.proofs.programs.program_steps.Given as goal
 
 -- the steps of the instructions so far

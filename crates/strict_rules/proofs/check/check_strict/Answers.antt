@@ -6,7 +6,7 @@ use Rattle.shader_flow.specs.Flow.{checked_of}
 use Rattle.strict_rules.specs.Rules.{strict_at, index_questions, questions_at, strict_questions}
 use Rattle.strict_rules.specs.{Least.IsUpTo, declared.rule.StrictRule.TheVariants.SetupAtSwitch}
 use Rattle.strict_rules.proofs.Leasts.{order, all_rise}
-use Rattle.strict_rules.proofs.Rooms.{room_first, room_second}
+use Rattle.strict_rules.proofs.Rooms.{no_e3, room_first, room_second}
 use Rattle.strict_rules.proofs.check.check_strict.Goals as goal
 
 pub loop-at-init : goal.loop-at-init
@@ -33,12 +33,12 @@ invariant_of-here c = record {
 
 pub step-requires-clause-room0 : goal.step-requires-clause-room0
 step-requires-clause-room0 c = λ some.
-    let room = room_first c.args.code.now c.loop-at.at (sym c.in_default.ensures) some in
+    let room = room_first c.args.code.now c.loop-at.at (no_e3 c.args.code.now c.loop-at.at (sym c.in_default.ensures)) some in
     omega (arith, ap length c.loop-at.invariant.walked.first.requests, room)
 
 pub step-requires-clause-room1 : goal.step-requires-clause-room1
 step-requires-clause-room1 c = λ some.
-    let room = room_second c.args.code.now c.loop-at.at (sym c.in_default.ensures) some in
+    let room = room_second c.args.code.now c.loop-at.at (no_e3 c.args.code.now c.loop-at.at (sym c.in_default.ensures)) some in
     omega (arith, ap length c.loop-at.invariant.walked.second.requests, room)
 
 pub returns-in-Some-clause-least : goal.returns-in-Some-clause-least
