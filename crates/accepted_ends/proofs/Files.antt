@@ -9,12 +9,15 @@ use Rattle.render_list.specs.Text.{render_slots}
 use Rattle.job_format.specs.Model.{FileModel}
 use Rattle.job_check.specs.{Emit.memory_of, Jobs.job_of, Jobs.bin_list_of, Jobs.places_in, Jobs.grid_of, Jobs.slot_of}
 use Rattle.accepted_law.specs.{Ends.DrawShaders, Parts.BinWalks, Settled.Grounds}
-use Rattle.accepted_law.specs.Holdings.{plain_of, file_rights, file_starts, start_of, config_for}
+use Rattle.accepted_law.specs.Holdings.{config_for}
+use Rattle.promises.specs.Holdings.{plain_of, file_rights, file_starts, start_of}
+use Rattle.promises.specs.Bounded.{file_loops, longest_of, job_bound, bound_of}
+use Rattle.promises.specs.Steps.{job_steps}
 use Rattle.accepted_law.proofs.BinWalking.{bins_walk_law}
 use Rattle.accepted_law.proofs.Joining.{all_ground, job_begins, files_begin_law, has_read_only}
-use Rattle.ends_law.specs.{Ends.DrawShort, Ends.JobShort, Left.EachWithin, Steps.job_steps}
+use Rattle.ends_law.specs.{Ends.DrawShort, Ends.JobShort, Left.EachWithin}
 use Rattle.ends_law.proofs.{Runs.jobs_end_law, Shares.more_within}
-use Rattle.accepted_ends.specs.{Bound.file_loops, Bound.longest_of, Bound.job_bound, Bound.bound_of, Law.FilesEndBy}
+use Rattle.accepted_ends.specs.Law.{FilesEndBy}
 use Rattle.accepted_ends.proofs.{Cut.packets_walk, Shaders.draws_short}
 
 pub packets_are : (f : FileModel) (j : ℕ) (m : List ℕ) → (bin : BinWalks f j m) → packets (bin_list_of f j) ≡ bin.packets

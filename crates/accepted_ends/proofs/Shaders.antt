@@ -5,9 +5,10 @@ use Rattle.buffer_table.proofs.Named.{code_is}
 use Rattle.shader_flow.{specs.Bounded.some_below, proofs.Bounded.some_below_not}
 use Rattle.job_format.specs.Model.{FileModel}
 use Rattle.job_check.specs.{Shaders.table_of, Jobs.job_of}
-use Rattle.accepted_law.specs.{Ends.IsShaderOf, Ends.DrawShaders, Holdings.plain_of, Holdings.file_rights}
-use Rattle.ends_law.specs.{Ends.DrawShort, Loops.IsShort, Loops.program_steps}
-use Rattle.accepted_ends.specs.Bound.{shader_in, shader_named, loops, steps, job_loops, file_loops, greatest_below, job_longest, longest_of}
+use Rattle.accepted_law.specs.Ends.{IsShaderOf, DrawShaders}
+use Rattle.promises.specs.Bounded.{shader_in, shader_named, loops, steps, job_loops, file_loops, greatest_below, job_longest, longest_of}
+use Rattle.promises.specs.{Holdings.plain_of, Holdings.file_rights, Steps.program_steps}
+use Rattle.ends_law.specs.{Ends.DrawShort, Loops.IsShort}
 
 pub upto_greatest : (n k : ℕ) (number : ℕ → ℕ) → k < n → number k ≤ greatest_below n number
 unfolding greatest_below

@@ -10,7 +10,8 @@ use Rattle.job_format.specs.Model.{FileModel}
 use Rattle.job_check.specs.{Shaders.table_of, Jobs.job_of, Jobs.has_bin, Jobs.slot_of}
 use Rattle.list_machine.specs.Blocks.{tiles_of}
 use Rattle.list_law.specs.{May.MayWrite, Binning.Allocates}
-use Rattle.accepted_law.specs.Holdings.{slot_in, job_rights, across_of, down_of, config_for}
+use Rattle.accepted_law.specs.Holdings.{across_of, down_of, config_for}
+use Rattle.promises.specs.Holdings.{slot_in, job_rights}
 use Rattle.accepted_law.specs.{Settled.Settled, Parts.FilesAllocate}
 use Rattle.accepted_law.proofs.ByJob.{rights_are}
 

@@ -16,7 +16,8 @@ use Rattle.job_check.specs.{Shaders.table_of, Jobs.job_of, Jobs.input_for, Jobs.
 use Rattle.job_check.proofs.Layouts.{layout_numbers, layout_low, enough_slots}
 use Rattle.machine_plan.specs.Regions.{Inside}
 use Rattle.list_law.proofs.Start.{Follows, walks_so}
-use Rattle.accepted_law.specs.Holdings.{rights_at, across_of, down_of, config_for}
+use Rattle.accepted_law.specs.Holdings.{across_of, down_of, config_for}
+use Rattle.promises.specs.Holdings.{rights_at}
 use Rattle.accepted_law.specs.{Ends.DrawShaders, Settled.Grounds, Parts.DrawsBegin, Parts.BinWalks, Parts.BinsWalk}
 use Rattle.accepted_law.proofs.States.{StateFound, state_found, place_for, place_whole, place_of, state_of, record_kept, data_inside, attributes_of}
 use Rattle.accepted_law.proofs.{Programs.records_launch_law, Holding.bin_is, Tables.buffer_low}
@@ -93,6 +94,7 @@ draws_begin_law f j m word packet grounds has drawn kind =
       fragment = launches.of_fragment;
       vertex = launches.of_vertex;
       coordinate = launches.of_coordinate;
+      handles = launches.handles;
     }
 
 -- The job's one configuration is that of the emitted list.

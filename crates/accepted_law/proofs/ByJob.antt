@@ -6,8 +6,8 @@ use Rattle.job_format.specs.Model.{FileModel}
 use Rattle.machine_plan.specs.Regions.{Inside, Rights, joined}
 use Rattle.machine_law.specs.Units.{EachAt}
 use Rattle.machine_law.proofs.Apart.{inside_left, inside_either, inside_right}
-use Rattle.qpu_law.specs.Asks.{IsOneOf}
-use Rattle.accepted_law.specs.Holdings.{of_jobs, lists_of, codes_of, job_rights, file_rights, rights_at, fixed_below, fixed_of}
+use Rattle.promises.specs.Holdings.{of_jobs, lists_of, codes_of, job_rights, file_rights, rights_at, fixed_below, fixed_of}
+use Rattle.promises.specs.Rights.{IsOneOf}
 
 -- What is true of each job's item is true of all, one after the other.
 pub each_from : {X : Type 0} (P : ℕ → X → Type 0) (item : ℕ → X) (n j : ℕ) → ((k : ℕ) → j ≤ k → k < j + n → P k (item k)) → EachAt P j (map item (range_with_len j n))

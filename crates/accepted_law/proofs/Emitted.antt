@@ -10,12 +10,11 @@ use Rattle.job_check.specs.{Shaders.table_of, Shaders.content_of, Emit.lengths_o
 use Rattle.job_check.proofs.{Codes.content_long, Emission.length_zeros}
 use Rattle.machine_plan.proofs.Words.{byte_read}
 use Rattle.machine_plan.specs.{Memory.bytes_at, Regions.Interval, Regions.LiesIn, Regions.Inside, Regions.Rights, Regions.rights_of}
-use Rattle.qpu_law.specs.Asks.{IsOneOf}
-use Rattle.apart_law.specs.Part.{Client}
-use Rattle.machine_law.specs.Apart.{regions_of}
+use Rattle.promises.specs.Apart.{regions_of, jobs_of, reach_of, named_at, PlacedAlike, AreNeighbourFiles}
+use Rattle.promises.specs.Holdings.{interval, plain_of, codes_of, lists_of, slot_in, job_rights, file_rights}
+use Rattle.promises.specs.{Rights.IsOneOf, Trail.Client}
 use Rattle.machine_law.proofs.Apart.{inside_either}
-use Rattle.accepted_law.specs.Holdings.{interval, plain_of, codes_of, lists_of, slot_in, job_rights, file_rights}
-use Rattle.accepted_law.specs.Neighbours.{jobs_of, reach_of, named_at, PlacedAlike, FilledAlike, AreNeighbourFiles, EmittedAlike}
+use Rattle.accepted_law.specs.Neighbours.{FilledAlike, EmittedAlike}
 use Rattle.accepted_law.specs.Settled.{Settled, AreSettled}
 use Rattle.accepted_law.proofs.Holding.{all_parts, four_parts, memory_is, contents_in, all_in, zeros_fit, jobs_miss, misses_four, clear_of, buffer_off_lists, content_byte, holds_all}
 use Rattle.accepted_law.proofs.{ByJob.rights_are, Intervals.named_by, Grounds.slot_apart, Grounds.two_apart}

@@ -2,9 +2,8 @@
 use Rattle.std.proofs.Common.{◌≤◌, ◌⊎◌, inl, inr, ℕ, ◌+◌, ◌-◌, List, [], ◌∷◌, ◌++◌, refl, subst, arith, rules}
 use Rattle.job_format.specs.Model.{FileModel}
 use Rattle.machine_plan.specs.Regions.{Interval, Inside, IsOutside}
-use Rattle.qpu_law.specs.Asks.{IsOneOf}
-use Rattle.machine_law.specs.Begins.{IsFixed}
-use Rattle.accepted_law.specs.{Held.AreFixed, Holdings.lists_of, Holdings.codes_of, Holdings.file_rights}
+use Rattle.promises.specs.{Rights.IsOneOf, Rights.IsFixed, Holdings.lists_of, Holdings.codes_of, Holdings.file_rights}
+use Rattle.accepted_law.specs.Held.{AreFixed}
 use Rattle.accepted_law.proofs.Intervals.{both_lists, code_held}
 
 -- what lies inside some of them lies inside one

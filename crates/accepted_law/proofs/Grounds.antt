@@ -12,9 +12,8 @@ use Rattle.job_check.specs.Jobs.{job_of, slot_of, layout_of, bin_list_of, record
 use Rattle.job_check.specs.{Shaders.table_of, Emit.lengths_of}
 use Rattle.job_check.proofs.Layouts.{layout_numbers, begin_from}
 use Rattle.machine_plan.specs.Regions.{Inside, IsOutside}
-use Rattle.qpu_law.specs.Asks.{IsOneOf}
-use Rattle.machine_law.specs.Begins.{IsFixed}
-use Rattle.accepted_law.specs.Holdings.{OfEachJob, interval, plain_of, codes_of, lists_of, slot_in, job_rights, file_rights}
+use Rattle.promises.specs.Holdings.{OfEachJob, interval, plain_of, codes_of, lists_of, slot_in, job_rights, file_rights}
+use Rattle.promises.specs.Rights.{IsOneOf, IsFixed}
 use Rattle.accepted_law.specs.{Settled.Settled, Settled.ListsEnd, Parts.FilesGround}
 use Rattle.accepted_law.proofs.Tables.{buffer_sound, buffers_apart, lists_apart, tiles_apart, regions_apart, slot_inside}
 use Rattle.accepted_law.proofs.Intervals.{one_left, one_right, named_there, named_by}

@@ -15,11 +15,12 @@ use Rattle.job_check.specs.Shaders.{table_of, content_of, words_in, words_of, to
 use Rattle.job_check.specs.{Jobs.job_of, Jobs.layout_of, Jobs.streams_of, Emit.lengths_of}
 use Rattle.job_check.proofs.Codes.{content_long, length_words, shader_short}
 use Rattle.machine_plan.proofs.Words.{word_read}
-use Rattle.qpu_law.specs.{Asks.IsOneOf, Home.Home, Emitted.Emits, Thread.IsHome, Thread.HasSamples}
+use Rattle.qpu_law.specs.{Home.Home, Emitted.Emits, Thread.IsHome, Thread.HasSamples}
+use Rattle.promises.specs.Holdings.{plain_of, lists_of, rights_at, file_rights}
+use Rattle.promises.specs.Rights.{IsOneOf}
 use Rattle.qpu_law.proofs.{Reading.one_inside, Emitting.streams_serve_law}
 use Rattle.machine_law.specs.Begins.{HomeBegins}
 use Rattle.machine_law.proofs.Begins.{fixed_inside}
-use Rattle.accepted_law.specs.Holdings.{plain_of, lists_of, rights_at, file_rights}
 use Rattle.accepted_law.specs.Settled.{Settled, Grounds}
 use Rattle.accepted_law.proofs.{Settling.code_rules, Uses.buffer_inside, Uses.lists_low}
 use Rattle.accepted_law.proofs.Streams.{number_at, words_from, word_from, words_fit}

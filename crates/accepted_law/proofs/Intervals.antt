@@ -3,12 +3,12 @@ use Rattle.std.proofs.Common.{◌≡◌, ◌⊎◌, inl, inr, ℕ, zero, suc, �
 use Rattle.std.proofs.lemmas.Bool.{cases_lt}
 use Rattle.buffer_table.specs.{declared.buffer.Buffer.Buffer, Table.buffer_at}
 use Rattle.machine_plan.specs.Regions.{Interval}
-use Rattle.qpu_law.specs.Asks.{IsOneOf}
+use Rattle.promises.specs.Holdings.{interval_where, named_buffers, plain_of, codes_of, lists_of, slot_in, IsNamedCode}
+use Rattle.promises.specs.Rights.{IsOneOf}
 use Rattle.shader_records.specs.Named.{IsDataIn}
 use Rattle.job_format.specs.Model.{FileModel}
 use Rattle.job_check.specs.{Jobs.job_of, Shaders.table_of}
-use Rattle.accepted_law.specs.Holdings.{interval_where, named_buffers, plain_of, codes_of, lists_of, slot_in}
-use Rattle.accepted_law.specs.Held.{IsSlot, IsNamedCode, IsToWrite, IsToReach, RightsAreHeld}
+use Rattle.accepted_law.specs.Held.{IsSlot, IsToWrite, IsToReach, RightsAreHeld}
 use Rattle.accepted_law.proofs.ByJob.{rights_are}
 
 -- one of the intervals of two lists

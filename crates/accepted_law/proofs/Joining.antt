@@ -7,15 +7,17 @@ use Rattle.job_check.specs.Jobs.{layout_of, bin_list_of, render_list_of, no_job,
 use Rattle.job_check.specs.{Emit.lengths_of, Emit.memory_of, Faults.place_stages, Shaders.table_of}
 use Rattle.machine_plan.specs.Memory.{bytes_at}
 use Rattle.machine_plan.specs.Regions.{Inside, Rights, IsOutside, HasReadOnly, Agree, joined}
-use Rattle.qpu_law.specs.Asks.{IsOneOf}
+use Rattle.promises.specs.Holdings.{OfEachJob, lists_of, job_rights, file_rights, start_by, start_of, named_buffers, plain_of, codes_of, slot_in}
+use Rattle.promises.specs.Holdings.{fixed_of, file_starts}
+use Rattle.promises.specs.Rights.{IsOneOf, IsFixed}
 use Rattle.qpu_law.proofs.Reading.{one_inside}
 use Rattle.bin_walks.specs.Walks.{nothing_kept}
 use Rattle.list_law.proofs.Start.{walks_so}
-use Rattle.machine_law.specs.{Begins.TextBegins, Begins.IsFixed, Begins.DrawBegins, Begins.JobBegins, Jobs.ArePlain, Units.EachAt}
+use Rattle.machine_law.specs.{Begins.TextBegins, Begins.DrawBegins, Begins.JobBegins, Jobs.ArePlain, Units.EachAt}
 use Rattle.machine_law.proofs.{Sound.jobs_sound_law, Apart.inside_either}
 use Rattle.render_list.specs.Text.{render_slots}
 use Rattle.buffer_table.specs.{declared.buffer.Buffer.Buffer, Table.buffer_at, Handles.data_of}
-use Rattle.accepted_law.specs.Holdings.{OfEachJob, lists_of, job_rights, file_rights, start_by, start_of, named_buffers, plain_of, codes_of, slot_in, fixed_of, file_starts, config_for, frame_for}
+use Rattle.accepted_law.specs.Holdings.{config_for, frame_for}
 use Rattle.accepted_law.specs.{Ends.DrawShaders, Settled.Grounds, Texts.BinTextsBegin, Texts.RenderTextsBegin}
 use Rattle.accepted_law.specs.{Parts.BinWalks, Parts.RenderWalks, Parts.FilesBegin, Held.ListsAndCodeAreFixed, Whole.FilesSound}
 use Rattle.accepted_law.proofs.ByJob.{each_from, rights_are, in_some_job, in_fixed}

@@ -11,10 +11,13 @@ use Rattle.job_format.specs.Model.{FileModel}
 use Rattle.job_check.specs.{Shaders.table_of, Emit.lengths_of, Jobs.job_of, Jobs.layout_of}
 use Rattle.machine_plan.specs.Regions.{Interval}
 use Rattle.machine.specs.{State.item_at}
-use Rattle.machine_law.specs.Apart.{BeginsSoundly, IsUnshared, AreNeighbours}
+use Rattle.machine_law.specs.Apart.{BeginsSoundly, AreNeighbours}
+use Rattle.promises.specs.Apart.{IsUnshared, jobs_of, named_at, StandAlike, PlacedAlike, AreNeighbourFiles, beginning_of}
+use Rattle.promises.specs.Holdings.{interval, interval_where, named_buffers, plain_of, codes_of, lists_in, lists_of, slot_in, job_rights, file_rights}
+use Rattle.promises.specs.Holdings.{start_by, start_of, file_starts}
+use Rattle.promises.specs.Prepared.{IsFaultless}
 use Rattle.machine_law.proofs.Apart.{apart_anywhere_law, apart_with_others_law}
-use Rattle.accepted_law.specs.Holdings.{interval, interval_where, named_buffers, plain_of, codes_of, lists_in, lists_of, slot_in, job_rights, file_rights, start_by, start_of, file_starts}
-use Rattle.accepted_law.specs.Neighbours.{IsFaultless, jobs_of, named_at, StandAlike, PlacedAlike, AreNeighbourFiles, beginning_of, AcceptedApart}
+use Rattle.accepted_law.specs.Neighbours.{AcceptedApart}
 use Rattle.accepted_law.proofs.{ByJob.rights_are, Settling.files_settle_law, Unshared.job_is_of, Unshared.clients_unshared_law}
 use Rattle.accepted_law.proofs.Joining.{files_begin_law, has_read_only, all_begin}
 

@@ -13,9 +13,10 @@ use Rattle.job_check.specs.Region.{region_size, region_from, region_parts, regio
 use Rattle.job_check.proofs.{Emission.length_zeros, Windows.length_placed, Layouts.lists_apart as jobs_apart, Layouts.lists_inside}
 use Rattle.job_check.proofs.Regions.{fit_more, fit_moved, size_more, size_before, memory_made}
 use Rattle.machine_plan.specs.Regions.{Inside}
-use Rattle.accepted_law.specs.Holdings.{lists_of, codes_of, fixed_below, fixed_of}
-use Rattle.accepted_law.specs.{Neighbours.IsFaultless, Settled.Settled, Settled.AreSettled}
-use Rattle.accepted_law.specs.Prepared.{filled, IsPrepared, PreparedMemoriesAgree}
+use Rattle.promises.specs.Holdings.{lists_of, codes_of, fixed_below, fixed_of}
+use Rattle.promises.specs.Prepared.{IsFaultless, filled, IsPrepared}
+use Rattle.accepted_law.specs.Settled.{Settled, AreSettled}
+use Rattle.accepted_law.specs.Prepared.{PreparedMemoriesAgree}
 use Rattle.accepted_law.proofs.{Emitted.buffer_byte, Emitted.zero_byte, Intervals.code_held, Placing.fit_append}
 use Rattle.accepted_law.proofs.{Fixed.in_one, Grounds.four_lie, Settling.files_settle_law}
 use Rattle.accepted_law.proofs.Holding.{lists_end, holds_all, with_contents, long_contents, zeros_fit}

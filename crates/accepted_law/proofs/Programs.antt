@@ -23,7 +23,8 @@ use Rattle.job_check.proofs.Views.{streams_are}
 use Rattle.list_machine.specs.Fetch.{record_place}
 use Rattle.list_law.specs.Emitted.{words_in, program_in}
 use Rattle.machine_law.specs.Begins.{LaunchBegins}
-use Rattle.accepted_law.specs.{Holdings.plain_of, Holdings.file_rights, Ends.IsShaderOf, Settled.Grounds, Parts.RecordsLaunch}
+use Rattle.accepted_law.specs.{Ends.IsShaderOf, Settled.Grounds, Parts.RecordsLaunch}
+use Rattle.promises.specs.Holdings.{plain_of, file_rights}
 use Rattle.accepted_law.proofs.Uses.{inputs_are, inputs_low, streams_low, emitted_stand, told_is}
 use Rattle.accepted_law.proofs.Homes.{home_of, IsStarted, home_begins}
 
@@ -53,6 +54,7 @@ flags_emitted input at state streams = refl
 -- Shader s of state k: its buffer and its stream, and the two words of the record that name them.
 record IsProgram (f : FileModel) (j : ℕ) (m : List ℕ) (k s : ℕ) : Type 0 where
   handle : ℕ
+  handle_is : handle ≡ u32_at (job_of f j).records (record_source (input_for f j) k + 4 * s)
   number : ℕ
   stream : ℕ
   started : IsStarted f j m handle number stream
@@ -135,6 +137,7 @@ program_told f j m k s number grounds some below small named used sound =
     let ends = stream_ends f j k s (uniforms_of (words_of (content_of f number))) some below small (ap given_by used) in
     record {
       handle = u32_at input.records (at + 4 * s);
+      handle_is = refl;
       number = number;
       stream = stream_at f j k s;
       started = record {
@@ -181,7 +184,7 @@ threaded_is f number = refl
 launch_begins : (f : FileModel) (j : ℕ) (m : List ℕ) (k s word : ℕ) (threaded : Bool) → Grounds f j m → has_bin f j ≡ true → k < length (input_for f j).states → s < 3
     → record_place word ≡ (layout_of f j).place + (layout_of f j).records + record_offset (input_for f j) k
     → threaded ≡ switches (shader_used (input_for f j) (record_source (input_for f j) k) s)
-    → (begins : LaunchBegins (file_rights f) (plain_of f) m j (program_in m word threaded s)) × IsShaderOf f j begins.home.code
+    → (begins : LaunchBegins (file_rights f) (plain_of f) m j (program_in m word threaded s)) × (is : IsShaderOf f j begins.home.code) × (is.handle ≡ u32_at (job_of f j).records (record_source (input_for f j) k + 4 * s))
 unfolding home_of
 launch_begins f j m k s word threaded grounds some below small there agrees =
     let program = program_at f j m k s grounds some below small in (
@@ -194,6 +197,7 @@ launch_begins f j m k s word threaded grounds some below small there agrees =
         threaded = agrees ∙ ap switches program.used ∙ threaded_is f program.number;
       },
       record { handle = program.handle; number = program.number; named = program.started.named; is = refl },
+      program.handle_is,
     )
 
 -- The flags agree with the fragment shader.
@@ -226,4 +230,12 @@ records_launch_law f j m k word grounds some below there =
     (ap not flags ∙ ap not (agree (is_single (record_word input at state)) (switches (shader_used input at 0)) (flags_fine input at state most fine.of_record)) ∙ not-not (switches (shader_used input at 0))) in
     let second = launch_begins f j m k 1 word false grounds some below (omega arith) there (sym vertex.single) in
     let third = launch_begins f j m k 2 word false grounds some below (omega arith) there (sym coordinate.single) in
-    record { fragment = first.0; vertex = second.0; coordinate = third.0; of_fragment = first.1; of_vertex = second.1; of_coordinate = third.1 }
+    record {
+      fragment = first.0;
+      vertex = second.0;
+      coordinate = third.0;
+      of_fragment = first.1;
+      of_vertex = second.1;
+      of_coordinate = third.1;
+      handles = record { number = k; inside = below; fragment_is = first.2; vertex_is = second.2; coordinate_is = third.2 };
+    }

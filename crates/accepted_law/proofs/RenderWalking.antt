@@ -16,11 +16,11 @@ use Rattle.render_walks.proofs.{Numbers.render_fits, Walking.render_walks}
 use Rattle.job_check.specs.Shaders.{table_of}
 use Rattle.job_check.specs.Jobs.{job_of, has_bin, grid_from, grid_of, slot_of, places_in, render_list_of}
 use Rattle.machine_plan.specs.Regions.{Rights}
-use Rattle.qpu_law.specs.Asks.{IsOneOf}
+use Rattle.promises.specs.{Rights.IsOneOf, Holdings.plain_of, Holdings.rights_at}
 use Rattle.qpu_law.proofs.Reading.{one_inside}
 use Rattle.list_law.specs.{May.MayWrite, Start.frame_of, Rendering.MayDo, Rendering.NoMatter, Rendering.AllSet}
 use Rattle.list_law.proofs.Start.{walks_to_weaker, head_sets}
-use Rattle.accepted_law.specs.Holdings.{plain_of, rights_at, across_of, down_of, config_for, frame_for}
+use Rattle.accepted_law.specs.Holdings.{across_of, down_of, config_for, frame_for}
 use Rattle.accepted_law.specs.{Settled.Settled, Settled.Grounds, Parts.RendersWalk}
 use Rattle.accepted_law.proofs.{Tables.buffer_low, Tables.slot_inside, ByteTexts.bytes_passed, ByteTexts.byte_of_latest}
 use Rattle.accepted_law.proofs.Frames.{HasRoom, IsSurfaceAt, AreSurfacesAt, surface_is}

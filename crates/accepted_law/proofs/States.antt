@@ -18,11 +18,10 @@ use Rattle.machine_plan.specs.Regions.{Interval, Inside}
 use Rattle.list_machine.specs.Fetch.{record_place}
 use Rattle.list_law.specs.Emitted.{words_in, RecordStands}
 use Rattle.list_law.proofs.Emitted.{same_count, same_extended}
-use Rattle.qpu_law.specs.Asks.{IsOneOf}
+use Rattle.promises.specs.{Rights.IsOneOf, Rights.IsFixed, Holdings.lists_of, Holdings.rights_at, Holdings.file_rights}
 use Rattle.qpu_law.proofs.Reading.{one_inside}
-use Rattle.machine_law.specs.Begins.{IsFixed}
 use Rattle.machine_law.proofs.Begins.{fixed_inside}
-use Rattle.accepted_law.specs.{Holdings.lists_of, Holdings.rights_at, Holdings.file_rights, Settled.Grounds}
+use Rattle.accepted_law.specs.Settled.{Grounds}
 use Rattle.accepted_law.proofs.Uses.{inputs_are, inputs_low, streams_low, emitted_stand}
 
 -- The word points to the record of the state of this number.

@@ -9,9 +9,9 @@ use Rattle.buffer_table.proofs.Named.{data_is}
 use Rattle.job_format.specs.Model.{FileModel}
 use Rattle.job_check.specs.{Shaders.table_of, Faults.place_stages, Jobs.job_of, Jobs.slot_of}
 use Rattle.machine_plan.specs.Regions.{LiesIn, Inside}
-use Rattle.qpu_law.specs.Asks.{IsOneOf}
-use Rattle.accepted_law.specs.Holdings.{plain_of, lists_of, codes_of, slot_in, job_rights}
-use Rattle.accepted_law.specs.{Settled.Settled, Neighbours.IsFaultless, Neighbours.jobs_of, Neighbours.ClientsUnshared}
+use Rattle.promises.specs.Holdings.{plain_of, lists_of, codes_of, slot_in, job_rights}
+use Rattle.promises.specs.{Rights.IsOneOf, Prepared.IsFaultless, Apart.jobs_of}
+use Rattle.accepted_law.specs.{Settled.Settled, Neighbours.ClientsUnshared}
 use Rattle.accepted_law.proofs.{ByJob.rights_are, ByJob.rights_past, Joining.lists_and_code_fixed_law}
 use Rattle.accepted_law.proofs.{Fixed.LiesInOne, Fixed.in_one, Fixed.fixed_byte, Intervals.named_by, Tables.tiles_apart}
 use Rattle.accepted_law.proofs.{Grounds.slot_apart, Grounds.two_apart, Grounds.less_by, Settling.files_settle_law, Settling.handles_clear}

@@ -1,26 +1,16 @@
 -- From above: a job may reach nothing but what it holds, and no job may write the lists and the code of any.
-use Rattle.std.specs.Prelude.{◌≡◌, ◌⊎◌, ℕ, None, Some}
+use Rattle.std.specs.Prelude.{◌≡◌, ◌⊎◌, ℕ, None}
 use Rattle.field_words.specs.{Sizes.slot_size, Questions.first_of}
-use Rattle.buffer_table.specs.{Table.buffer_at, Handles.code_of}
 use Rattle.shader_records.specs.Named.{IsDataIn}
 use Rattle.job_format.specs.{File.IsWellFormed, File.Fits, Model.FileModel}
 use Rattle.job_check.specs.{Shaders.table_of, Jobs.job_of, Jobs.slot_of, Faults.place_stages}
-use Rattle.qpu_law.specs.Asks.{IsOneOf}
-use Rattle.machine_law.specs.Begins.{IsFixed}
-use Rattle.accepted_law.specs.Holdings.{OfEachJob, lists_of, file_rights, rights_at}
+use Rattle.promises.specs.Holdings.{IsNamedCode, OfEachJob, lists_of, file_rights, rights_at}
+use Rattle.promises.specs.Rights.{IsOneOf, IsFixed}
 
 -- the tile slot of job j
 pub record IsSlot (f : FileModel) (j place size : ℕ) : Type 0 where
   pub place_is : place ≡ slot_of f j
   pub size_is : size ≡ slot_size
-
--- a Code buffer that a handle of job j names
-pub record IsNamedCode (f : FileModel) (j place size : ℕ) : Type 0 where
-  pub handle : ℕ
-  pub number : ℕ
-  pub named : code_of (table_of f) (job_of f j).handles handle ≡ Some number
-  pub place_is : place ≡ (buffer_at f.buffers number).place
-  pub size_is : size ≡ (buffer_at f.buffers number).size
 
 -- What a job may write is its slot, or a Plain buffer that a handle of it names. What it may reach is that, one of its four emitted
 -- lists, or such a Code buffer.

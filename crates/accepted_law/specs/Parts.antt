@@ -14,8 +14,9 @@ use Rattle.job_check.specs.{Shaders.table_of, Emit.memory_of, Faults.place_stage
 use Rattle.list_machine.specs.Fetch.{record_place}
 use Rattle.list_law.specs.{Binning.Allocates, Emitted.words_in, Emitted.program_in, Rendering.MayDo, Rendering.NoMatter, Rendering.AllSet}
 use Rattle.machine_law.specs.{Begins.LaunchBegins, Begins.JobBegins, Jobs.ArePlain}
-use Rattle.accepted_law.specs.Holdings.{OfEachJob, plain_of, file_rights, rights_at, config_for, frame_for, start_of}
-use Rattle.accepted_law.specs.{Ends.IsShaderOf, Ends.DrawShaders, Settled.AreSettled, Settled.Grounds}
+use Rattle.accepted_law.specs.Holdings.{config_for, frame_for}
+use Rattle.promises.specs.Holdings.{OfEachJob, plain_of, file_rights, rights_at, start_of}
+use Rattle.accepted_law.specs.{Ends.IsShaderOf, Ends.AreHandlesOf, Ends.DrawShaders, Settled.AreSettled, Settled.Grounds}
 
 -- From the file: where no rule stands, all this is known of it, and of the memory that it is emitted as.
 abbrev pub FilesSettle : Type 0
@@ -29,7 +30,7 @@ abbrev pub FilesAllocate : Type 0
 FilesAllocate = (f : FileModel) (j : ℕ) → Grounds f j (memory_of f) → Allocates (rights_at f j) (config_for f j)
 
 -- A word whose record is that of state k: its three programs may be started from the first memory on, and each is of a shader that a
--- handle names.
+-- handle of the record names.
 pub record RecordLaunches (f : FileModel) (j : ℕ) (m : List ℕ) (word : ℕ) : Type 0 where
   pub fragment : LaunchBegins (file_rights f) (plain_of f) m j (program_in m word (not (is_single (words_in m word))) 0)
   pub vertex : LaunchBegins (file_rights f) (plain_of f) m j (program_in m word false 1)
@@ -37,6 +38,7 @@ pub record RecordLaunches (f : FileModel) (j : ℕ) (m : List ℕ) (word : ℕ) 
   pub of_fragment : IsShaderOf f j fragment.home.code
   pub of_vertex : IsShaderOf f j vertex.home.code
   pub of_coordinate : IsShaderOf f j coordinate.home.code
+  pub handles : AreHandlesOf f j of_fragment.handle of_vertex.handle of_coordinate.handle
 
 abbrev pub RecordsLaunch : Type 0
 RecordsLaunch =

@@ -1,34 +1,10 @@
--- A memory that is prepared for the jobs of a file: it has their lists and their code, and may hold anything else.
-use Rattle.std.specs.Prelude.{◌≡◌, ℕ, ◌-◌, List, ◌++◌, length, Some}
-use Rattle.field_words.specs.Writes.{zeros}
-use Rattle.phys_mem.specs.Window.{window_of}
-use Rattle.buffer_table.specs.{declared.buffer.Buffer.Buffer, Table.buffer_at, Handles.code_of}
+-- What a memory has that is prepared for the jobs of a file.
+use Rattle.std.specs.Prelude.{ℕ, List}
 use Rattle.job_format.specs.Model.{FileModel}
-use Rattle.job_check.specs.{Shaders.table_of, Shaders.content_of, Jobs.job_of, Emit.memory_of, Region.region_of}
+use Rattle.job_check.specs.Emit.{memory_of}
 use Rattle.machine_plan.specs.Regions.{Agree}
-use Rattle.accepted_law.specs.{Holdings.OfEachJob, Holdings.fixed_of, Neighbours.IsFaultless}
+use Rattle.promises.specs.{Prepared.IsPrepared, Prepared.IsFaultless, Holdings.fixed_of}
 
--- a buffer's contents, and zeros behind them up to its end
-abbrev pub filled : List ℕ → ℕ → List ℕ
-filled content size = content ++ zeros (size - length content)
-
--- the buffer holds its contents, and zeros behind them
-abbrev pub HasContent : List ℕ → Buffer → List ℕ → Type 0
-HasContent m buffer content = window_of m buffer.place buffer.size ≡ filled content buffer.size
-
--- so does each Code buffer that a handle of job j names
-abbrev pub HasCode : FileModel → List ℕ → ℕ → Type 0
-HasCode f m j =
-    (handle number : ℕ) → code_of (table_of f) (job_of f j).handles handle ≡ Some number
-    → HasContent m (buffer_at f.buffers number) (content_of f number)
-
--- The memory is as long as the file says. From the lists' place on it has the relocated lists of all jobs, and each Code buffer that a
--- handle names holds its shader, with zeros behind. All its other bytes may be anything.
-pub record IsPrepared (f : FileModel) (m : List ℕ) : Type 0 where
-  pub long : length m ≡ f.mem_size
-  pub lists : window_of m f.regions.lists_place (length (region_of f)) ≡ region_of f
-  pub code : OfEachJob f (HasCode f m)
-
--- Where no rule of the file stands, such a memory has lists and code as the emitted one.
+-- Where no rule of the file stands, it has lists and code as the emitted one.
 abbrev pub PreparedMemoriesAgree : Type 0
 PreparedMemoriesAgree = (f : FileModel) → IsFaultless f → (m : List ℕ) → IsPrepared f m → Agree (fixed_of f) (memory_of f) m

@@ -11,9 +11,8 @@ use Rattle.relocation.specs.Layout.{region_end}
 use Rattle.job_check.specs.Jobs.{job_of, has_bin, grid_of, input_for, layout_of, slot_of, bin_list_of, records_of, streams_of, render_list_of}
 use Rattle.job_check.specs.Shaders.{table_of, content_of, code_questions, shaders_of}
 use Rattle.machine_plan.specs.Memory.{bytes_at}
-use Rattle.qpu_law.specs.Asks.{IsOneOf}
-use Rattle.machine_law.specs.Begins.{IsFixed}
-use Rattle.accepted_law.specs.Holdings.{OfEachJob, plain_of, lists_of, file_rights, rights_at}
+use Rattle.promises.specs.Holdings.{OfEachJob, plain_of, lists_of, file_rights, rights_at}
+use Rattle.promises.specs.Rights.{IsOneOf, IsFixed}
 
 -- Of such a file and its job j: the memory table is sound, each Code buffer holds a shader in which no rule stands, the handles of the job
 -- are numbers of buffers, no rule stands in its lists, its frame and its surfaces, and its lists end in the lists' region.

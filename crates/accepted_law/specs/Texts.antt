@@ -3,7 +3,8 @@ use Rattle.std.specs.Prelude.{◌≡◌, ℕ, List, length}
 use Rattle.job_format.specs.Model.{FileModel}
 use Rattle.job_check.specs.Jobs.{bin_list_of, render_list_of}
 use Rattle.machine_law.specs.Begins.{TextBegins}
-use Rattle.accepted_law.specs.{Holdings.file_rights, Holdings.start_of, Settled.Grounds}
+use Rattle.accepted_law.specs.Settled.{Grounds}
+use Rattle.promises.specs.Holdings.{file_rights, start_of}
 
 abbrev pub BinTextsBegin : Type 0
 BinTextsBegin =

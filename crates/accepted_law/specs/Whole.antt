@@ -5,8 +5,8 @@ use Rattle.machine_plan.specs.Regions.{Agree}
 use Rattle.machine.specs.State.{units_start}
 use Rattle.job_format.specs.{File.IsWellFormed, File.Fits, Model.FileModel}
 use Rattle.job_check.specs.{Emit.memory_of, Faults.place_stages}
-use Rattle.machine_law.specs.Sound.{Sound}
-use Rattle.accepted_law.specs.Holdings.{plain_of, fixed_of, file_rights, file_starts}
+use Rattle.promises.specs.Holdings.{plain_of, fixed_of, file_rights, file_starts}
+use Rattle.promises.specs.Sound.{Sound}
 
 -- The jobs of an accepted file are sound from each memory of the emitted one's length that has the emitted lists of all jobs, and the Code
 -- buffers that their handles name, as the emitted one: whatever all its other bytes are, inside what jobs may reach and outside.

@@ -14,8 +14,8 @@ use Rattle.qpu_machine.specs.{declared.state.Asked.Asked, declared.state.Qpu.Qpu
 use Rattle.qpu_machine.specs.{declared.state.Thread.Thread, Step.thread_plan}
 use Rattle.machine.specs.Step.{Event, with_lists, with_qpu, binner_may, renderer_may, qpu_may, tmu_may, binner_turn, renderer_turn, qpu_turn, tmu_turn, unit_ready, unit_turn, number_or_zero, qpu_job, tmu_job, unit_job, job_of, may, step, ready, turn}
 use Rattle.machine.specs.State.{Units, State, Picked, first_where, item_at, binner_job, renderer_job}
-use Rattle.apart_law.specs.Trail.{is_second, active_in, slot_for, launch_in, binner_starts, renderer_starts, starts_in, entry_of}
-use Rattle.apart_law.specs.Part.{Client, seen, requests_of, part_of, UnitsAlike, StatesAlike}
+use Rattle.promises.specs.Trail.{is_second, active_in, slot_for, launch_in, binner_starts, renderer_starts, starts_in, entry_of, Client}
+use Rattle.apart_law.specs.Part.{seen, requests_of, part_of, UnitsAlike, StatesAlike}
 use Rattle.apart_law.specs.Steps.{StaysIn, GaveAlike, OwnStepsAreAlike}
 use Rattle.apart_law.proofs.Parts.{some_same, sees, chosen_of, own_request, part_settled, settled_part, part_dropped, dropped_part, part_served, served_part}
 use Rattle.apart_law.proofs.{Places.put_alike, Places.map_alike, Places.map_at, Places.one_first, Slots.launches_alike}

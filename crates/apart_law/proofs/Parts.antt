@@ -6,7 +6,9 @@ use Rattle.std.specs.Prelude.{IfSome, drop, ◌==◌, option_map, unwrap_or, is_
 use Rattle.qpu_machine.specs.Qpu.{active_of, woken_slot, queue_with, settled, oldest, queue_of, with_result, dropped, given, served, in_first, in_other}
 use Rattle.qpu_machine.specs.{declared.state.Asked.Asked, declared.state.Qpu.Qpu, declared.state.Request.Request}
 use Rattle.qpu_machine.specs.declared.state.Thread.{Thread}
-use Rattle.apart_law.specs.{Part.Client, Part.Part, Part.seen, Part.requests_of, Part.part_of, Tied.RestsFresh, Tied.IsTied}
+use Rattle.apart_law.specs.Part.{Part, seen, requests_of, part_of}
+use Rattle.apart_law.specs.Tied.{RestsFresh, IsTied}
+use Rattle.promises.specs.Trail.{Client}
 
 pub some_same : {X : Type 0} (x y : X) → Some x ≡ Some y → x ≡ y
 some_same x y e = ap (λ o. unwrap_or o x) e

@@ -9,7 +9,8 @@ use Rattle.machine_plan.specs.Regions.{Interval, Inside, IsIn, Agree}
 use Rattle.machine_plan.proofs.Plans.{SameBut, footprint, keeps_looks, keeps_accesses}
 use Rattle.machine_plan.proofs.Worlds.{handed, carried_mapped}
 use Rattle.machine.specs.State.{Units, State}
-use Rattle.apart_law.specs.{Part.Client, Part.accesses_of, Part.UnitsAlike, Steps.GaveAlike}
+use Rattle.apart_law.specs.{Part.UnitsAlike, Steps.GaveAlike}
+use Rattle.promises.specs.Trail.{Client, accesses_of}
 
 -- the plan comes to P, if it comes to anything
 abbrev pub ComesTo : {R : Type 0} → Who → (R → Type 0) → Plan R → List ℕ → Type 0

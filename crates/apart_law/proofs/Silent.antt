@@ -6,7 +6,8 @@ use Rattle.qpu_machine.specs.Qpu.{active_of, left_by, went, stopped, oldest, que
 use Rattle.qpu_machine.specs.{declared.state.Fate.Fate, declared.state.Qpu.Qpu, declared.state.Request.Request, Step.ThreadTurn}
 use Rattle.qpu_machine.specs.declared.state.Thread.{Thread}
 use Rattle.machine.specs.{State.Units, State.item_at, Step.with_qpu, Step.unit_turn, Step.job_of, Step.turn}
-use Rattle.apart_law.specs.{Part.Client, Part.seen, Part.part_of, Part.UnitsAlike, Steps.OthersStepsAreSilent, Steps.StepsKeepTied}
+use Rattle.apart_law.specs.{Part.seen, Part.part_of, Part.UnitsAlike, Steps.OthersStepsAreSilent, Steps.StepsKeepTied}
+use Rattle.promises.specs.Trail.{Client}
 use Rattle.apart_law.specs.Tied.{IsTied, QpuTied, AreTied, RestsFresh}
 use Rattle.apart_law.proofs.Parts.{some_same, some_none, sees_none, other_settled, other_dropped, other_served}
 use Rattle.apart_law.proofs.{Places.chosen, Places.put_elsewhere, Places.map_same, Places.every_at, Places.put_every, Plans.none_told}

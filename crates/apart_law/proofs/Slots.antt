@@ -7,7 +7,8 @@ use Rattle.qpu_machine.specs.Qpu.{takes_first, takes_other, in_first, in_other, 
 use Rattle.qpu_machine.specs.{declared.state.Qpu.Qpu, declared.state.Thread.Thread, Start.thread_of}
 use Rattle.qpu_machine.proofs.Starts.{finds, found_in}
 use Rattle.machine.specs.Step.{with_launch}
-use Rattle.apart_law.specs.{Part.Client, Part.Part, Part.seen, Part.part_of, Trail.slot_for}
+use Rattle.apart_law.specs.Part.{Part, seen, part_of}
+use Rattle.promises.specs.Trail.{Client, slot_for}
 use Rattle.apart_law.proofs.Parts.{part_in, in_first_part, in_other_part, sees_none}
 
 -- the parts, where this is put in a slot

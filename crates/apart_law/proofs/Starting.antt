@@ -13,7 +13,7 @@ use Rattle.list_machine.specs.{declared.state.Work.Work, Binner.binner_plan, Bin
 use Rattle.list_machine.specs.{Lists.Lists, Lists.Turned, Lists.turned_to}
 use Rattle.list_machine.specs.Start.{can_start, launch_plan, start_as, start_plan}
 use Rattle.qpu_machine.specs.{declared.state.Qpu.Qpu, Qpu.slot_from, Qpu.free_in}
-use Rattle.apart_law.specs.Trail.{slot_for, launch_in}
+use Rattle.promises.specs.Trail.{slot_for, launch_in}
 
 -- a program can start where a slot is found for it
 can_is : (threaded : Bool) (qpus : List Qpu) → is_some (slot_from threaded 0 qpus) ≡ can_start threaded (free_in qpus)

@@ -4,7 +4,8 @@ use Rattle.std.proofs.{lemmas.Bool.false≢true, lemmas.List.Elements.filter-app
 use Rattle.std.specs.{Prelude.drop, Prelude.slice_index_or, List.list_any}
 use Rattle.field_words.specs.declared.access.Access.{Access}
 use Rattle.machine_plan.specs.Runs.{Moved, found_by, reached}
-use Rattle.apart_law.specs.{Part.Client, Part.accesses_of, Steps.StepsAlike, Trail.with_entry, Trail.entries_of}
+use Rattle.apart_law.specs.Steps.{StepsAlike}
+use Rattle.promises.specs.Trail.{Client, accesses_of, with_entry, entries_of}
 
 -- each event in turn may be
 abbrev pub AllMay : {S E : Type 0} → (S → E → Moved S) → (S → E → Type 0) → S → List E → Type 0

@@ -1,4 +1,3 @@
 pub mod Part
-pub mod Trail
 pub mod Tied
 pub mod Steps

@@ -1,17 +1,9 @@
 -- A client's part of what the machine keeps, and what it is for two states to be alike to a client.
-use Rattle.std.specs.Prelude.{◌≡◌, ℕ, Bool, true, if◌then◌else◌, List, map, Option, Some, None, filter}
-use Rattle.field_words.specs.declared.access.Access.{Access}
+use Rattle.std.specs.Prelude.{◌≡◌, ℕ, true, if◌then◌else◌, List, map, Option, Some, None, filter}
 use Rattle.machine_plan.specs.Regions.{Interval, Agree}
 use Rattle.qpu_machine.specs.{declared.state.Qpu.Qpu, declared.state.Request.Request, declared.state.Thread.Thread}
 use Rattle.machine.specs.State.{Units, State, item_at}
-
--- which job numbers are a client's
-abbrev pub Client : Type 0
-Client = ℕ → Bool
-
--- the accesses that carry a job of the client, in order
-abbrev pub accesses_of : Client → List Access → List Access
-accesses_of mine found = filter (λ a. mine a.job) found
+use Rattle.promises.specs.Trail.{Client}
 
 -- A client's part of a processor: each thread that carries one of its jobs, with all that is kept of it, and the requests of its jobs, in
 -- order. Which thread is active is no part of it.

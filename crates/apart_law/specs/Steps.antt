@@ -3,7 +3,8 @@
 use Rattle.std.specs.Prelude.{◌≡◌, ℕ, IsTrue, true, false, List, [], Option, Some, None}
 use Rattle.machine_plan.specs.{Plan.Keeps, Regions.Interval, Regions.Inside, Regions.IsIn, Regions.Every, Runs.Moved, World.Turn}
 use Rattle.machine.specs.{State.Units, State.State, Step.Event, Step.job_of, Step.may, Step.step, Step.turn}
-use Rattle.apart_law.specs.{Part.Client, Part.accesses_of, Part.UnitsAlike, Part.StatesAlike, Trail.entry_of, Tied.AreTied, Tied.RestsFresh}
+use Rattle.apart_law.specs.{Part.UnitsAlike, Part.StatesAlike, Tied.AreTied, Tied.RestsFresh}
+use Rattle.promises.specs.Trail.{Client, accesses_of, entry_of}
 
 -- A step for another client's job has no access of the client's, and leaves its part of what the units keep.
 abbrev pub OthersStepsAreSilent : Type 0

@@ -13,7 +13,8 @@ use Rattle.list_machine.specs.{declared.state.Frame.Frame, Blocks.tiles_of, Stor
 use Rattle.list_machine.specs.Cover.{raster_cover, tiled_cover, part_place, parts_written, parts_read}
 use Rattle.list_machine.specs.Renderer.{tile_plan, packet_plan, renderer_plan, may_pass, renderer_ready}
 use Rattle.machine.specs.Step.{step, enabled, ready, turn, job_of}
-use Rattle.machine_law.specs.{Apart.EndAlike, Apart.BeginsSoundly, Apart.regions_of, Begins.IsFixed, Begins.JobBegins}
+use Rattle.machine_law.specs.{Apart.BeginsSoundly, Begins.JobBegins}
+use Rattle.promises.specs.{Apart.EndAlike, Apart.regions_of, Rights.IsFixed}
 use Rattle.apart_needs.specs.Sharing.{client, shared_memory, shared_rights, shared, sharing, stores, stored_accesses, SharingIsSeen}
 
 -- no tiles, and the frame of four pixels

@@ -3,7 +3,8 @@
 use Rattle.std.specs.Prelude.{◌≡◌, ℕ, IsTrue, true, false, List, [], ◌∷◌, ◌++◌, None, Some}
 use Rattle.machine_plan.specs.Regions.{Interval}
 use Rattle.machine.specs.{State.State, Step.Event, Step.job_of, Step.may, Step.step, Step.turn}
-use Rattle.apart_law.specs.{Part.Client, Part.StatesAlike, Steps.StaysIn, Steps.GaveAlike, Trail.Entry, Trail.entry_of}
+use Rattle.apart_law.specs.{Part.StatesAlike, Steps.StaysIn, Steps.GaveAlike}
+use Rattle.promises.specs.Trail.{Client, Entry, entry_of}
 use Rattle.field_words.specs.declared.access.Actor.TheVariants.{Binner as TheBinner, Qpu as TheQpu}
 use Rattle.qpu_machine.specs.{declared.state.Qpu.Qpu, declared.state.Thread.Thread}
 use Rattle.apart_needs.specs.States.{one_job, state, running, new_thread, empty_qpu, no_lists, bytes, signal, drawing, from_5, tiling, coordinate_record}

@@ -4,8 +4,8 @@ use Rattle.std.specs.Prelude.{◌≡◌, ℕ, ◌==◌, List, [], ◌∷◌}
 use Rattle.field_words.specs.declared.access.Access.{Access}
 use Rattle.machine_plan.specs.{Regions.Interval, Regions.Rights, Runs.reached}
 use Rattle.machine.specs.{declared.job.Start.Start, State.State, State.start_of, Step.Event, Step.IsRun, Step.step}
-use Rattle.apart_law.specs.{Part.Client, Trail.trail_of}
-use Rattle.machine_law.specs.Apart.{Beginning, BeginsSoundly, EndAlike, regions_of}
+use Rattle.promises.specs.{Trail.Client, Trail.trail_of, Apart.Beginning, Apart.EndAlike, Apart.regions_of}
+use Rattle.machine_law.specs.Apart.{BeginsSoundly}
 use Rattle.field_words.specs.declared.access.Actor.TheVariants.{Renderer as TheRenderer}
 use Rattle.apart_needs.specs.States.{reads, writes}
 

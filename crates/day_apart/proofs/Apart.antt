@@ -9,16 +9,16 @@ use Rattle.list_machine.specs.Lists.{Lists, binner_ended, renderer_ended}
 use Rattle.qpu_machine.specs.{declared.state.Qpu.Qpu, declared.state.Request.Request, declared.state.Thread.Thread, Qpu.slot_of}
 use Rattle.machine.specs.State.{State, Units, item_at, job_start}
 use Rattle.machine.specs.Step.{may}
-use Rattle.apart_law.specs.Part.{Client, Part, accesses_of, part_of, seen, StatesAlike, UnitsAlike}
+use Rattle.apart_law.specs.Part.{Part, part_of, seen, StatesAlike, UnitsAlike}
+use Rattle.promises.specs.Days.{Admitted, Day, Files, Happening, Steps, Changes, Finds, Admits, Retires, Resets, Job, after, dawn, found_at, found_in}
+use Rattle.promises.specs.Days.{happen, no_rights, rights_in, with_files}
+use Rattle.promises.specs.{Trail.Client, Trail.accesses_of, Trail.entry_of, Apart.IsUnshared}
 use Rattle.apart_law.specs.{Steps.StepsAlike, Tied.AreTied, Tied.IsTied, Tied.QpuTied}
-use Rattle.apart_law.specs.Trail.{entry_of}
 use Rattle.apart_law.proofs.{Own.own_alike_law, Tied.idle_tied, Silent.keep_tied_law}
 use Rattle.apart_law.proofs.Parts.{sees_none, chosen_of}
 use Rattle.apart_law.proofs.Places.{map_alike, map_at, map_same, put_alike, put_elsewhere, put_every, every_at}
 use Rattle.apart_law.proofs.Trails.{AllMay, trails_alike}
-use Rattle.machine_law.specs.Apart.{IsUnshared}
 use Rattle.machine_law.proofs.Apart.{agree_same, entry_none, entry_some, has_regions, own_stays, states_back, states_then, step_silent, units_same}
-use Rattle.day_law.specs.Day.{Admitted, Day, Files, Happening, Steps, Changes, Finds, Admits, Retires, Resets, Job, after, dawn, found_at, found_in, happen, no_rights, rights_in, with_files}
 use Rattle.day_law.specs.Alike.{made, all_made}
 use Rattle.day_law.proofs.{Days.dawn_known, Keeping.happens, Known.IsKnown, Known.keeps, Own.facts, Alike.more_rights_are, Alike.rights_without}
 use Rattle.day_apart.specs.Apart.{Note, held_in, noted, is_own_thread, is_own_in, is_own, own_note, moved, own_regions, MayApart, AllMayApart, DaysApart}

@@ -4,10 +4,8 @@ use Rattle.std.specs.Prelude.{unwrap_or}
 use Rattle.std.proofs.lemmas.Option.{unwrap_or-slice_get}
 use Rattle.machine_plan.specs.Regions.{Inside, Rights, rights_of}
 use Rattle.machine.specs.State.{item_at}
-use Rattle.apart_law.specs.Part.{Client}
-use Rattle.machine_law.specs.Apart.{regions_of}
+use Rattle.promises.specs.{Trail.Client, Apart.regions_of, Days.Admitted, Days.no_rights, Days.rights_in}
 use Rattle.machine_law.proofs.Apart.{covered, in_own, own_at}
-use Rattle.day_law.specs.Day.{Admitted, no_rights, rights_in}
 use Rattle.day_law.proofs.Lists.{more_rights, without, without_rights}
 
 same_rights : (rs qs : List Rights) (j : ℕ) → item_at rs j ≡ item_at qs j → rights_of rs j ≡ rights_of qs j

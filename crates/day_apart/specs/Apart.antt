@@ -4,9 +4,10 @@ use Rattle.std.specs.Prelude.{◌≡◌, ℕ, Bool, true, false, if◌then◌els
 use Rattle.machine_plan.specs.{declared.launch.Slot.Slot, Memory.bytes_at, Regions.Interval, Regions.Inside, Runs.Moved}
 use Rattle.qpu_machine.specs.{declared.state.Qpu.Qpu, declared.state.Thread.Thread, Qpu.slot_of}
 use Rattle.machine.specs.{State.item_at, Step.job_of}
-use Rattle.apart_law.specs.{Part.Client, Trail.active_in, Trail.starts_in, Trail.entries_of}
-use Rattle.machine_law.specs.Apart.{EndAlike, IsUnshared, regions_of}
-use Rattle.day_law.specs.Day.{Day, Happening, Steps, Changes, Finds, Admits, Retires, Resets, MayHappen, after, dawn, happen, rights_in}
+use Rattle.promises.specs.Trail.{Client, active_in, starts_in, entries_of}
+use Rattle.promises.specs.Days.{Day, Happening, Steps, Changes, Finds, Admits, Retires, Resets, after, dawn, happen, rights_in}
+use Rattle.promises.specs.Apart.{EndAlike, IsUnshared, regions_of}
+use Rattle.day_law.specs.Day.{MayHappen}
 use Rattle.day_law.specs.Alike.{made, all_made}
 
 -- What happens as a client may know it: what it is; of a step which thread was active and where it started a program; of an admission the

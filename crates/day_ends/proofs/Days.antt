@@ -12,9 +12,12 @@ use Rattle.qpu_machine.specs.{declared.state.Qpu.Qpu, declared.state.Request.Req
 use Rattle.machine.specs.State.{Units, item_at, job_at, job_start}
 use Rattle.machine.specs.Step.{Event, may, step, ready, turn, unit_turn}
 use Rattle.machine_law.specs.Units.{QpuFine, UnitsFine}
-use Rattle.ends_law.specs.{Left.EachWithin, Left.SlotLeft, Left.request_count, Left.QpuLeft, Left.CountedEnds, Left.UnitsLeft, Left.StepLess, Steps.one_if}
+use Rattle.ends_law.specs.Left.{EachWithin, SlotLeft, request_count, QpuLeft, CountedEnds, UnitsLeft, StepLess}
+use Rattle.promises.specs.Days.{Admitted, Day, Files, Happening, Steps, Changes, Finds, Admits, Retires, Resets, HasNoneOf, HasNoWork, Job}
+use Rattle.promises.specs.Days.{admitted_at, after, dawn, found_at, found_in, happen, joined_by, rights_in, stopped, with_files}
+use Rattle.promises.specs.Steps.{one_if}
 use Rattle.ends_law.proofs.{Begins.job_ends, Begins.idle_left, Machine.unit_less, Plans.keeps_both, Processors.still_left, Runs.one_more, Shares.Hole, Shares.hole_at}
-use Rattle.day_law.specs.Day.{Admitted, Day, Files, Happening, Steps, Changes, Finds, Admits, Retires, Resets, HasNoneOf, HasNoWork, Job, MayHappen, AllMayHappen, admitted_at, after, dawn, found_at, found_in, happen, joined_by, rights_in, stopped, with_files}
+use Rattle.day_law.specs.Day.{MayHappen, AllMayHappen}
 use Rattle.day_law.proofs.{Days.all_happen, Days.dawn_known, Keeping.below_itself, Keeping.or_none, Keeping.happens, Known.IsKnown, Known.keeps}
 use Rattle.day_law.proofs.Lists.{still_at, last_at, without, without_long, without_others}
 use Rattle.day_law.proofs.Own.{Holds, IsQuiet, facts, every_nth}

@@ -1,8 +1,10 @@
 -- A job that comes among others is bounded: its own steps are no more than its lists and programs say, whatever else comes and goes.
 use Rattle.std.specs.Prelude.{◌≤◌, ℕ, ◌+◌, ◌*◌, ◌==◌, ◌&&◌, Bool, List, [], ◌∷◌, length}
 use Rattle.machine.specs.{State.State, Step.Event, Step.unit_job}
-use Rattle.ends_law.specs.{Ends.JobShort, Stays.unit_stays, Steps.one_if}
-use Rattle.day_law.specs.Day.{Day, Job, Happening, Steps, Admits, MayAdmit, AllMayHappen, after, dawn, happen}
+use Rattle.ends_law.specs.Ends.{JobShort}
+use Rattle.promises.specs.Days.{Day, Job, Happening, Steps, Admits, after, dawn, happen}
+use Rattle.promises.specs.Steps.{unit_stays, one_if}
+use Rattle.day_law.specs.Day.{MayAdmit, AllMayHappen}
 
 -- the unit steps for job j
 abbrev pub is_for : ℕ → State → Event → Bool

@@ -3,15 +3,14 @@ use Rattle.std.proofs.Common.{◌≡◌, ℕ, false, List, [], ◌∷◌, subst,
 use Rattle.machine_plan.specs.Regions.{rights_of, HasReadOnly}
 use Rattle.job_format.specs.Model.{FileModel}
 use Rattle.job_check.specs.Emit.{memory_of}
-use Rattle.accepted_law.specs.Holdings.{plain_of, job_rights, file_rights, start_of}
+use Rattle.promises.specs.Holdings.{plain_of, job_rights, file_rights, start_of}
+use Rattle.promises.specs.{Bounded.file_loops, Bounded.longest_of, Bounded.job_bound, Days.Day, Drivers.MaySubmit, Drivers.job_in}
 use Rattle.accepted_law.proofs.{ByJob.rights_are, Joining.all_ground, Joining.has_read_only, Prepared.prepared_memories_agree_law}
-use Rattle.accepted_ends.specs.Bound.{file_loops, longest_of, job_bound}
 use Rattle.accepted_ends.proofs.Files.{job_short}
 use Rattle.ends_law.specs.Ends.{JobShort}
-use Rattle.day_law.specs.Day.{Day}
 use Rattle.day_ends.specs.Ends.{IsShortNow}
 use Rattle.day_ends.proofs.{Alone.short_alone, Days.admitted_jobs_end_law}
-use Rattle.driver_law.specs.{Driver.MaySubmit, Driver.job_in, Ends.SubmissionsEnd}
+use Rattle.driver_law.specs.Ends.{SubmissionsEnd}
 use Rattle.driver_law.proofs.Driver.{all_may, may_be_admitted_law}
 
 submitted_short : (d : Day) (f : FileModel) (j : ℕ) → MaySubmit d f j → file_loops f ≡ false → IsShortNow d (longest_of f) (job_bound f j) (job_in f j)

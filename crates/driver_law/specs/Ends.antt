@@ -1,10 +1,9 @@
 -- What a driver's job is bounded by, whatever else comes and goes.
 use Rattle.std.specs.Prelude.{◌≡◌, ℕ, false, List}
 use Rattle.job_format.specs.Model.{FileModel}
-use Rattle.accepted_ends.specs.Bound.{file_loops, longest_of, job_bound}
-use Rattle.day_law.specs.Day.{Happening, after, dawn}
+use Rattle.promises.specs.{Bounded.file_loops, Bounded.longest_of, Bounded.job_bound, Days.Happening, Days.after, Days.dawn, Drivers.AllDriverMay}
+use Rattle.promises.specs.{Drivers.MaySubmit, Drivers.job_in}
 use Rattle.day_ends.specs.Ends.{IsBounded}
-use Rattle.driver_law.specs.Driver.{AllDriverMay, MaySubmit, job_in}
 
 -- Where no shader that a handle of the file's jobs names has a loop: once a driver has handed in job j of the file, at any time, at most
 -- `job_bound f j` steps are for it, and `longest_of f + 1` more for each in which its renderer stays at an item. Steps for other jobs don't

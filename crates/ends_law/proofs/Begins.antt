@@ -13,9 +13,9 @@ use Rattle.qpu_machine.specs.Qpu.{idle_qpu}
 use Rattle.machine.specs.{declared.job.Start.Start, State.job_start, State.units_start}
 use Rattle.machine_law.specs.Begins.{LaunchBegins, DrawBegins, JobBegins}
 use Rattle.machine_law.proofs.Begins.{homes_stay_law, fetches_stay, single_stays, word_stays, record_stays, text_stays}
-use Rattle.ends_law.specs.{Ends.DrawShort, Ends.JobShort, Loops.IsShort, Room.room_of}
+use Rattle.ends_law.specs.{Ends.DrawShort, Ends.JobShort, Loops.IsShort}
+use Rattle.promises.specs.Steps.{room_of, one_if, times, most_times, most_visits, all_entered, job_steps}
 use Rattle.ends_law.specs.Left.{EachWithin, LaunchSo, QpuLeft, AllWhole, BinRest, RenderRest, JobEnds, CountedEnds, UnitsLeft}
-use Rattle.ends_law.specs.Steps.{one_if, times, most_times, most_visits, all_entered, job_steps}
 use Rattle.ends_law.proofs.Rooms.{counted_none}
 
 -- a program that may be started in each run, where S is so of its shader

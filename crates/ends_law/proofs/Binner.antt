@@ -17,9 +17,10 @@ use Rattle.list_machine.specs.Start.{start_plan, can_start}
 use Rattle.list_law.specs.Binning.{IsOnly}
 use Rattle.list_law.proofs.Binning.{ready_item, tile_below}
 use Rattle.list_law.proofs.{Bytes.none_left, Logs.same, Safe.keeps_if}
-use Rattle.ends_law.specs.Steps.{one_if, programs_left, work_steps, work_left, draws, packet_steps, all_entered}
+use Rattle.ends_law.specs.Steps.{work_left}
+use Rattle.promises.specs.Steps.{one_if, programs_left, work_steps, draws, packet_steps, all_entered, items_within, room_in, room_of}
 use Rattle.ends_law.specs.Left.{ListsLeft, StandLeft, JobLeft}
-use Rattle.ends_law.specs.Room.{items_within, room_in, room_of, room_by, Counted}
+use Rattle.ends_law.specs.Room.{room_by, Counted}
 use Rattle.ends_law.proofs.{Plans.AnyLook, Plans.AnyAccess, Plans.Comes, Plans.comes_any, Plans.comes_into, Visits.visits_more}
 use Rattle.ends_law.proofs.Rests.{bin_behind, bin_done, packet_read, packet_comes}
 use Rattle.ends_law.proofs.Rooms.{counted_here, counted_further, only_is, few_within}

@@ -21,7 +21,8 @@ use Rattle.machine.specs.State.{Units, Picked, item_at, put_at, binner_job, rend
 use Rattle.machine_law.specs.Laws.{AreFine}
 use Rattle.machine_law.proofs.{Owes.units_owe_law, Owes.not_held, Sound.there_on}
 use Rattle.ends_law.specs.Left.{EachWithin, LaunchSo, SlotLeft, QpuLeft, JobEnds, CountedEnds, UnitsLeft, StepLess, StepsLess}
-use Rattle.ends_law.specs.{Loops.IsShort, Stays.stays, Stays.renderer_stays, Stays.unit_stays, Steps.one_if}
+use Rattle.ends_law.specs.Loops.{IsShort}
+use Rattle.promises.specs.Steps.{stays, renderer_stays, unit_stays, one_if}
 use Rattle.ends_law.proofs.Processors.{CountedGoes, QpuLess, thread_counted, active_left, went_left, served_left, started_left}
 use Rattle.ends_law.proofs.{Binner.ListsLess, Binner.launch_steps, Binner.launch_at_most, Binner.binner_goes, Renderer.renderer_goes}
 use Rattle.ends_law.proofs.Plans.{AnyLook, AnyAccess, Comes, comes_any, comes_into, keeps_both}

@@ -11,7 +11,8 @@ use Rattle.qpu_machine.specs.declared.state.Fate.TheVariants.{GoesOn, Switches, 
 use Rattle.qpu_machine.specs.declared.state.{Asked.Asked, Fate.Fate, Qpu.Qpu, Request.Request, Thread.Thread}
 use Rattle.qpu_machine.specs.Qpu.{active_of, left_by, gives_way, woken_slot, queue_with, settled, went, oldest, queue_of, with_result, dropped, given, served, takes_first, takes_other, in_first, in_other, started_in}
 use Rattle.qpu_machine.specs.Step.{ThreadTurn, thread_plan}
-use Rattle.ends_law.specs.{Loops.has_loop, Left.EachWithin, Left.ThreadAt, Left.ThreadLeft, Left.SlotLeft, Left.request_count, Left.QpuLeft, Steps.one_if}
+use Rattle.ends_law.specs.Left.{EachWithin, ThreadAt, ThreadLeft, SlotLeft, request_count, QpuLeft}
+use Rattle.promises.specs.Steps.{has_loop, one_if}
 use Rattle.ends_law.proofs.{Plans.AnyLook, Plans.AnyAccess, Plans.Comes, Plans.weaker, Plans.keeps_both, Shares.more_within, Threads.ThreadGoes, Threads.thread_comes, Threads.thread_goes}
 
 -- A thread that is woken, gets a result or finds other registers is where it was.

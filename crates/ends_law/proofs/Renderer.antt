@@ -17,8 +17,9 @@ use Rattle.list_machine.specs.{Lists.Lists, Lists.Turned, Lists.turned_to, Lists
 use Rattle.list_machine.specs.Start.{start_plan}
 use Rattle.list_machine.proofs.{Items.ready_below, Keeping.written_keep, Keeping.read_keep}
 use Rattle.list_law.proofs.{Bytes.none_left, Logs.same, Safe.keeps_if}
-use Rattle.ends_law.specs.Steps.{one_if, work_left, bin_steps, render_steps, times, entered, all_entered}
-use Rattle.ends_law.specs.{Left.is_inside, Left.visits, Left.ListsLeft, Left.StandLeft, Left.JobLeft, Stays.is_at_item, Stays.stays}
+use Rattle.ends_law.specs.Steps.{work_left}
+use Rattle.promises.specs.Steps.{one_if, bin_steps, render_steps, times, entered, all_entered, is_at_item, stays}
+use Rattle.ends_law.specs.Left.{is_inside, visits, ListsLeft, StandLeft, JobLeft}
 use Rattle.ends_law.proofs.Visits.{stands_at, visits_left, visits_on, visits_past, visits_entered, entered_often}
 use Rattle.ends_law.proofs.Binner.{ListsLess, quiet_less, launch_at_most}
 use Rattle.ends_law.proofs.{Plans.AnyLook, Plans.AnyAccess, Plans.Comes, Plans.comes_any, Plans.weaker, Rests.render_behind, Rests.render_skip, Rests.slot_read}

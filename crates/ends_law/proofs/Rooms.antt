@@ -7,7 +7,8 @@ use Rattle.list_machine.specs.Blocks.{tiles_of, further_offset, has_room, no_spo
 use Rattle.list_machine.specs.{declared.state.Item.Item, declared.state.Spot.Spot, Lists.most_items}
 use Rattle.list_law.specs.Binning.{IsOnly, NotYet, Only}
 use Rattle.list_law.proofs.Logs.{spot_last}
-use Rattle.ends_law.specs.Room.{items_within, on_tiles, further_of, Counted}
+use Rattle.ends_law.specs.Room.{on_tiles, further_of, Counted}
+use Rattle.promises.specs.Steps.{items_within}
 
 count_by : (tile : ℕ) (items : List Item) (item : Item) (b : Bool) → (item.tile == tile) ≡ b → (spot_of tile (items ++ item ∷ [])).count ≡ (if b then one_more (spot_of tile items) item.place else spot_of tile items).count
 count_by tile items item b is =

@@ -7,8 +7,8 @@ use Rattle.machine_plan.proofs.Others.{Holds, run_holds}
 use Rattle.machine.specs.{declared.job.Start.Start, State.State, State.units_start, Step.Event, Step.ready, Step.turn, Step.step}
 use Rattle.machine_law.specs.{Begins.JobBegins, Jobs.ArePlain, Laws.AreFine, Units.EachAt}
 use Rattle.machine_law.proofs.{Begins.each_begins, Owes.units_owe_law, Owes.start_fine}
-use Rattle.ends_law.specs.{Ends.JobShort, Ends.JobsEnd, Left.EachWithin, Left.UnitsLeft, Steps.one_if}
-use Rattle.ends_law.specs.Stays.{unit_stays, step_count, stay_count}
+use Rattle.ends_law.specs.{Ends.JobShort, Ends.JobsEnd, Left.EachWithin, Left.UnitsLeft}
+use Rattle.promises.specs.Steps.{one_if, unit_stays, step_count, stay_count}
 use Rattle.ends_law.proofs.{Begins.start_left, Machine.steps_less_law}
 
 pub one_more : (w n rest cost stay steps stays : ℕ) → rest + cost ≤ n + (1 + w) * stay → steps ≤ rest + (1 + w) * stays → cost + steps ≤ n + (1 + w) * (stay + stays)

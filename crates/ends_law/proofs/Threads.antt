@@ -15,8 +15,9 @@ use Rattle.qpu_machine.specs.Step.{ThreadTurn, executed, executed_with, word_pla
 use Rattle.qpu_machine.specs.Writes.{awake, past_uniform, ask_of, asked}
 use Rattle.qpu_law.specs.{Home.Home, Home.Jumps, Home.GoesTo, Home.done}
 use Rattle.qpu_law.proofs.{Going.in_checked, Going.stays_in_code_law, Starting.starts_stand_law}
-use Rattle.ends_law.specs.{Left.LaunchSo, Left.ThreadAt, Left.ThreadLeft, Steps.one_if}
-use Rattle.ends_law.specs.Loops.{goes_back, has_loop, instruction_steps, steps_before, program_steps, IsShort}
+use Rattle.ends_law.specs.Left.{LaunchSo, ThreadAt, ThreadLeft}
+use Rattle.promises.specs.Steps.{one_if, goes_back, has_loop, instruction_steps, steps_before, program_steps}
+use Rattle.ends_law.specs.Loops.{IsShort}
 use Rattle.ends_law.proofs.Plans.{AnyLook, AnyAccess, Comes}
 
 -- a branch that doesn't lead back

@@ -6,7 +6,8 @@ use Rattle.packets.specs.declared.config.Config.{Config}
 use Rattle.list_machine.specs.{declared.state.Found.Found, declared.state.Item.Item, declared.state.SubList.SubList}
 use Rattle.list_machine.specs.Renderer.{first_of_tile, item_at}
 use Rattle.list_law.proofs.Logs.{same}
-use Rattle.ends_law.specs.{Left.is_before, Left.is_inside, Left.visits, Steps.one_if, Steps.times}
+use Rattle.ends_law.specs.Left.{is_before, is_inside, visits}
+use Rattle.promises.specs.Steps.{one_if, times}
 
 -- the renderer stands in a tile's list, at this item or before it
 abbrev pub stands_at : ℕ → ℕ → Option SubList

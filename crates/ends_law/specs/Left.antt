@@ -12,8 +12,9 @@ use Rattle.qpu_law.specs.{Home.Home, Home.IsAt, Thread.IsHome}
 use Rattle.shader_flow.specs.Flow.{is_threaded}
 use Rattle.machine.specs.{State.Units, State.State, Step.Event, Step.may, Step.step, Step.unit_job}
 use Rattle.machine_law.specs.{Jobs.ArePlain, Laws.AreFine}
-use Rattle.ends_law.specs.{Loops.IsShort, Loops.has_loop, Loops.steps_before, Loops.program_steps, Room.room_of, Room.room_by, Room.Counted}
-use Rattle.ends_law.specs.{Stays.unit_stays, Steps.one_if, Steps.work_left, Steps.bin_steps, Steps.render_steps, Steps.times, Steps.all_entered}
+use Rattle.ends_law.specs.{Loops.IsShort, Room.room_by, Room.Counted}
+use Rattle.promises.specs.Steps.{has_loop, steps_before, program_steps, room_of, unit_stays, one_if, bin_steps, render_steps, times, all_entered}
+use Rattle.ends_law.specs.Steps.{work_left}
 
 -- each item of a list, numbered from k on, with its share of n
 abbrev pub EachWithin : {X : Type 0} → (ℕ → ℕ → X → Type 0) → ℕ → ℕ → List X → Type 0

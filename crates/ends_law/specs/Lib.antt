@@ -1,6 +1,5 @@
 pub mod Loops
 pub mod Room
 pub mod Steps
-pub mod Stays
 pub mod Left
 pub mod Ends

@@ -25,7 +25,8 @@ use Rattle.machine_plan.specs.{Memory.bytes_at, Regions.Inside, Regions.Rights, 
 use Rattle.list_machine.specs.{Blocks.tiles_of, Fetch.record_place}
 use Rattle.bin_walks.specs.Walks.{kept_after}
 use Rattle.qpu_law.specs.{Home.Home, Home.HasNoFault, Thread.IsHome, Thread.HasSamples}
-use Rattle.machine_law.specs.Begins.{IsFixed, LaunchBegins, DrawBegins}
+use Rattle.machine_law.specs.Begins.{LaunchBegins, DrawBegins}
+use Rattle.promises.specs.Rights.{IsFixed}
 use Rattle.day_law.specs.Day.{BeginsAlone}
 use Rattle.example_day.specs.Shown.{code_with, job, memory_with, moves_to_1, moves_to_2}
 

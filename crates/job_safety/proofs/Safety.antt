@@ -10,14 +10,15 @@ use Rattle.machine_plan.specs.{Others.Steps, Regions.Inside, Regions.IsOutside, 
 use Rattle.machine_plan.proofs.Others.{run_others}
 use Rattle.machine.specs.{State.units_start, State.start_of, Step.ready, Step.turn}
 use Rattle.machine_law.proofs.{Sound.sound_jobs_are_safe_law, Apart.inside_either}
-use Rattle.accepted_law.specs.Holdings.{OfEachJob, plain_of, codes_of, lists_of, fixed_below, fixed_of, file_rights, file_starts}
-use Rattle.accepted_law.specs.{Held.AreFixed, Neighbours.IsFaultless}
+use Rattle.promises.specs.Holdings.{OfEachJob, plain_of, codes_of, lists_of, fixed_below, fixed_of, file_rights, file_starts}
+use Rattle.promises.specs.{Prepared.IsFaultless, Bounded.FileEnds, Bounded.AcceptedEnd, Apart.IsApart, Apart.BytesApart, MayRun.MayRun}
+use Rattle.promises.specs.{MayRun.AcceptedMayRun}
+use Rattle.accepted_law.specs.Held.{AreFixed}
 use Rattle.accepted_law.proofs.{Fixed.fixed_byte, Neighbours.accepted_apart_law, Joining.files_sound_law, Joining.lists_and_code_fixed_law}
-use Rattle.accepted_ends.specs.Law.{FileEnds}
 use Rattle.accepted_ends.proofs.Files.{files_end_by_law}
 use Rattle.driver_law.specs.Driver.{FileMayJoin}
 use Rattle.driver_law.proofs.Driver.{may_be_admitted_law}
-use Rattle.job_safety.specs.{Clients.IsApart, Clients.BytesApart, Safe.AreSafe, Safe.AreSame}
+use Rattle.job_safety.specs.Safe.{AreSafe, AreSame}
 use Rattle.job_safety.specs.Files.{IsSafeFile, BytesSafe, PlacedJobsAreSafe}
 use Rattle.job_safety.specs.Follows.{HasListsAndCode, IsSafeAlone, SafeFilesFollow}
 use Rattle.job_check.proofs.Wider.{wider_none}
@@ -105,6 +106,21 @@ file_ends bytes is none = files_end_by_law (file_at bytes) is.well_formed is.fit
 pub accepted_may_join : (bytes : List ℕ) → IsFileOf bytes (file_at bytes) → first_of (all_questions bytes) ≡ None → FileMayJoin (file_at bytes)
 accepted_may_join bytes is none d j inside prepared apart =
     may_be_admitted_law d (file_at bytes) j (record { accepted = faultless bytes is none; inside = inside; prepared = prepared; apart = apart })
+
+-- So the jobs of all bytes of which no rule stands may run, and end.
+pub may_run : (bytes : List ℕ) → IsFileOf bytes (file_at bytes) → refusal_of bytes ≡ None → MayRun bytes
+unfolding refusal_of
+may_run bytes is none =
+    let file : IsSafeFile (file_at bytes) = file_is_safe bytes is none in
+    record { none = none; spells = is; sound = file.sound; lists_fixed = λ j inside. (file.fixed j inside).lists; code_fixed = λ j inside. (file.fixed j inside).code }
+
+pub accepted_may_run : AcceptedMayRun
+unfolding refusal_of
+accepted_may_run bytes fits none = may_run bytes (bytes_spell bytes fits none) none
+
+pub accepted_end : AcceptedEnd
+unfolding refusal_of
+accepted_end bytes fits none = file_ends bytes (bytes_spell bytes fits none) none
 
 pub bytes_apart_law : BytesApart
 unfolding refusal_of

@@ -7,7 +7,7 @@ use Rattle.relocation.specs.declared.layout.{Layout.Layout, Lengths.Lengths}
 use Rattle.job_check.specs.{declared.check.Checked.Checked, Jobs.layout_of, Jobs.layouts_of}
 use Rattle.job_check.specs.Emit.{memory_of, lengths_of, all_lengths_of, IsEmitted}
 use Rattle.machine.specs.State.{start_of}
-use Rattle.accepted_law.specs.Holdings.{start_by, file_starts}
+use Rattle.promises.specs.Holdings.{start_by, file_starts}
 use Rattle.job_safety.specs.declared.accepting.Accepted.{Accepted}
 use Rattle.job_safety.specs.Accepted.{machine_of, starts_by, IsSetUp, IsAccepted}
 

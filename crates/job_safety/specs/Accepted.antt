@@ -4,7 +4,7 @@ use Rattle.job_format.specs.Model.{FileModel}
 use Rattle.relocation.specs.{declared.layout.Layout.Layout, declared.layout.Lengths.Lengths}
 use Rattle.job_check.specs.{declared.check.Checked.Checked, Emit.memory_of, Emit.all_lengths_of, Jobs.layouts_of}
 use Rattle.machine.specs.{declared.job.Start.Start, State.State, State.start_of}
-use Rattle.accepted_law.specs.Holdings.{start_by, file_starts}
+use Rattle.promises.specs.Holdings.{start_by, file_starts}
 use Rattle.job_safety.specs.declared.accepting.Accepted.{Accepted}
 
 -- the state in which the machine of an accepted file starts: over its emitted memory, at the beginnings of the lists of its jobs

@@ -5,8 +5,8 @@ use Rattle.job_format.specs.{Model.FileModel, Reading.file_at, File.IsWellFormed
 use Rattle.job_check.specs.{Emit.memory_of, Whole.refusal_of, Faults.place_stages}
 use Rattle.machine_plan.specs.Regions.{Agree}
 use Rattle.accepted_law.specs.Held.{AreFixed}
-use Rattle.accepted_law.specs.Holdings.{OfEachJob, plain_of, fixed_of, file_rights, file_starts}
-use Rattle.job_safety.specs.Safe.{AreSound}
+use Rattle.promises.specs.Holdings.{OfEachJob, plain_of, fixed_of, file_rights, file_starts}
+use Rattle.promises.specs.Sound.{AreSound}
 
 -- From each memory of the emitted one's length that has the emitted lists of all jobs, and the Code buffers that their handles name, as
 -- the emitted one, whatever all its other bytes are, the jobs are sound, each with its own rights and from the beginnings of its lists.

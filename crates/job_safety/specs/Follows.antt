@@ -6,8 +6,8 @@ use Rattle.job_check.specs.Emit.{memory_of}
 use Rattle.machine_plan.specs.{Others.Happening, Others.OthersRun, Others.IsLeft, Regions.IsOutside, Regions.IsKept, Regions.Agree}
 use Rattle.machine_plan.specs.World.{IsSafeRun}
 use Rattle.machine.specs.{State.State, State.start_of, Step.Event, Step.ready, Step.turn, Step.IsRun}
-use Rattle.machine_law.specs.Sound.{TexturesReadIn}
-use Rattle.accepted_law.specs.Holdings.{plain_of, fixed_of, file_rights, file_starts}
+use Rattle.promises.specs.Holdings.{plain_of, fixed_of, file_rights, file_starts}
+use Rattle.promises.specs.Sound.{TexturesReadIn}
 use Rattle.job_safety.specs.{Safe.AreSafe, Safe.AreSame, Files.IsSafeFile}
 
 -- the memory has the lists and the code of all jobs as they are emitted

@@ -3,5 +3,4 @@ pub mod Strength
 pub mod Accepted
 pub mod Files
 pub mod Follows
-pub mod Clients
 pub mod Prepared

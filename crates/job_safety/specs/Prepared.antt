@@ -3,15 +3,9 @@ use Rattle.std.specs.Prelude.{◌≡◌, ℕ, List, None}
 use Rattle.field_words.specs.{Questions.first_of, Words.IsBytes}
 use Rattle.job_format.specs.{File.IsWellFormed, File.Fits, Model.FileModel, Reading.file_at}
 use Rattle.job_check.specs.{Faults.place_stages, Whole.place_questions}
-use Rattle.accepted_law.specs.{Holdings.plain_of, Holdings.file_rights, Holdings.file_starts, Prepared.IsPrepared}
-use Rattle.job_safety.specs.Safe.{AreSound}
+use Rattle.promises.specs.Prepared.{MayRunOver, IsPrepared}
 
--- The jobs of a file may run over a memory: from the beginnings of their lists, each with its own rights, they are sound there. So every run
--- is safe, whatever others write meanwhile beside what jobs may only read.
-abbrev pub MayRunOver : FileModel → List ℕ → Type 0
-MayRunOver f m = AreSound (file_rights f) (plain_of f) m (file_starts f)
-
--- So it is of each memory that is prepared for the jobs of a file in which no rule stands, anywhere in the greatest memory;
+-- The jobs may run over each memory that is prepared for the jobs of a file in which no rule stands, anywhere in the greatest memory;
 abbrev pub PreparedJobsMayRun : Type 0
 PreparedJobsMayRun = (f : FileModel) → IsWellFormed f → Fits f → first_of (place_stages f) ≡ None → (m : List ℕ) → IsPrepared f m → MayRunOver f m
 

@@ -7,12 +7,10 @@ ghost use Rattle.job_format.specs.Reading.{file_at};
 ghost use Rattle.job_format.specs.File.{IsFileOf};
 ghost use Rattle.job_check.specs.Emit.{memory_of, IsInside, IsPlaced};
 ghost use Rattle.job_check.specs.Whole.{all_questions};
-ghost use Rattle.accepted_ends.specs.Law.{FileEnds};
-ghost use Rattle.accepted_law.specs.Holdings.{start_by, file_rights, file_starts};
+ghost use Rattle.promises.specs.{Bounded.FileEnds, Holdings.start_by, Holdings.file_rights, Holdings.file_starts, Apart.IsApart};
 ghost use Rattle.driver_law.specs.Driver.{FileMayJoin};
 ghost use Rattle.strict_check.specs.Whole.{strict_questions};
 ghost use Rattle.job_safety.specs.Accepted.{starts_by, IsSetUp, IsAccepted};
-ghost use Rattle.job_safety.specs.Clients.{IsApart};
 ghost use Rattle.job_safety.specs.Safe.{AreSafe, AreSame};
 
 use field_words::{NoMemory, Stop, get_u32};
@@ -52,7 +50,7 @@ pub fn version_of(bytes: &[u8]) -> u32
 }
 
 // Where a job's lists stand.
-#[tactic(auto, unfolding(accepted_law::specs::Holdings::start_by))]
+#[tactic(auto, unfolding(promises::specs::Holdings::start_by))]
 fn start_by(layout: &Layout, lengths: &Lengths) -> Start
     requires inside { IsInside most_memory layout.now }
     ensures { result ≡ start_by layout.now lengths.now }

@@ -1,5 +1,5 @@
 //! Clients of accepted files are apart.
-ghost use Rattle.job_safety.specs.Clients.{BytesApart};
+ghost use Rattle.promises.specs.Apart.{BytesApart};
 
 /// The law that clients are apart: whichever bytes they are, two files that are neighbours for a client, and of which no rule stands. In
 /// every two runs of them in which that client's jobs take the same steps, in the same order, on the same units and threads and with the

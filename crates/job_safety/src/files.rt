@@ -1,6 +1,7 @@
 //! Accepted files are safe, whatever their memory holds beside the lists and the code of their jobs.
 ghost use Rattle.job_safety.specs.Files.{BytesSafe, PlacedJobsAreSafe};
 ghost use Rattle.job_safety.specs.Follows.{SafeFilesFollow};
+ghost use Rattle.promises.specs.{Bounded.AcceptedEnd, MayRun.AcceptedMayRun};
 ghost use Rattle.job_safety.specs.Prepared.{PreparedJobsMayRun, PreparedBytesMayRun};
 
 /// The law that accepted files are safe, of 1 to 8 jobs: whichever bytes they are, where no rule stands of them, from each memory of the
@@ -12,6 +13,20 @@ ghost use Rattle.job_safety.specs.Prepared.{PreparedJobsMayRun, PreparedBytesMay
 #[tactic(auto, using(crate::proofs::Safety::bytes_safe_law))]
 pub fn accepted_bytes_are_safe()
     ensures { BytesSafe }
+{}
+
+/// The law that the jobs of all bytes in which no rule stands may run.
+#[tactic(auto, using(crate::proofs::Safety::accepted_may_run))]
+pub fn accepted_bytes_may_run()
+    ensures { AcceptedMayRun }
+{}
+
+/// The law that jobs without loops end: where no rule stands of the bytes, and no shader that a handle names branches back, each run of
+/// their jobs, whichever unit steps next, whatever words answer, and whatever others write beside lists and code, has no more steps than the
+/// file says, and those of its longest program and one more for each step in which a renderer stays at an item.
+#[tactic(auto, using(crate::proofs::Safety::accepted_end))]
+pub fn accepted_jobs_end()
+    ensures { AcceptedEnd }
 {}
 
 /// So is each file of which no rule stands under the greatest limit of a memory, 0xFF000000, as a driver has it whose buffers, lists and

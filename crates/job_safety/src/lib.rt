@@ -10,7 +10,8 @@ mod strength;
 pub use accepting::{Accepted, accept, accept_strict, version_of};
 pub use clients::clients_are_apart;
 pub use files::{
-    accepted_bytes_are_safe, placed_jobs_are_safe, prepared_jobs_may_run, safe_files_follow,
+    accepted_bytes_are_safe, accepted_bytes_may_run, accepted_jobs_end, placed_jobs_are_safe,
+    prepared_jobs_may_run, safe_files_follow,
 };
 pub use strength::{
     code_past_is_unsafe, direct_reads_past_are_unsafe, lists_past_are_unsafe,

@@ -4,10 +4,11 @@ use Rattle.std.proofs.lemmas.{Bool.false≢true, Option.slice_get-map}
 use Rattle.machine_plan.specs.Regions.{Interval, Inside, Rights, rights_of, IsIn, IsSafeAccess, HasReadOnly, Agree, Misses}
 use Rattle.machine_plan.specs.Others.{Happening, Steps, Changes, MayHappen, happen, AllMayHappen, IsLeft}
 use Rattle.machine_plan.specs.{World.Turn, Runs.reached}
-use Rattle.apart_law.specs.Part.{Client, accesses_of, UnitsAlike, StatesAlike}
+use Rattle.apart_law.specs.Part.{UnitsAlike, StatesAlike}
+use Rattle.promises.specs.Trail.{Client, accesses_of, Entry, entry_of, own_entry, happening_entry, with_entry, entries_of}
+use Rattle.promises.specs.Apart.{regions_of, IsUnshared, Beginning, AreLeft}
 use Rattle.apart_law.specs.{Steps.StaysIn, Steps.StepsAlike, Tied.AreTied, Tied.RestsFresh}
-use Rattle.apart_law.specs.Trail.{Entry, entry_of, own_entry, happening_entry, with_entry, entries_of}
-use Rattle.machine_law.specs.Apart.{regions_of, IsUnshared, Beginning, AreNeighbours, BeginsSoundly, AreLeft, ClientsApart, ClientsApartAnywhere, ClientsApartWithOthers}
+use Rattle.machine_law.specs.Apart.{AreNeighbours, BeginsSoundly, ClientsApart, ClientsApartAnywhere, ClientsApartWithOthers}
 use Rattle.machine_law.specs.{Jobs.facts_of, Laws.AreFine, Units.Facts, Units.QpuFine, Units.UnitsFine}
 use Rattle.machine_plan.proofs.{Memory.inside_part, Runs.every-weaker, Others.Holds, Others.run_holds, Others.run_others}
 use Rattle.machine_plan.proofs.Plans.{kept, length-carried, keeps_accesses, keeps_of, keeps_weaker}

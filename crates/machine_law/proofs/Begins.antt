@@ -17,7 +17,8 @@ use Rattle.list_law.proofs.Emitted.{same_count, same_extended, emitted_fetches, 
 use Rattle.list_law.proofs.Start.{lists_begin, walks_so}
 use Rattle.bin_walks.specs.Walks.{nothing_kept}
 use Rattle.machine.specs.{declared.job.Start.Start, State.job_start}
-use Rattle.machine_law.specs.Begins.{IsFixed, FixedStays, HomesStay, LaunchBegins, DrawBegins, DrawsStay, TextBegins, JobBegins}
+use Rattle.machine_law.specs.Begins.{FixedStays, HomesStay, LaunchBegins, DrawBegins, DrawsStay, TextBegins, JobBegins}
+use Rattle.promises.specs.Rights.{IsFixed}
 use Rattle.machine_law.specs.{Jobs.LaunchFine, Jobs.JobFine, Units.EachAt}
 
 -- a part of what no job may write

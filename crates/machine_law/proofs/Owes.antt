@@ -27,7 +27,8 @@ use Rattle.list_law.specs.Lists.{TurnedFine}
 use Rattle.list_law.proofs.{Binning.binner_keeps, Rendering.renderer_keeps, Rendering.renderer_looks}
 use Rattle.shader_flow.specs.Flow.{checked_of}
 use Rattle.shader_flow.proofs.Ends.{checked_of-le}
-use Rattle.qpu_law.specs.{Asks.IsOneOf, Asks.IsFineAsk, Home.Home, Thread.IsHome, Thread.IsThread, Thread.Left}
+use Rattle.qpu_law.specs.{Asks.IsFineAsk, Home.Home, Thread.IsHome, Thread.IsThread, Thread.Left}
+use Rattle.promises.specs.Rights.{IsOneOf}
 use Rattle.qpu_law.proofs.{Going.in_checked, Join.threads_keep_law, Reading.fine_asks_are_safe_law}
 use Rattle.qpu_law.proofs.Starting.{starts_stand_law, results_keep_law}
 

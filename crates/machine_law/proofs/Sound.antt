@@ -9,12 +9,13 @@ use Rattle.machine_plan.proofs.{Plans.keeps_accesses, Worlds.keeps_mapped}
 use Rattle.machine_plan.proofs.Others.{run_holds, safe_law, same_law, safe_alone, same_alone}
 use Rattle.qpu_machine.specs.{declared.state.Qpu.Qpu, declared.state.Ask.Ask, declared.state.Request.Request, Request.ask_plan}
 use Rattle.qpu_machine.specs.Qpu.{job_of_request, served, serving}
-use Rattle.qpu_law.specs.Asks.{IsFineAsk, IsOneOf, IsReadIn}
+use Rattle.qpu_law.specs.Asks.{IsFineAsk}
+use Rattle.promises.specs.{Rights.IsOneOf, Sound.IsReadIn, Sound.ReadInOne, Sound.TexturesReadIn}
 use Rattle.qpu_law.proofs.Reading.{asks_stay_in_law}
 use Rattle.machine.specs.State.{Units, State, item_at}
 use Rattle.machine.specs.Step.{with_qpu, tmu_may, tmu_turn, tmu_job, enabled, job_of, ready, turn}
 use Rattle.machine_law.specs.{Units.AskOf, Units.Facts, Units.QpuFine, Units.UnitsFine, Jobs.facts_of, Laws.AreFine}
-use Rattle.machine_law.specs.Sound.{ReadInOne, TexturesReadIn, MachineSound, JobsSound, SoundJobsAreSafe}
+use Rattle.machine_law.specs.Sound.{MachineSound, JobsSound, SoundJobsAreSafe}
 use Rattle.machine_law.proofs.Owes.{item_fine, oldest_fine, queue_of_fine, units_owe_law, start_fine}
 use Rattle.machine_law.proofs.Begins.{each_begins}
 

@@ -1,10 +1,10 @@
 -- What jobs begin with, said of the first memory alone: no job may write their lists, their code and their streams.
-use Rattle.std.specs.Prelude.{◌≡◌, ◌<◌, ◌⊎◌, ℕ, ◌+◌, ◌*◌, false, not, List, Option, length, slice_index}
+use Rattle.std.specs.Prelude.{◌≡◌, ◌<◌, ◌⊎◌, ℕ, ◌*◌, false, not, List, Option, length, slice_index}
 use Rattle.field_words.specs.Pieces.{joined as joined_bytes}
 use Rattle.packets.specs.{declared.packet.Packet.Packet, Packet.slots_text, StateWord.attribute_count, StateWord.record_size}
 use Rattle.packets.specs.declared.config.Config.{Config}
 use Rattle.emitted_facts.specs.{Facts.IsAttributeIn, Facts.IsPrimitive, Records.is_single}
-use Rattle.machine_plan.specs.Regions.{Interval, Inside, Rights, rights_of, joined, IsOutside, HasReadOnly}
+use Rattle.machine_plan.specs.Regions.{Interval, Inside, Rights, rights_of, joined, HasReadOnly}
 use Rattle.machine_plan.specs.{declared.launch.Launch.Launch, Memory.bytes_at}
 use Rattle.shader_flow.specs.Flow.{is_threaded}
 use Rattle.uniform_stream.specs.Stream.{uniforms_of}
@@ -13,13 +13,10 @@ use Rattle.bin_walks.specs.Walks.{nothing_kept, Walks}
 use Rattle.render_walks.specs.Walks.{at_start, WalksTo, AllFit}
 use Rattle.list_law.specs.{Binning.DrawsSo, Binning.Allocates, Rendering.MayDo, Rendering.NoMatter, Rendering.AllSet}
 use Rattle.list_law.specs.Emitted.{words_in, RecordStands, IsStateOf, program_in}
-use Rattle.qpu_law.specs.{Asks.IsOneOf, Home.Home, Thread.IsHome, Thread.HasSamples}
+use Rattle.qpu_law.specs.{Home.Home, Thread.IsHome, Thread.HasSamples}
+use Rattle.promises.specs.Rights.{IsFixed, IsOneOf}
 use Rattle.machine.specs.declared.job.Start.{Start}
 use Rattle.machine_law.specs.Jobs.{LaunchFine, HomeFine}
-
--- no job may write any of the n bytes from a place on
-abbrev pub IsFixed : List Rights → ℕ → ℕ → Type 0
-IsFixed rights place n = (i : ℕ) → i < n → IsOutside rights (place + i)
 
 -- These bytes stand at a place in the first memory, in the region of job j, and no job may write them.
 pub record TextBegins (rights : List Rights) (first : List ℕ) (j place : ℕ) (text : List ℕ) : Type 0 where

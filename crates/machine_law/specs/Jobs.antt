@@ -6,7 +6,8 @@ use Rattle.packets.specs.declared.config.Config.{Config}
 use Rattle.list_machine.specs.{declared.state.Frame.Frame, Lists.Lists}
 use Rattle.qpu_machine.specs.declared.state.Thread.{Thread}
 use Rattle.list_law.specs.{Binning.Allocates, Lists.ListsFine}
-use Rattle.qpu_law.specs.{Asks.IsOneOf, Asks.IsFineAsk, Home.Home, Thread.IsHome, Thread.HasSamples, Thread.Stands}
+use Rattle.qpu_law.specs.{Asks.IsFineAsk, Home.Home, Thread.IsHome, Thread.HasSamples, Thread.Stands}
+use Rattle.promises.specs.Rights.{IsOneOf}
 use Rattle.machine_law.specs.Units.{Facts}
 
 -- Plain buffers by job: each is one of the intervals of its job's region.

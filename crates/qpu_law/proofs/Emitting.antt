@@ -8,7 +8,8 @@ use Rattle.shader_check.specs.Info.{is_sample, sample_of, samples_of}
 use Rattle.shader_check.proofs.{Listed.Member, Members.member_left, Members.member_right, SoundInfo.address_write_at, SoundInfo.asks_parts}
 use Rattle.qpu_isa.specs.Shader.{no_sample}
 use Rattle.emitted_facts.specs.Facts.{IsSampleIn}
-use Rattle.qpu_law.specs.{Asks.IsOneOf, Emitted.StreamsServe, Stream.IsAddressCount}
+use Rattle.qpu_law.specs.{Emitted.StreamsServe, Stream.IsAddressCount}
+use Rattle.promises.specs.Rights.{IsOneOf}
 
 -- where a member stands
 record StandsAt {X : Type 0} (xs : List X) (d x : X) : Type 0 where

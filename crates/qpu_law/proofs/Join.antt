@@ -26,7 +26,8 @@ use Rattle.qpu_machine.specs.Operands.{operand, sums, add_row, mul_row}
 use Rattle.qpu_machine.specs.{Row.lanes, Wild.takes_one, Wild.is_wild, Step.ThreadTurn, Step.executed, Step.word_plan, Step.thread_plan}
 use Rattle.qpu_machine.specs.Writes.{four, ask_of, asked, awake, past_uniform, switches}
 use Rattle.qpu_machine.specs.declared.state.Fate.TheVariants.{Ends, Switches}
-use Rattle.qpu_law.specs.{Asks.IsWordIn, Asks.IsFineAsk, Asks.IsOneOf, Samples.AsksAreFine, Facts.FactsHold}
+use Rattle.qpu_law.specs.{Asks.IsWordIn, Asks.IsFineAsk, Samples.AsksAreFine, Facts.FactsHold}
+use Rattle.promises.specs.Rights.{IsOneOf}
 use Rattle.qpu_law.specs.Home.{Home, readied, HasNoFault, IsAt, ArePending, Lands, done}
 use Rattle.qpu_law.specs.Stream.{uniform_at, held_words, AreSetups}
 use Rattle.qpu_law.specs.Thread.{IsHome, IsThread, HasSamples, Stands, Left, ThreadsKeep}

@@ -13,7 +13,8 @@ use Rattle.machine_plan.specs.Regions.{Every, Interval, LiesIn, Inside, Rights, 
 use Rattle.machine_plan.proofs.{Safe.read_safe, Worlds.keeps_mapped}
 use Rattle.qpu_machine.specs.Request.{direct_plan, ask_plan, chosen_level, chosen_face, chosen_x, chosen_y, chosen_place, chosen_length, read_at, texture_reads, is_undefined, texture_plan}
 use Rattle.qpu_machine.specs.declared.state.Ask.{Ask, TheVariants.Direct, TheVariants.Texture}
-use Rattle.qpu_law.specs.Asks.{IsWordIn, IsTextureIn, IsAskIn, IsFineAsk, IsOneOf, AsksStayIn, FineAsksAreSafe}
+use Rattle.qpu_law.specs.Asks.{IsWordIn, IsTextureIn, IsAskIn, IsFineAsk, AsksStayIn, FineAsksAreSafe}
+use Rattle.promises.specs.Rights.{IsOneOf}
 
 -- A direct request reads at each of its addresses.
 direct_keeps : (within : Interval) (row found : List ℕ) → Every (IsWordIn within) row

@@ -1,13 +1,14 @@
 -- When a request of a thread is fine: what it makes a texture and memory unit (TMU) read lies in one buffer.
 --
 -- IsNamed says which intervals of memory (place and size) are data that the job may read.
-use Rattle.std.specs.Prelude.{◌≡◌, ℕ, ◌+◌, ◌-◌, ◌%◌, ◌<◌, ◌^◌, ◌⊎◌, List, [], ◌∷◌, None, slice_index}
-use Rattle.field_words.specs.{Questions.first_of, declared.access.Access.Access, declared.access.Way.TheVariants.Read}
+use Rattle.std.specs.Prelude.{◌≡◌, ℕ, ◌+◌, ◌-◌, ◌%◌, ◌<◌, ◌^◌, List, None, slice_index}
+use Rattle.field_words.specs.Questions.{first_of}
 use Rattle.texture_layouts.specs.Fits.{texture_questions}
 use Rattle.machine_plan.specs.{declared.who.Who.Who, Plan.Keeps}
 use Rattle.machine_plan.specs.Regions.{Every, Interval, LiesIn, Inside, Rights, IsSafeIn}
 use Rattle.qpu_machine.specs.{declared.state.Ask.Ask, declared.state.Ask.TheVariants.Direct, declared.state.Ask.TheVariants.Texture}
 use Rattle.qpu_machine.specs.Request.{ask_plan}
+use Rattle.promises.specs.{Sound.IsReadIn, Rights.IsOneOf}
 
 -- the word that an address stands in lies in the interval
 abbrev pub IsWordIn : Interval → ℕ → Type 0
@@ -34,22 +35,12 @@ pub record IsFineAsk (IsNamed : ℕ → ℕ → Type 0) (ask : Ask) : Type 0 whe
   pub named : IsNamed place size
   pub reads : IsAskIn (record { place = place; size = size }) ask
 
--- an access that reads inside the interval
-pub record IsReadIn (within : Interval) (a : Access) : Type 0 where
-  pub way : a.way ≡ Read
-  pub inside : LiesIn a.place a.len within
-
 -- The law: whatever the choice words and the memory, serving such a request reads inside that one interval, is never wild, looks
 -- nowhere, and changes no byte.
 abbrev pub AsksStayIn : Type 0
 AsksStayIn =
     (within : Interval) (ask : Ask) → IsAskIn within ask → (who : Who) (words m : List ℕ)
     → Keeps who (λ place len. ⊥) (IsReadIn within) (λ k r. k ≡ m) (ask_plan ask words) m
-
--- it is one of these intervals
-abbrev pub IsOneOf : List Interval → ℕ → ℕ → Type 0
-IsOneOf [] place size = ⊥
-IsOneOf (one ∷ others) place size = (one ≡ record { place = place; size = size }) ⊎ IsOneOf others place size
 
 -- So each access of a fine request is safe by the job's rights, whose region has each interval that may be named.
 abbrev pub FineAsksAreSafe : Type 0

@@ -5,7 +5,8 @@ use Rattle.emitted_facts.specs.Facts.{IsStream, IsSampleIn}
 use Rattle.machine_plan.specs.Regions.{Interval}
 use Rattle.uniform_stream.specs.Stream.{address_words_of}
 use Rattle.shader_check.specs.Info.{is_sample, sample_of, samples_of}
-use Rattle.qpu_law.specs.{Asks.IsOneOf, Home.Home, Stream.HoldsAddresses}
+use Rattle.qpu_law.specs.{Home.Home, Stream.HoldsAddresses}
+use Rattle.promises.specs.Rights.{IsOneOf}
 
 -- what the checker told of the shader
 pub record IsTold (code : List ℕ) (shader : ShaderModel) : Type 0 where

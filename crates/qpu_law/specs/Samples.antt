@@ -3,7 +3,8 @@ use Rattle.std.specs.Prelude.{◌≡◌, ℕ, List, Some, true}
 use Rattle.machine_plan.specs.{declared.launch.Launch.Launch, Regions.Interval}
 use Rattle.shader_flow.specs.{Flow.word, Flow.is_threaded, Pending.takes}
 use Rattle.qpu_machine.specs.{declared.state.Asked.Asked, declared.state.Thread.Thread, Start.thread_of}
-use Rattle.qpu_law.specs.{Asks.IsOneOf, Asks.IsFineAsk, Home.Home, Home.done, Stream.uniform_at}
+use Rattle.qpu_law.specs.{Asks.IsFineAsk, Home.Home, Home.done, Stream.uniform_at}
+use Rattle.promises.specs.Rights.{IsOneOf}
 use Rattle.qpu_law.specs.Thread.{IsHome, IsThread, HasSamples}
 
 -- The law that what such a thread asks for is fine, where the instruction took the stream's uniform.

@@ -10,7 +10,9 @@ use Rattle.qpu_machine.specs.{declared.state.Fate.TheVariants.Ends, declared.sta
 use Rattle.qpu_machine.specs.{Qpu.with_result, declared.state.Thread.Thread, Step.ThreadTurn, Step.thread_plan}
 use Rattle.emitted_facts.specs.Facts.{IsSampleIn}
 use Rattle.shader_check.specs.Info.{is_sample, sample_of}
-use Rattle.qpu_law.specs.{Asks.IsOneOf, Asks.IsFineAsk, Home.Home, Home.HasNoFault, Home.IsLow, Home.IsAt, Facts.HasRows, Facts.FactsHold}
+use Rattle.qpu_law.specs.Home.{Home, HasNoFault, IsLow, IsAt}
+use Rattle.qpu_law.specs.{Asks.IsFineAsk, Facts.HasRows, Facts.FactsHold}
+use Rattle.promises.specs.Rights.{IsOneOf}
 use Rattle.qpu_law.specs.Stream.{AreSetups, HoldsAddresses, IsStreamLow, PointerIs}
 
 -- A shader in which no rule stands, of at most 8,192 words, and a stream whose address words are its own place, stand in this

@@ -5,8 +5,9 @@ use Rattle.field_words.specs.Sizes.{page_size}
 use Rattle.buffer_table.specs.{declared.buffer.Buffer.Buffer, declared.buffer.Regions.Regions, Table.buffer_at, Handles.data_of, Handles.code_of}
 use Rattle.buffer_table.proofs.Named.{data_is, code_is}
 use Rattle.job_check.specs.{Emit.memory_of, Jobs.job_of, Jobs.slot_of, Shaders.table_of}
-use Rattle.qpu_law.specs.Asks.{IsOneOf}
-use Rattle.accepted_law.specs.{Holdings.plain_of, Holdings.codes_of, Holdings.lists_of, Holdings.slot_in, Holdings.job_rights, Holdings.rights_at, Settled.Grounds}
+use Rattle.promises.specs.Holdings.{plain_of, codes_of, lists_of, slot_in, job_rights, rights_at}
+use Rattle.promises.specs.Rights.{IsOneOf}
+use Rattle.accepted_law.specs.Settled.{Grounds}
 use Rattle.accepted_law.proofs.{ByJob.rights_are, Fixed.in_one, Grounds.four_lie, Intervals.both_lists, Intervals.named_by, Joining.all_ground}
 use Rattle.session_pages.specs.{Runs.page_count, Map.first_place, Map.place_of}
 use Rattle.job_session.specs.{Session.Past}

@@ -10,7 +10,7 @@ use Rattle.job_format.specs.{declared.rule.Refusal.Refusal, Faults.format_questi
 use Rattle.job_format.proofs.Passing.{passes_all}
 use Rattle.job_check.specs.{Faults.file_stages, Jobs.job_of, Region.region_of, Shaders.table_of, Shaders.content_of as content_in}
 use Rattle.job_check.specs.Whole.{format_refused, all_questions, refusal_of, questions_within}
-use Rattle.accepted_law.specs.{Neighbours.IsFaultless, Prepared.filled, Prepared.HasContent, Prepared.IsPrepared}
+use Rattle.promises.specs.Prepared.{IsFaultless, filled, HasContent, IsPrepared}
 use Rattle.accepted_law.proofs.Prepared.{region_within}
 use Rattle.job_safety.proofs.{Prepared.prepared_jobs_law, Safety.bytes_spell, Safety.faultless}
 use Rattle.session_pages.specs.Map.{memory_size, place_of}

@@ -6,8 +6,7 @@ use Rattle.buffer_table.specs.declared.buffer.Kind.TheVariants.{Code}
 use Rattle.job_format.specs.{Model.FileModel, Reading.file_at}
 use Rattle.job_check.specs.Region.{region_of}
 use Rattle.machine_plan.specs.Regions.{Inside}
-use Rattle.accepted_law.specs.Holdings.{rights_at}
-use Rattle.job_safety.specs.Prepared.{MayRunOver}
+use Rattle.promises.specs.{Holdings.rights_at, Prepared.MayRunOver}
 use Rattle.session_pages.specs.Map.{place_of, memory_size}
 use Rattle.job_session.specs.{Own.most_buffers, Session.Past}
 use Rattle.job_session.specs.Desk.{Desk, first_page, page_total, kind_of, bytes_of, submit_answer}

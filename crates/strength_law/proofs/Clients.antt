@@ -5,11 +5,11 @@ use Rattle.buffer_table.specs.Table.{buffer_at}
 use Rattle.buffer_table.proofs.Named.{data_is, code_is}
 use Rattle.job_format.specs.Model.{FileModel}
 use Rattle.job_check.specs.{Shaders.table_of, Jobs.job_of, Faults.place_stages}
-use Rattle.accepted_law.specs.{Held.IsSlot, Held.IsNamedCode, Held.IsToReach, Holdings.lists_of}
+use Rattle.accepted_law.specs.Held.{IsSlot, IsToReach}
+use Rattle.promises.specs.{Holdings.IsNamedCode, Holdings.lists_of, Rights.IsOneOf}
 use Rattle.accepted_law.proofs.{Intervals.rights_are_held_law, Settling.handles_clear}
 use Rattle.accepted_law.proofs.Unshared.{of_client, data_number, code_number}
 use Rattle.shader_records.specs.Named.{IsDataIn}
-use Rattle.qpu_law.specs.Asks.{IsOneOf}
 use Rattle.strength_law.specs.Clients.{IsOwnBuffer, RightsAreOwn}
 
 -- the buffer of a handle is the client's

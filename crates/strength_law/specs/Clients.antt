@@ -4,8 +4,8 @@ use Rattle.field_words.specs.Questions.{first_of}
 use Rattle.buffer_table.specs.Table.{buffer_at}
 use Rattle.job_format.specs.Model.{FileModel}
 use Rattle.job_check.specs.{Jobs.job_of, Faults.place_stages}
-use Rattle.qpu_law.specs.Asks.{IsOneOf}
-use Rattle.accepted_law.specs.{Held.IsSlot, Holdings.OfEachJob, Holdings.lists_of, Holdings.rights_at}
+use Rattle.promises.specs.{Rights.IsOneOf, Holdings.OfEachJob, Holdings.lists_of, Holdings.rights_at}
+use Rattle.accepted_law.specs.Held.{IsSlot}
 
 -- a buffer of the file, of job j's client
 pub record IsOwnBuffer (f : FileModel) (j place size : ℕ) : Type 0 where

@@ -1,14 +1,22 @@
--- A client's trail of a run: one entry for each step that a unit takes for one of its jobs, in order.
-use Rattle.std.specs.Prelude.{ℕ, Bool, false, if◌then◌else◌, List, [], ◌∷◌, Option, Some, None}
+-- A client, the accesses of its jobs, and its trail of a run: one entry for each step that a unit takes for one of its jobs, in order.
+use Rattle.std.specs.Prelude.{ℕ, Bool, List, filter, false, if◌then◌else◌, [], ◌∷◌, Option, Some, None}
 use Rattle.field_words.specs.declared.access.Actor.TheVariants.{Binner as TheBinner, Renderer as TheRenderer, Qpu as TheQpu, Tmu as TheTmu}
-use Rattle.field_words.specs.declared.access.Actor.{Actor}
-use Rattle.machine_plan.specs.{declared.launch.Launch.Launch, declared.launch.Slot.Slot, Plan.carried, Runs.Moved}
+use Rattle.field_words.specs.{declared.access.Access.Access, declared.access.Actor.Actor}
 use Rattle.machine_plan.specs.Others.{Happening, Steps, Changes, happen}
-use Rattle.list_machine.specs.{Binner.binner_plan, Lists.Lists, Lists.Turned, Lists.binner_of, Lists.renderer_of, Renderer.renderer_plan}
+use Rattle.machine_plan.specs.{declared.launch.Launch.Launch, declared.launch.Slot.Slot, Plan.carried, Runs.Moved}
+use Rattle.list_machine.specs.Lists.{Lists, Turned, binner_of, renderer_of}
+use Rattle.list_machine.specs.{Binner.binner_plan, Renderer.renderer_plan}
 use Rattle.qpu_machine.specs.{declared.state.Qpu.Qpu, Qpu.slot_from, Qpu.free_in}
 use Rattle.machine.specs.State.{State, Picked, item_at, binner_job, renderer_job}
 use Rattle.machine.specs.Step.{Event, job_of, step, turn}
-use Rattle.apart_law.specs.Part.{Client}
+
+-- which job numbers are a client's
+abbrev pub Client : Type 0
+Client = ℕ → Bool
+
+-- the accesses that carry a job of the client, in order
+abbrev pub accesses_of : Client → List Access → List Access
+accesses_of mine found = filter (λ a. mine a.job) found
 
 -- A step as a client may know it: the unit, the thread that was active where the unit is a processor, the words that answered, and
 -- where the step started a program: in which thread of which processor. It is None where no program was to start, and where none could.

@@ -1,0 +1,12 @@
+pub mod Rights
+pub mod Sound
+pub mod Holdings
+pub mod MayRun
+pub mod Prepared
+pub mod Trail
+pub mod Apart
+pub mod Steps
+pub mod Bounded
+pub mod Finished
+pub mod Days
+pub mod Drivers
