@@ -8,7 +8,8 @@ ghost use Rattle.accepted_strict.specs.Files.{StrictFilesObey, StrictBytesObey};
 ghost use Rattle.accepted_strict.specs.Drivers.{StrictDriversObey};
 
 /// In each run of the jobs of such a file, from every memory that has their emitted lists and their code, whichever unit steps next,
-/// whatever words answer, and whatever others write beside lists and code: no event is forbidden, and each load takes the oldest request.
+/// whatever words answer, and whatever others write beside lists and code: no event is forbidden, each load takes the oldest request, no
+/// thread uses what belongs to programs of another kind, and each processor's requests have room in its slots.
 #[tactic(auto, using(crate::proofs::Files::strict_files_obey_law))]
 pub fn strict_files_obey()
     ensures { StrictFilesObey }

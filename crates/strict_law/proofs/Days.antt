@@ -15,26 +15,28 @@ use Rattle.machine.specs.Step.{Event, may, step, ready, turn, unit_turn}
 use Rattle.machine_law.specs.Units.{EachAt, UnitsFine}
 use Rattle.machine_law.proofs.Owes.{put_each}
 use Rattle.ends_law.proofs.Plans.{AnyLook, AnyAccess, Comes, keeps_both}
-use Rattle.day_law.specs.Day.{Admitted, Day, Files, Happening, Steps, Changes, Finds, Admits, Retires, Resets, HasNoneOf, HasNoWork, Job, MayHappen, AllMayHappen, admitted_at, after, dawn, found_at, found_in, happen, rights_in, stopped, with_files}
+use Rattle.day_law.specs.Day.{MayHappen, AllMayHappen}
+use Rattle.promises.specs.Days.{Admitted, Day, Files, Happening, Steps, Changes, Finds, Admits, Retires, Resets, HasNoneOf, HasNoWork, Job}
+use Rattle.promises.specs.Days.{admitted_at, after, dawn, found_at, found_in, happen, rights_in, stopped, with_files}
 use Rattle.day_law.proofs.Own.{solo, Holds, IsQuiet, every_nth, binner_done, renderer_done, if_some, facts}
 use Rattle.day_law.proofs.Lists.{each_goes, each_but, each_append, still_at, last_at, without, without_long, without_others}
 use Rattle.day_law.proofs.{Known.IsKnown, Known.keeps, Keeping.all_quiet, Keeping.happens, Days.dawn_known}
 use Rattle.strict_law.specs.Known.{LaunchStrict, SlotStrict, QpuStrict, UnitsStrict, KeepsNone, InOrder, JobTurned, IsHomeOf, JobKnown}
 use Rattle.strict_law.specs.{Days.AdmitsStrict, Days.AdmitStrict, Days.StrictDaysObey, Order.Orders, Order.orders_after, Order.orders_then, Order.orders_of, Order.LoadsTakeOldest}
 use Rattle.strict_law.proofs.{Begins.idle_strict, Begins.job_known, Machine.Says, Machine.binner_one, Machine.renderer_one, Machine.each_item, Machine.unit_comes, Obey.known, Obey.obeys, Oldest.oldest_at}
-use Rattle.strict_law.proofs.Processors.{IsLike, beside_both, like_same}
+use Rattle.served_law.proofs.Beside.{IsLike, beside_both, like_same}
 
 -- What is known of a job speaks of its own rights, and of the memory in which it was admitted.
-abbrev OwnLists : Admitted → Lists → Type 0
+abbrev pub OwnLists : Admitted → Lists → Type 0
 OwnLists one s = JobKnown (solo one) one.first 0 s
 
-abbrev OwnHome : Admitted → Home → Type 0
+abbrev pub OwnHome : Admitted → Home → Type 0
 OwnHome one home = IsHomeOf (solo one) one.first 0 home
 
-abbrev OfJob : List Admitted → ℕ → Lists → Type 0
+abbrev pub OfJob : List Admitted → ℕ → Lists → Type 0
 OfJob jobs j s = IsQuiet s ⊎ ((j < length jobs) × OwnLists (admitted_at jobs j) s)
 
-abbrev IsOf : List Admitted → ℕ → Home → Type 0
+abbrev pub IsOf : List Admitted → ℕ → Home → Type 0
 IsOf jobs j home = (j < length jobs) × OwnHome (admitted_at jobs j) home
 
 -- What that says in a memory that each job holds.
@@ -68,14 +70,14 @@ renderer_says jobs m holds j s free words (inr known) on =
     (λ p n h. h) (λ a h. h) (λ k turned own. turned_own jobs j turned known.0 own) (renderer_plan s free words) m
     (renderer_one (solo one) one.first 0 (renderer_of j) s free words m (every_nth (Holds m) jobs j known.0 holds) known.1 on)
 
-says : (jobs : List Admitted) (m : List ℕ) → Every (Holds m) jobs → Says (OfJob jobs) (IsOf jobs) m
+pub says : (jobs : List Admitted) (m : List ℕ) → Every (Holds m) jobs → Says (OfJob jobs) (IsOf jobs) m
 says jobs m holds = record {
   finds = λ j home of. record { region = (admitted_at jobs j).rights.region; is = of.1 m (every_nth (Holds m) jobs j of.0 holds) };
   binner = binner_says jobs m holds;
   renderer = renderer_says jobs m holds;
 }
 
-abbrev IsStrictDay : Day → Orders → Type 0
+abbrev pub IsStrictDay : Day → Orders → Type 0
 IsStrictDay d orders = UnitsStrict (OfJob d.jobs) (IsOf d.jobs) orders d.state.units
 
 -- a unit steps
@@ -109,7 +111,7 @@ slot_goes IsHere IsThere N goes queued0 queued1 old0 old1 (Some t) only left = r
   split1 = left.split1;
 }
 
-any_slot : (slot : Option Thread) → IfSome slot (λ t. Unit {0})
+pub any_slot : (slot : Option Thread) → IfSome slot (λ t. Unit {0})
 any_slot None = tt
 any_slot (Some t) = tt
 
@@ -133,7 +135,7 @@ job_goes : (jobs others : List Admitted) (j : ℕ) (s : Lists) → (j < length j
 job_goes jobs others j s wider same (inl quiet) = inl quiet
 job_goes jobs others j s wider same (inr known) = inr (wider known.0, subst (λ one. OwnLists one s) (sym (same known.0)) known.1)
 
-home_goes : (jobs others : List Admitted) (j : ℕ) (home : Home) → (j < length jobs → j < length others) → (j < length jobs → admitted_at others j ≡ admitted_at jobs j) → IsOf jobs j home → IsOf others j home
+pub home_goes : (jobs others : List Admitted) (j : ℕ) (home : Home) → (j < length jobs → j < length others) → (j < length jobs → admitted_at others j ≡ admitted_at jobs j) → IsOf jobs j home → IsOf others j home
 home_goes jobs others j home wider same of = (wider of.0, subst (λ one. OwnHome one home) (sym (same of.0)) of.1)
 
 -- A job is admitted.
@@ -154,7 +156,7 @@ admits d job orders known strict begins =
     }
 
 -- A job retires.
-each_with : (N : Qpu → Type 0) (P : ℕ → Qpu → Type 0) (n : ℕ) (qpus : List Qpu) → Every N qpus → EachAt P n qpus → EachAt (λ k q. N q × P k q) n qpus
+pub each_with : (N : Qpu → Type 0) (P : ℕ → Qpu → Type 0) (n : ℕ) (qpus : List Qpu) → Every N qpus → EachAt P n qpus → EachAt (λ k q. N q × P k q) n qpus
 each_with N P n [] first other = tt
 each_with N P n (q ∷ qpus) first other = ((first.0, other.0), each_with N P (n + 1) qpus first.1 other.1)
 
@@ -265,16 +267,16 @@ happens_strict d Resets orders known strict may_reset begins = record {
   qpus = idle_strict (IsOf d.jobs) 0 12;
 }
 
-record IsLast (d : Day) (orders : Orders) : Type 0 where
-  known : IsKnown d
-  strict : IsStrictDay d orders
+pub record IsLast (d : Day) (orders : Orders) : Type 0 where
+  pub known : IsKnown d
+  pub strict : IsStrictDay d orders
 
-all_strict : (d : Day) (happenings : List Happening) (orders : Orders) → IsKnown d → IsStrictDay d orders → AllMayHappen d happenings → AdmitStrict d happenings → IsLast (after d happenings) (orders_of d happenings orders)
+pub all_strict : (d : Day) (happenings : List Happening) (orders : Orders) → IsKnown d → IsStrictDay d orders → AllMayHappen d happenings → AdmitStrict d happenings → IsLast (after d happenings) (orders_of d happenings orders)
 all_strict d [] orders known strict may begins = record { known = known; strict = strict }
 all_strict d (one ∷ later) orders known strict may begins =
     all_strict (happen d one) later (orders_then d one orders) (happens d one known may.0) (happens_strict d one orders known strict may.0 begins.0) may.1 begins.1
 
-days_strict : (memory : List ℕ) (happenings : List Happening) → AllMayHappen (dawn memory) happenings → AdmitStrict (dawn memory) happenings → IsLast (after (dawn memory) happenings) (orders_of (dawn memory) happenings (λ j tmu. []))
+pub days_strict : (memory : List ℕ) (happenings : List Happening) → AllMayHappen (dawn memory) happenings → AdmitStrict (dawn memory) happenings → IsLast (after (dawn memory) happenings) (orders_of (dawn memory) happenings (λ j tmu. []))
 days_strict memory happenings may begins = all_strict (dawn memory) happenings (λ j tmu. []) (dawn_known memory) (record { jobs = tt; qpus = idle_strict (IsOf []) 0 12 }) may begins
 
 pub strict_days_obey_law : StrictDaysObey

@@ -1,5 +1,4 @@
 pub mod Shaders
-pub mod Marks
 pub mod Stretches
 pub mod Threads
 pub mod Orders
@@ -10,3 +9,15 @@ pub mod Obey
 pub mod Oldest
 pub mod Runs
 pub mod Days
+pub mod Programs
+pub mod Roles
+pub mod RoleRuns
+pub mod RoleDays
+pub mod Packets
+pub mod Binners
+pub mod Lists
+pub mod ListDays
+pub mod TileSlots
+pub mod Slots
+pub mod SlotRuns
+pub mod SlotDays

@@ -71,7 +71,7 @@ each_item P n k number [] is all = tt
 each_item P n zero number (x ∷ xs) is all = let e : n ≡ number = omega (arith, is) in subst (λ i. P i x) e all.0
 each_item P n (suc k) number (x ∷ xs) is all = each_item P (n + 1) k number xs (omega (arith, is)) all.1
 
-each_put : {X : Type 0} (P Q : ℕ → X → Type 0) (n k number : ℕ) (xs : List X) (new : X) → number ≡ n + k → ((i : ℕ) (x : X) → i ≢ number → P i x → Q i x) → Q number new → EachAt P n xs → EachAt Q n (put_at xs k new)
+pub each_put : {X : Type 0} (P Q : ℕ → X → Type 0) (n k number : ℕ) (xs : List X) (new : X) → number ≡ n + k → ((i : ℕ) (x : X) → i ≢ number → P i x → Q i x) → Q number new → EachAt P n xs → EachAt Q n (put_at xs k new)
 each_put P Q n k number [] new is goes fine all = tt
 each_put P Q n zero number (x ∷ xs) new is goes fine all =
     let e : number ≡ n = omega (arith, is) in

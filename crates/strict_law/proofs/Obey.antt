@@ -1,30 +1,33 @@
 -- No step of a strict job is forbidden.
-use Rattle.std.proofs.Common.{◌≡◌, ◌≤◌, ◌<◌, inl, inr, ℕ, ◌+◌, ◌-◌, ◌==◌, ◌&&◌, ◌||◌, not, Bool, true, false, nat_lt, nat_le, List, [], ◌∷◌, length, Option, Some, None, IfSome, if◌then◌else◌, refl, sym, ◌∙◌, ap, subst, arith}
+use Rattle.std.proofs.Common.{◌≡◌, ◌≤◌, ◌<◌, inl, inr, ℕ, ◌+◌, ◌-◌, ◌==◌, ◌&&◌, ◌||◌, Bool, true, false, nat_lt, nat_le, List, length, Option, Some, None, IfSome, if◌then◌else◌, refl, sym, ◌∙◌, ap, subst, arith}
 use Rattle.std.proofs.lemmas.Bool.{cases_lt, eq-eqb, le-leb, or_cases, or_from, or_parts, true≢false}
 use Rattle.std.proofs.lemmas.Bool.Decides.{nat_tests}
-use Rattle.std.proofs.lemmas.List.Sums.{sum_by-cons}
 use Rattle.std.specs.Int.{from_le_bytes, w64}
 use Rattle.machine_plan.specs.Memory.{bytes_at}
 use Rattle.qpu_isa.specs.Terms.{is_end, writes_s}
 use Rattle.qpu_isa.specs.Setups.{kept}
-use Rattle.shader_flow.specs.{Flow.word, Flow.end_of, Flow.checked_of, Flow.is_threaded, Pending.pending_of, Pending.takes}
+use Rattle.shader_flow.specs.{Flow.word, Flow.end_of, Flow.checked_of, Pending.pending_of, Pending.takes}
 use Rattle.list_machine.specs.Lists.{Lists}
 use Rattle.qpu_machine.specs.{declared.state.Qpu.Qpu, declared.state.Request.Request, declared.state.Thread.Thread, Bounds.finished0, Bounds.finished1}
 use Rattle.qpu_machine.specs.declared.state.Fate.TheVariants.{Ends, Switches}
-use Rattle.qpu_machine.specs.{Qpu.active_of, Qpu.is_of, Qpu.queued, Wild.takes_one, Writes.fate_of, Writes.loads}
+use Rattle.qpu_machine.specs.{Qpu.active_of, Qpu.queued, Wild.takes_one, Writes.fate_of, Writes.loads}
 use Rattle.machine.specs.{State.State, Step.Event}
 use Rattle.qpu_law.specs.Home.{Home, HasNoFault, IsAt}
 use Rattle.qpu_law.proofs.Going.{behind, in_checked, not_end, takes_same}
-use Rattle.ends_law.specs.Steps.{one_if}
+use Rattle.promises.specs.{Steps.one_if, Finished.unloaded}
 use Rattle.strict_law.specs.Order.{Orders}
 use Rattle.strict_rules.specs.{Words.reads_address, Words.uses_vpm, Words.is_coupled, Words.add_couples, Words.mul_couples, Words.loads_result, Words.coupled_of}
 use Rattle.strict_rules.specs.Queue as queue
 use Rattle.strict_rules.specs.Rules.{e2, e5, e6, e7, loads_none}
-use Rattle.strict_law.specs.{Strict.IsStrict, Known.Finds, Known.ThreadStrict, Known.SlotStrict, Known.AreBeside, Known.QpuStrict, Known.UnitsStrict, Known.KeepsNone}
-use Rattle.strict_law.specs.Forbidden.{Executes, keeps_words, has_words, unloaded0, unloaded1, unloaded, loads_nothing, sends, leaves_requests, reads, touches, touches_vertices, is_last, uses_closed, is_peripheral, peripherals, IsForbidden, SwitchesWithWords, RestsWithWords, EndsWithWords, LoadsNothing, LacksRoom, LeavesRequests, UsesClosed, UsesTwo, TakesMutex}
-use Rattle.strict_law.proofs.Shaders.{StrictAt, strict_here, same_load, next_queue, room_for, few_requests, kept_long}
-use Rattle.strict_law.proofs.{Marks.end_before, Marks.at_end, Marks.at_switch, Threads.none_left, Threads.reads_word, Threads.switch_none}
-use Rattle.strict_law.proofs.{Machine.each_item, Processors.active_strict, Processors.beside_turn}
+use Rattle.strict_law.specs.{Strict.IsStrict, Known.Finds, Known.ThreadStrict, Known.SlotStrict, Known.QpuStrict, Known.UnitsStrict, Known.KeepsNone}
+use Rattle.strict_law.specs.Forbidden.{Executes, keeps_words, has_words, unloaded0, unloaded1, loads_nothing, sends, leaves_requests, reads, touches, touches_vertices, is_last, uses_closed, is_peripheral, peripherals, IsForbidden, SwitchesWithWords, RestsWithWords, EndsWithWords, LoadsNothing, LacksRoom, LeavesRequests, UsesClosed, UsesTwo, TakesMutex}
+use Rattle.strict_rules.proofs.Rooms.{room_for}
+use Rattle.served_law.specs.Known.{AreBeside}
+use Rattle.served_law.proofs.{Shaders.same_load, Shaders.next_queue, Shaders.few_requests, Beside.beside_turn, Room.both_queued, Room.most_is}
+use Rattle.strict_law.proofs.Shaders.{StrictAt, strict_here, kept_long}
+use Rattle.served_law.proofs.Marks.{end_before, at_end, at_switch}
+use Rattle.strict_law.proofs.{Threads.none_left, Threads.reads_word, Threads.switch_none}
+use Rattle.strict_law.proofs.{Machine.each_item, Processors.active_strict}
 
 -- What is known of the thread before the instruction at n.
 pub record Before (code : List ℕ) (n queued0 queued1 : ℕ) (t : Thread) : Type 0 where
@@ -83,20 +86,6 @@ count_left : (code : List ℕ) (tmu n count : ℕ) → n < checked_of code → c
 count_left code tmu n count inside is none =
     ap (λ k. nat_lt 0 ((k - one_if (loads (word code n) tmu)) + one_if (writes_s (word code n) tmu))) is ∙ ap (λ k. nat_lt 0 k) (sym (next_queue code tmu n inside) ∙ none)
 
--- each request in a queue is one thread's
-both_by : (b : Bool) → (if (if false then b else not b) then 1 else 0) + (if (if true then b else not b) then 1 else 0) ≡ 1
-both_by true = refl
-both_by false = refl
-
-both_queued : (requests : List Request) → length requests ≡ queued false requests + queued true requests
-both_queued [] = refl
-both_queued (one ∷ requests) =
-    let rest = both_queued requests in
-    let first = sum_by-cons (λ r. if is_of false r then 1 else 0) one requests in
-    let second = sum_by-cons (λ r. if is_of true r then 1 else 0) one requests in
-    let this = both_by one.second in
-    omega (arith, rest, first, second, this)
-
 -- The two threads of a processor together have room.
 single_room : (own : ℕ) (threaded : Bool) → own < (if threaded then 2 else 4) → own < 4
 single_room own true room = omega (arith, room)
@@ -104,10 +93,6 @@ single_room own false room = room
 
 below_not : (most n : ℕ) → n < most → nat_le most n ≡ false
 below_not most n below = grind (arith, nat_tests, below)
-
-most_is : (code : List ℕ) (threaded : Bool) → threaded ≡ is_threaded code → queue.most_requests code ≡ (if threaded then 2 else 4)
-unfolding queue.most_requests
-most_is code threaded is = ap (λ b. if b then 2 else 4) (sym is)
 
 thread_few : (IsOf : ℕ → Home → Type 0) (m : List ℕ) (queued0 queued1 old0 old1 : ℕ) (t : Thread) → Finds IsOf m → ThreadStrict IsOf queued0 queued1 old0 old1 t
     → (queued0 + length t.results0.items) + (queued1 + length t.results1.items) ≤ (if t.threaded then 2 else 4)
@@ -117,7 +102,7 @@ thread_few IsOf m queued0 queued1 old0 old1 t here left =
     let n : ℕ = left.index in
     let known = before IsOf m queued0 queued1 old0 old1 t here left in
     let inside = known.inside in
-    let few = few_requests code known.sound known.strict n (omega (arith, inside)) in
+    let few = few_requests code known.sound (λ i here. (strict_here code known.strict i here).requests.room) n (omega (arith, inside)) in
     let most = most_is code t.threaded left.at.threaded in
     let first = known.queue0 in
     let second = known.queue1 in
@@ -258,7 +243,7 @@ module _ (IsOf : ℕ → Home → Type 0) (order0 order1 : List Bool) (m : List 
       let count0 : ℕ = queued q.second q.queue0.items + length t.results0.items in
       let count1 : ℕ = queued q.second q.queue1.items + length t.results1.items in
       ap (λ v. (loads v 0 && count0 == 0) || (loads v 1 && count1 == 0)) one.is
-      ∙ or_from (loads (word code n) 0 && count0 == 0) (loads (word code n) 1 && count1 == 0) (has_some code 0 n count0 facts.queue0 facts.now.none0) (has_some code 1 n count1 facts.queue1 facts.now.none1)
+      ∙ or_from (loads (word code n) 0 && count0 == 0) (loads (word code n) 1 && count1 == 0) (has_some code 0 n count0 facts.queue0 facts.now.requests.none0) (has_some code 1 n count1 facts.queue1 facts.now.requests.none1)
 
   no_room : sends w ≡ true → nat_le 4 (unloaded q) ≡ false
   unfolding sends unloaded queue.requests_of
@@ -268,7 +253,7 @@ module _ (IsOf : ℕ → Home → Type 0) (order0 order1 : List Bool) (m : List 
       let most = most_is code t.threaded one.thread.at.threaded in
       let first = facts.queue0 in
       let second = facts.queue1 in
-      let room : length (queue.queue_of code 0 n) + length (queue.queue_of code 1 n) < queue.most_requests code = room_for code n facts.now.room (ap (λ v. writes_s v 0 || writes_s v 1) (sym one.is) ∙ sent) in
+      let room : length (queue.queue_of code 0 n) + length (queue.queue_of code 1 n) < queue.most_requests code = room_for code n facts.now.requests.room (ap (λ v. writes_s v 0 || writes_s v 1) (sym one.is) ∙ sent) in
       let below = has_room_by IsOf m q.second q.queue0.items q.queue1.items one.processor.first0 one.processor.first1 one.processor.other0 one.processor.other1 q.first q.other t one.here one.active one.processor.beside one.processor.first one.processor.other (omega (arith, most, first, second, room)) in
       below_not 4 ((length q.queue0.items + length q.queue1.items) + ((finished0 q.first + finished1 q.first) + (finished0 q.other + finished1 q.other))) below
 
@@ -282,7 +267,7 @@ module _ (IsOf : ℕ → Home → Type 0) (order0 order1 : List Bool) (m : List 
       let none = none_left code facts.sound facts.strict n (at_end one.thread.home n t one.thread.at over) in
       ap (λ v. nat_lt 0 ((count0 - one_if (loads v 0)) + one_if (writes_s v 0)) || nat_lt 0 ((count1 - one_if (loads v 1)) + one_if (writes_s v 1))) one.is
       ∙ or_from (nat_lt 0 ((count0 - one_if (loads (word code n) 0)) + one_if (writes_s (word code n) 0))) (nat_lt 0 ((count1 - one_if (loads (word code n) 1)) + one_if (writes_s (word code n) 1)))
-      (count_left code 0 n count0 facts.inside facts.queue0 none.0) (count_left code 1 n count1 facts.inside facts.queue1 none.1)
+      (count_left code 0 n count0 facts.inside facts.queue0 none.queue0) (count_left code 1 n count1 facts.inside facts.queue1 none.queue1)
 
   no_closed : is_last t w ≡ true → uses_closed t w ≡ false
   no_closed last =

@@ -5,8 +5,10 @@ use Rattle.shader_flow.specs.Flow.{word}
 use Rattle.qpu_law.specs.Home.{Home}
 use Rattle.qpu_machine.specs.{declared.state.Qpu.Qpu, declared.state.Request.Request, declared.state.Thread.Thread, Bounds.finished0, Bounds.finished1, Qpu.queued, Writes.loads}
 use Rattle.strict_rules.specs.{Queue.queue_of, Queue.acted, Rules.loads_none}
-use Rattle.strict_law.specs.{Known.AreBeside, Known.QpuStrict, Known.InOrder, Order.oldest_of}
-use Rattle.strict_law.proofs.{Shaders.same_load, Stretches.split_few, Threads.old_or_single, Orders.has_by, Orders.oldest_own, Processors.single_slot, Processors.beside_turn, Obey.Steps, Obey.facts}
+use Rattle.served_law.specs.Known.{AreBeside}
+use Rattle.strict_law.specs.{Known.QpuStrict, Known.InOrder, Order.oldest_of}
+use Rattle.served_law.proofs.{Shaders.same_load, Beside.beside_turn}
+use Rattle.strict_law.proofs.{Stretches.split_few, Threads.old_or_single, Orders.has_by, Orders.oldest_own, Processors.single_slot, Obey.Steps, Obey.facts}
 
 oldest_by : (second : Bool) (order : List Bool) (first_old first_all other_old other_all : ℕ) (threaded : Bool) → InOrder second order first_old first_all other_old other_all
     → (if second then other_old else first_old) ≤ (if second then other_all else first_all) → 1 ≤ (if second then other_all else first_all) → (1 ≤ (if second then other_old else first_old)) ⊎ (threaded ≡ false)
@@ -51,7 +53,7 @@ oldest_at IsOf orders m q t w one zero small load =
     let old : ℕ = if q.second then left.other0 else left.first0 in
     let all = own_all q.second q.queue0.items q.first q.other t (λ slot. finished0 slot) one.active in
     let count = known.queue0 in
-    let some = has_some h.code 0 n known.now.none0 on in
+    let some = has_some h.code 0 n known.now.requests.none0 on in
     let few = split_few (acted h.code n) (queue_of h.code 0 n) old one.thread.split0 in
     oldest_by q.second (orders 0) left.first0 (queued false q.queue0.items + finished0 q.first) left.other0 (queued true q.queue0.items + finished0 q.other) t.threaded left.in0
     (omega (arith, all, count, few)) (omega (arith, all, count, some))
@@ -66,7 +68,7 @@ oldest_at IsOf orders m q t w one (suc zero) small load =
     let old : ℕ = if q.second then left.other1 else left.first1 in
     let all = own_all q.second q.queue1.items q.first q.other t (λ slot. finished1 slot) one.active in
     let count = known.queue1 in
-    let some = has_some h.code 1 n known.now.none1 on in
+    let some = has_some h.code 1 n known.now.requests.none1 on in
     let few = split_few (acted h.code n) (queue_of h.code 1 n) old one.thread.split1 in
     oldest_by q.second (orders 1) left.first1 (queued false q.queue1.items + finished1 q.first) left.other1 (queued true q.queue1.items + finished1 q.other) t.threaded left.in1
     (omega (arith, all, count, few)) (omega (arith, all, count, some))

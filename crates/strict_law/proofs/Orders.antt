@@ -4,7 +4,7 @@ use Rattle.std.proofs.lemmas.List.{replicate_more}
 use Rattle.std.specs.Prelude.{is_some, Option, Some, None}
 use Rattle.qpu_machine.specs.declared.state.Fate.{Fate, TheVariants.Ends, TheVariants.Switches, TheVariants.GoesOn}
 use Rattle.qpu_machine.specs.{Qpu.gives_way, declared.state.Thread.Thread}
-use Rattle.ends_law.specs.Steps.{one_if}
+use Rattle.promises.specs.Steps.{one_if}
 use Rattle.strict_law.specs.{Known.Ordered, Known.InOrder, Known.next_old, Order.without, Order.order_with, Order.oldest_of}
 use Rattle.strict_law.proofs.Threads.{TmuGoes}
 

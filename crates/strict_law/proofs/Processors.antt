@@ -8,10 +8,11 @@ use Rattle.qpu_machine.specs.declared.state.Fate.TheVariants.{GoesOn, Switches, 
 use Rattle.qpu_machine.specs.Qpu.{active_of, queued, left_by, gives_way, woken_slot, queue_with, settled, went, oldest, queue_of, with_result, dropped, given, served, has_none, is_beside, takes_first, takes_other, in_first, in_other, started_in, launched}
 use Rattle.qpu_machine.specs.{declared.state.Asked.Asked, declared.state.Fate.Fate, declared.state.Qpu.Qpu, declared.state.Request.Request}
 use Rattle.qpu_machine.specs.{declared.state.Thread.Thread, Start.thread_of, Step.ThreadTurn}
-use Rattle.ends_law.specs.Steps.{one_if}
-use Rattle.served_law.proofs.Threads.{asks}
+use Rattle.promises.specs.Steps.{one_if}
+use Rattle.served_law.specs.Known.{AreBeside}
+use Rattle.served_law.proofs.{Threads.asks, Beside.IsLike, Beside.beside_turn, Beside.beside_both, Beside.like_same, Beside.like_woken, Beside.like_result, Beside.like_left, Beside.beside_threaded, Beside.runs_beside}
 use Rattle.served_law.proofs.Processors.{own_queued, other_queued, got_by, kept_by, taken_mine, taken_other, none_queued, chosen_by}
-use Rattle.strict_law.specs.{Known.LaunchStrict, Known.ThreadStrict, Known.SlotStrict, Known.AreBeside, Known.QpuStrict, Known.KeepsNone, Known.Ordered, Known.InOrder, Known.next_old, Order.order_after}
+use Rattle.strict_law.specs.{Known.LaunchStrict, Known.ThreadStrict, Known.SlotStrict, Known.QpuStrict, Known.KeepsNone, Known.Ordered, Known.InOrder, Known.next_old, Order.order_after}
 use Rattle.strict_law.proofs.Orders.{settled_order, in_settled_other, in_settled_first, none_left, empty_order}
 use Rattle.qpu_machine.specs.{Bounds.finished0, Bounds.finished1, Writes.loads}
 use Rattle.qpu_isa.specs.Terms.{writes_s}
@@ -75,46 +76,6 @@ woken_has : (over : Bool) (slot : Option Thread) → (finished0 (woken_slot over
 woken_has false slot = (refl, refl)
 woken_has true None = (refl, refl)
 woken_has true (Some t) = (refl, refl)
-
--- Two threads: it is so of each two that run threaded programs as these do.
-abbrev pub IsLike : Option Thread → Option Thread → Type 0
-IsLike None slot = Unit {0}
-IsLike (Some t) None = ⊥
-IsLike (Some t) (Some o) = t.threaded ≡ o.threaded
-
-beside_like : (first other own : Option Thread) → IsLike own first → AreBeside first other → AreBeside own other
-beside_like first other None like beside = tt
-beside_like None other (Some t) like beside = absurd like
-beside_like (Some o) None (Some t) like beside = tt
-beside_like (Some o) (Some other) (Some t) like beside = (like ∙ beside.0, beside.1)
-
-pub beside_turn : (first other : Option Thread) → AreBeside first other → AreBeside other first
-beside_turn None None beside = tt
-beside_turn None (Some o) beside = tt
-beside_turn (Some t) None beside = tt
-beside_turn (Some t) (Some o) beside = (beside.1, beside.0)
-
-pub beside_both : (first other one two : Option Thread) → IsLike one first → IsLike two other → AreBeside first other → AreBeside one two
-beside_both first other one two like alike beside =
-    beside_turn two one (beside_like other one two alike (beside_turn one other (beside_like first other one like beside)))
-
-pub like_same : (slot : Option Thread) → IsLike slot slot
-like_same None = tt
-like_same (Some t) = refl
-
-like_woken : (over : Bool) (slot : Option Thread) → IsLike (woken_slot over slot) slot
-like_woken false slot = like_same slot
-like_woken true None = tt
-like_woken true (Some t) = refl
-
-like_result : (tmu : ℕ) (row : Option (List ℕ)) (slot : Option Thread) → IsLike (option_map (with_result tmu row) slot) slot
-like_result tmu row None = tt
-like_result tmu row (Some t) = refl
-
-like_left : (t next : Thread) (fate : Fate) → next.threaded ≡ t.threaded → IsLike (left_by fate next) (Some t)
-like_left t next GoesOn same = same
-like_left t next Switches same = same
-like_left t next Ends same = tt
 
 -- A step of the active thread.
 own_strict : (IsOf : ℕ → Home → Type 0) (queued0 queued1 old0 old1 all0 all1 : ℕ) (t : Thread) (fate : Fate) → (fate ≢ Ends → ThreadStrict IsOf queued0 queued1 (next_old fate old0 all0) (next_old fate old1 all1) t) → (fate ≡ Ends → (queued0 ≡ 0) × (queued1 ≡ 0))
@@ -355,18 +316,6 @@ pub served_strict : (IsOf : ℕ → Home → Type 0) (tmu : ℕ) (q : Qpu) (requ
 served_strict IsOf tmu q request row order0 order1 left is = served_by IsOf tmu q request.second request row order0 order1 left is refl
 
 -- Where a program starts, its thread has nothing, and two that run are threaded.
-beside_none : (t : Thread) (other : Option Thread) → is_none other ≡ true → AreBeside (Some t) other
-beside_none t None none = tt
-beside_none t (Some o) none = absurd (true≢false (sym none))
-
-beside_threaded : (t : Thread) (other : Option Thread) → t.threaded ≡ true → is_beside other ≡ true → AreBeside (Some t) other
-beside_threaded t None is beside = tt
-beside_threaded t (Some o) is beside = (is, beside)
-
-starts_beside : (threaded : Bool) (t : Thread) (q : Qpu) → t.threaded ≡ threaded → (if threaded then is_beside q.other else (is_none q.other && has_none true q)) ≡ true → AreBeside (Some t) q.other
-starts_beside true t q is may = beside_threaded t q.other is may
-starts_beside false t q is may = beside_none t q.other (and_parts (is_none q.other) (has_none true q) may).0
-
 none_is : (slot : Option Thread) → is_none slot ≡ true → slot ≡ None
 none_is None none = refl
 none_is (Some t) none = absurd (true≢false (sym none))
@@ -427,7 +376,7 @@ in_first_strict IsOf threaded q t order0 order1 new takes thread left =
       other1 = left.other1;
       first = slot_same IsOf 0 0 (queued false q.queue0.items) (queued false q.queue1.items) 0 0 (Some t) (sym none.0) (sym none.1) thread;
       other = left.other;
-      beside = starts_beside threaded t q new.threaded_is parts.1;
+      beside = runs_beside threaded t q new.threaded_is parts.1;
       rests = new_first q.second t q.other q.first new.words left.rests;
       in0 = subst (λ n. InOrder (q.second && is_some q.other) order0 0 n left.other0 (queued true q.queue0.items + finished0 q.other)) (omega (arith, none0, results0))
           (starts_first q.second order0 q.other left.other0 (queued true q.queue0.items + finished0 q.other)

@@ -10,9 +10,9 @@ use Rattle.ends_law.proofs.Plans.{keeps_both}
 use Rattle.strict_law.specs.{Strict.JobStrict, Strict.StrictJobsObey, Known.UnitsStrict, Known.IsHomeOf, Known.JobKnown, Order.Orders, Order.orders_after, Order.orders_next, Order.orders_along, Order.RunsTakeOldest}
 use Rattle.strict_law.proofs.{Begins.each_begin, Begins.start_strict, Machine.jobs_say, Machine.unit_comes, Obey.known, Obey.obeys, Oldest.oldest_at}
 
-record IsNow (rights : List Rights) (plains : ℕ → List Interval) (first : List ℕ) (orders : Orders) (s : State) : Type 0 where
-  holds : Holds rights first (AreFine rights plains first) s
-  strict : UnitsStrict (JobKnown rights first) (IsHomeOf rights first) orders s.units
+pub record IsNow (rights : List Rights) (plains : ℕ → List Interval) (first : List ℕ) (orders : Orders) (s : State) : Type 0 where
+  pub holds : Holds rights first (AreFine rights plains first) s
+  pub strict : UnitsStrict (JobKnown rights first) (IsHomeOf rights first) orders s.units
 
 happens_strict : (rights : List Rights) (plains : ℕ → List Interval) (first : List ℕ) (s : State) (one : Happening Event) (orders : Orders) → ArePlain rights plains → IsNow rights plains first orders s → MayHappen ready rights s one
     → UnitsStrict (JobKnown rights first) (IsHomeOf rights first) (orders_next s one orders) (happen turn s one).state.units
@@ -29,7 +29,7 @@ happens_strict rights plains first s (Steps event) orders plain now may =
     after.1
 happens_strict rights plains first s (Changes m) orders plain now may = now.strict
 
-all_strict : (rights : List Rights) (plains : ℕ → List Interval) (first : List ℕ) (s : State) (happenings : List (Happening Event)) (orders : Orders) → ArePlain rights plains → IsNow rights plains first orders s → AllMayHappen ready turn rights s happenings
+pub all_strict : (rights : List Rights) (plains : ℕ → List Interval) (first : List ℕ) (s : State) (happenings : List (Happening Event)) (orders : Orders) → ArePlain rights plains → IsNow rights plains first orders s → AllMayHappen ready turn rights s happenings
     → IsNow rights plains first (orders_along s happenings orders) (reached (happen turn) s happenings)
 all_strict rights plains first s [] orders plain now may = now
 all_strict rights plains first s (one ∷ later) orders plain now may =
@@ -39,7 +39,7 @@ all_strict rights plains first s (one ∷ later) orders plain now may =
       strict = happens_strict rights plains first s one orders plain now may.0;
     }) may.1
 
-runs_strict : (rights : List Rights) (plains : ℕ → List Interval) (first m : List ℕ) (starts : List Start) (happenings : List (Happening Event)) → ArePlain rights plains → HasReadOnly rights first m → EachAt (JobStrict rights plains first) 0 starts
+pub runs_strict : (rights : List Rights) (plains : ℕ → List Interval) (first m : List ℕ) (starts : List Start) (happenings : List (Happening Event)) → ArePlain rights plains → HasReadOnly rights first m → EachAt (JobStrict rights plains first) 0 starts
     → AllMayHappen ready turn rights (record { memory = m; units = units_start starts }) happenings
     → IsNow rights plains first (orders_along (record { memory = m; units = units_start starts }) happenings (λ j tmu. [])) (reached (happen turn) (record { memory = m; units = units_start starts }) happenings)
 runs_strict rights plains first m starts happenings plain has all may =

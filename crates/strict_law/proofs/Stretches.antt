@@ -19,13 +19,14 @@ use Rattle.qpu_law.proofs.Going.{behind, fine_at}
 use Rattle.qpu_law.proofs.Pointer.{lost_writes, unknown_next}
 use Rattle.qpu_machine.specs.{declared.state.Mark.Mark, declared.state.Thread.Thread, Writes.fate_of, Writes.loads}
 use Rattle.qpu_machine.specs.declared.state.Fate.{Fate, TheVariants.Ends, TheVariants.Switches, TheVariants.GoesOn}
-use Rattle.ends_law.specs.Steps.{one_if}
+use Rattle.promises.specs.Steps.{one_if}
 use Rattle.strict_rules.specs.{declared.state.Request.Request, Queue.request_at, Queue.queue_after, Queue.queue_of, Queue.acted, Rules.e4, Rules.has_older, Rules.loads_early, Rules.switches_late}
 use Rattle.strict_rules.specs.Words as words
 use Rattle.strict_rules.proofs.Requests.{queue_inside, acted_near, acted_here, acted_same, acted_early}
 use Rattle.strict_law.specs.{Strict.IsStrict, Known.IsSplit, Known.next_old}
-use Rattle.strict_law.proofs.Shaders.{strict_here, same_load, next_queue, empty_at}
-use Rattle.strict_law.proofs.Marks.{at_switch}
+use Rattle.served_law.proofs.Shaders.{same_load, next_queue}
+use Rattle.strict_law.proofs.Shaders.{strict_here, empty_at}
+use Rattle.served_law.proofs.Marks.{at_switch}
 
 -- The oldest requests of a queue, so many, were sent before an instruction, and the others weren't.
 abbrev Before : ℕ → Request → Type 0

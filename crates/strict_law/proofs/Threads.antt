@@ -1,6 +1,6 @@
 -- A thread of a strict shader keeps what is known of it.
-use Rattle.std.proofs.Common.{◌≡◌, ◌≢◌, ◌≤◌, ◌<◌, inl, inr, ℕ, ◌+◌, ◌-◌, ◌%◌, ◌^◌, Bool, true, false, List, [], length, Option, ◌⊎◌, if◌then◌else◌, refl, sym, ◌∙◌, ap, subst, arith, ◌==◌, nat_lt}
-use Rattle.std.proofs.lemmas.Bool.{eq-eqb, not-true, or_parts, true≢false}
+use Rattle.std.proofs.Common.{◌≡◌, ◌≢◌, ◌≤◌, ◌<◌, inl, inr, ℕ, ◌+◌, ◌-◌, ◌%◌, ◌^◌, Bool, true, false, List, [], length, Option, ◌⊎◌, if◌then◌else◌, refl, sym, ◌∙◌, ap, subst, arith, nat_lt}
+use Rattle.std.proofs.lemmas.Bool.{not-true, or_parts, true≢false}
 use Rattle.std.specs.Int.{from_le_bytes, w64}
 use Rattle.field_words.specs.Words.{u32_at}
 use Rattle.qpu_isa.specs.Terms.{is_switch, writes_s}
@@ -17,13 +17,14 @@ use Rattle.qpu_machine.specs.declared.state.Fate.{Fate, TheVariants.Ends, TheVar
 use Rattle.qpu_law.specs.Home.{Home, HasNoFault, IsAt, Jumps, GoesTo, Lands, done}
 use Rattle.qpu_law.proofs.Going.{behind, fine_at, in_checked, is_went, setups0_are, setups1_are, fate_is, stays_in_code_law}
 use Rattle.qpu_law.proofs.Starting.{starts_stand_law}
-use Rattle.ends_law.specs.Steps.{one_if}
+use Rattle.promises.specs.Steps.{one_if}
 use Rattle.ends_law.proofs.Plans.{AnyLook, AnyAccess, Comes}
-use Rattle.served_law.proofs.Threads.{one_s, asks, done_asks, results0_are, results1_are, taken_left, load_has}
-use Rattle.strict_rules.specs.{Queue.queue_of, Queue.requests_of, Queue.acted, Queue.keeps_words, Rules.e1, Rules.leaves_requests}
+use Rattle.served_law.proofs.Threads.{asks, done_asks, results0_are, results1_are, taken_left, load_has}
+use Rattle.served_law.proofs.Shaders.{HasNone, one_s, count_on, jump_from, zero_by, ends_none}
+use Rattle.strict_rules.specs.{Queue.queue_of, Queue.acted, Queue.keeps_words, Rules.e1}
 use Rattle.strict_law.specs.{Strict.IsStrict, Known.Finds, Known.LaunchStrict, Known.ThreadStrict, Known.IsSplit, Known.KeepsNone, Known.next_old}
-use Rattle.strict_law.proofs.Shaders.{strict_here, next_queue, kept_long, empty_at, jump_from, zero_by}
-use Rattle.strict_law.proofs.Marks.{at_end, at_switch}
+use Rattle.strict_law.proofs.Shaders.{strict_here, kept_long, empty_at}
+use Rattle.served_law.proofs.Marks.{at_end, at_switch}
 use Rattle.strict_law.proofs.Stretches.{split_few, split_on, split_none, takes_old, early_at, switch_old, next_split, by_count}
 
 -- Where a switch acts, no set-up words are kept.
@@ -40,19 +41,12 @@ no_words code i none =
     let both = or_parts (nat_lt 0 (pending_of code 0 i)) (nat_lt 0 (pending_of code 1 i)) none in
     (zero_by (pending_of code 0 i) both.0, zero_by (pending_of code 1 i) both.1)
 
--- The count goes on.
-count_on : (code : List ℕ) (tmu i queued finished after more : ℕ) → i < checked_of code → queued + finished ≡ length (queue_of code tmu i) → one_if (loads (word code i) tmu) ≤ finished
-    → after ≡ finished - one_if (loads (word code i) tmu) → more ≡ one_if (writes_s (word code i) tmu) → queued + more + after ≡ length (queue_of code tmu (i + 1))
-count_on code tmu i queued finished after more inside count has taken sent =
-    let next = next_queue code tmu i inside in
-    omega (arith, count, has, taken, sent, next)
-
 -- What is counted before two instructions is the same.
-record IsSame (code : List ℕ) (i to : ℕ) : Type 0 where
-  pending0 : pending_of code 0 i ≡ pending_of code 0 to
-  pending1 : pending_of code 1 i ≡ pending_of code 1 to
-  queue0 : length (queue_of code 0 i) ≡ length (queue_of code 0 to)
-  queue1 : length (queue_of code 1 i) ≡ length (queue_of code 1 to)
+pub record IsSame (code : List ℕ) (i to : ℕ) : Type 0 where
+  pub pending0 : pending_of code 0 i ≡ pending_of code 0 to
+  pub pending1 : pending_of code 1 i ≡ pending_of code 1 to
+  pub queue0 : length (queue_of code 0 i) ≡ length (queue_of code 0 to)
+  pub queue1 : length (queue_of code 1 i) ≡ length (queue_of code 1 to)
 
 jump_same : (code : List ℕ) (n to : ℕ) → HasNoFault code → IsStrict code → n < checked_of code → Jumps code n to → IsSame code (n + 1) to
 jump_same code n to sound strict inside jump =
@@ -65,7 +59,7 @@ jump_same code n to sound strict inside jump =
       queue1 = from.queue1 ∙ sym there.queue1;
     }
 
-goes_same : (h : Home) (n : ℕ) (t next : Thread) → HasNoFault h.code → IsStrict h.code → n < checked_of h.code → (goes : GoesTo h n t next) → IsSame h.code (n + 1) goes.to
+pub goes_same : (h : Home) (n : ℕ) (t next : Thread) → HasNoFault h.code → IsStrict h.code → n < checked_of h.code → (goes : GoesTo h n t next) → IsSame h.code (n + 1) goes.to
 goes_same h n t next sound strict inside goes =
     elim goes.way [
       | inl is ↦ subst (λ i. IsSame h.code (n + 1) i) (sym is) (record { pending0 = refl; pending1 = refl; queue0 = refl; queue1 = refl })
@@ -122,16 +116,8 @@ tmu_goes h n t tmu old queued finished after more fate small sound strict inside
     }
 
 -- behind the end nothing is outstanding
-pub none_left : (code : List ℕ) → HasNoFault code → IsStrict code → (n : ℕ) → n ≡ end_of code + 2 → (length (queue_of code 0 (n + 1)) ≡ 0) × (length (queue_of code 1 (n + 1)) ≡ 0)
-unfolding leaves_requests requests_of
-none_left code sound strict n last =
-    let e : n + 1 ≡ end_of code + 3 = omega (arith, last) in
-    let off = (strict_here code strict (end_of code) (in_checked code (end_of code) sound (omega arith))).leaves in
-    let none = zero_by (length (queue_of code 0 (end_of code + 3)) + length (queue_of code 1 (end_of code + 3)))
-    (behind (end_of code == end_of code) (nat_lt 0 (length (queue_of code 0 (end_of code + 3)) + length (queue_of code 1 (end_of code + 3)))) (eq-eqb (end_of code) (end_of code) refl) off) in
-    let first : length (queue_of code 0 (end_of code + 3)) ≡ 0 = omega (arith, none) in
-    let second : length (queue_of code 1 (end_of code + 3)) ≡ 0 = omega (arith, none) in
-    (ap (λ i. length (queue_of code 0 i)) e ∙ first, ap (λ i. length (queue_of code 1 i)) e ∙ second)
+pub none_left : (code : List ℕ) → HasNoFault code → IsStrict code → (n : ℕ) → n ≡ end_of code + 2 → HasNone code (n + 1)
+none_left code sound strict n last = ends_none code n (strict_here code strict (end_of code) (in_checked code (end_of code) sound (omega arith))).requests.leaves last
 
 -- what is older where the thread comes to
 empty_split : (h : Home) (n to tmu old all : ℕ) (fate : Fate) → tmu < 2 → HasNoFault h.code → IsStrict h.code → n < checked_of h.code → Jumps h.code n to → all ≡ length (queue_of h.code tmu (n + 1))
@@ -195,7 +181,7 @@ done_goes IsOf queued0 queued1 old0 old1 t u uniforms words m here left free =
       over = λ over.
           let last = at_end h i t left.at (fate ∙ over) in
           let none = none_left h.code home.sound left.strict i last in
-          (on0 ∙ none.0, on1 ∙ none.1);
+          (on0 ∙ none.queue0, on1 ∙ none.queue1);
       threaded = went.threaded;
       words = λ switches.
           let switch = at_switch h i t left.at (fate ∙ switches) in

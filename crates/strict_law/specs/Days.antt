@@ -1,7 +1,8 @@
 -- The law for a machine whose jobs come and go.
 use Rattle.std.specs.Prelude.{ℕ, List, [], ◌∷◌}
 use Rattle.machine.specs.Step.{Event}
-use Rattle.day_law.specs.Day.{Day, Happening, Steps, Changes, Finds, Admits, Retires, Resets, AllMayHappen, after, dawn, happen}
+use Rattle.day_law.specs.Day.{AllMayHappen}
+use Rattle.promises.specs.Days.{Day, Happening, Steps, Changes, Finds, Admits, Retires, Resets, after, dawn, happen}
 use Rattle.strict_law.specs.{Forbidden.IsForbidden, Strict.JobStrict}
 
 -- a job that is admitted is strict over the memory as it is then, as if it were alone

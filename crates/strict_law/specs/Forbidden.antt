@@ -1,8 +1,8 @@
 -- What the hardware's guide forbids a thread of a shader processor, said of a state of the machine and of an event in it.
 --
--- What a state doesn't show has no case. That a load takes the oldest request that its processor sent to the TMU is said of all that
--- happened before (`Order`). How many of a processor's eight slots its requests fill isn't said, as none keeps how many words made it; nor
--- that a vertex or coordinate program uses what only fragment programs may, or the other way round, as no thread keeps which it is.
+-- What a state doesn't show has no case, and is said of all that happened before: that a load takes the oldest request that its processor
+-- sent to the TMU (`Order`), how many of the processor's slots its requests fill, as none keeps how many words made it (`Slots`), and that a
+-- thread uses nothing of programs of the other kind, as none keeps which it is (`Roles`).
 use Rattle.std.specs.Prelude.{◌≡◌, ℕ, ◌+◌, ◌-◌, ◌==◌, Bool, true, not, ◌&&◌, ◌||◌, nat_lt, nat_le, length, Some}
 use Rattle.std.specs.Int.{from_le_bytes, w64}
 use Rattle.field_words.specs.declared.access.Actor.TheVariants.{Qpu as TheQpu}
@@ -10,11 +10,11 @@ use Rattle.qpu_isa.specs.Word.{sig_of, waddr_add_of, waddr_mul_of, raddr_a_of, r
 use Rattle.qpu_isa.specs.Terms.{is_alu, is_branch, is_end, has_small, names_address, writes_s}
 use Rattle.qpu_isa.specs.Setups.{kept}
 use Rattle.machine_plan.specs.Memory.{bytes_at}
-use Rattle.qpu_machine.specs.{declared.state.Qpu.Qpu, declared.state.Thread.Thread, Bounds.finished0, Bounds.finished1}
+use Rattle.qpu_machine.specs.{declared.state.Qpu.Qpu, declared.state.Thread.Thread}
 use Rattle.qpu_machine.specs.declared.state.Fate.TheVariants.{Ends, Switches}
 use Rattle.qpu_machine.specs.{Qpu.active_of, Qpu.queued, Qpu.resting_of, Wild.takes_one, Writes.fate_of, Writes.loads}
 use Rattle.machine.specs.{State.State, State.item_at, Step.Event}
-use Rattle.ends_law.specs.Steps.{one_if}
+use Rattle.promises.specs.{Steps.one_if, Finished.unloaded}
 
 -- The event is a step of a processor whose active thread executes this instruction.
 pub record Executes (s : State) (event : Event) (q : Qpu) (t : Thread) (word : ℕ) : Type 0 where
@@ -32,16 +32,12 @@ keeps_words t word = nat_lt 0 (length (kept word 0 0 t.setups0.items)) || nat_lt
 unfoldable pub has_words : Thread → Bool
 has_words t = nat_lt 0 (length t.setups0.items) || nat_lt 0 (length t.setups1.items)
 
--- How many requests and results of the active thread a TMU has, and how many both have of both threads: none of these was loaded.
+-- How many requests and results of the active thread a TMU has: none of these was loaded.
 unfoldable pub unloaded0 : Qpu → Thread → ℕ
 unloaded0 q t = queued q.second q.queue0.items + length t.results0.items
 
 unfoldable pub unloaded1 : Qpu → Thread → ℕ
 unloaded1 q t = queued q.second q.queue1.items + length t.results1.items
-
-unfoldable pub unloaded : Qpu → ℕ
-unloaded q =
-    (length q.queue0.items + length q.queue1.items) + ((finished0 q.first + finished1 q.first) + (finished0 q.other + finished1 q.other))
 
 -- it loads from a TMU that has nothing of the thread
 unfoldable pub loads_nothing : Qpu → Thread → ℕ → Bool

@@ -12,6 +12,7 @@ use Rattle.qpu_machine.specs.declared.state.Fate.{Fate, TheVariants.Ends, TheVar
 use Rattle.qpu_law.specs.{Home.Home, Home.IsAt, Home.ArePending, Thread.IsHome}
 use Rattle.machine.specs.State.{Units}
 use Rattle.machine_law.specs.Units.{EachAt}
+use Rattle.served_law.specs.Known.{AreBeside}
 use Rattle.strict_law.specs.Strict.{IsStrict}
 
 -- The shader stands in this memory.
@@ -66,12 +67,6 @@ next_old Ends old all = 0
 abbrev pub SlotStrict : (ℕ → Home → Type 0) → (queued0 queued1 old0 old1 : ℕ) → Option Thread → Type 0
 SlotStrict IsOf queued0 queued1 old0 old1 None = (queued0 ≡ 0) × (queued1 ≡ 0) × (old0 ≡ 0) × (old1 ≡ 0)
 SlotStrict IsOf queued0 queued1 old0 old1 (Some t) = ThreadStrict IsOf queued0 queued1 old0 old1 t
-
--- two threads that run both run threaded programs
-abbrev pub AreBeside : Option Thread → Option Thread → Type 0
-AreBeside None other = Unit {0}
-AreBeside (Some t) None = Unit {0}
-AreBeside (Some t) (Some o) = (t.threaded ≡ true) × (o.threaded ≡ true)
 
 -- The requests that a processor has sent to a TMU and not loaded: first those of the active thread from before it last became active, then
 -- those of the one that rests, of which all are from before it does again, then the active thread's others.

@@ -1,5 +1,10 @@
 pub mod Forbidden
+pub mod Records
 pub mod Strict
 pub mod Days
 pub mod Order
+pub mod Roles
+pub mod Lists
+pub mod TileSlots
+pub mod Slots
 pub mod Known

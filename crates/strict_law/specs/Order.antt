@@ -12,7 +12,8 @@ use Rattle.machine_plan.specs.{Regions.Interval, Regions.Rights, Regions.HasRead
 use Rattle.machine_plan.specs.Others.{Happening as Sole, Steps as SoleSteps, Changes as SoleChanges, happen as sole_happens, OthersRun}
 use Rattle.machine.specs.{declared.job.Start.Start, State.State, State.Units, State.item_at, State.units_start, Step.Event, Step.ready, Step.turn}
 use Rattle.machine_law.specs.{Jobs.ArePlain, Units.EachAt}
-use Rattle.day_law.specs.Day.{Day, Happening, Steps, Changes, Finds, Admits, Retires, Resets, AllMayHappen, after, dawn, happen}
+use Rattle.day_law.specs.Day.{AllMayHappen}
+use Rattle.promises.specs.Days.{Day, Happening, Steps, Changes, Finds, Admits, Retires, Resets, after, dawn, happen}
 use Rattle.strict_law.specs.{Days.AdmitStrict, Forbidden.Executes, Strict.JobStrict}
 
 -- Of each request it says whether the second thread sent it, or the first one did. Here a thread's oldest is left out.
