@@ -46,20 +46,21 @@ record_passes f j at word records from count records_are from_is count_is none s
     ∙ answered_none (selection_refused f j (record_at at word)) (selection_questions (job_of f j).records (record_at at word) (attribute_count word))
     (selected f j at word records from count records_are from_is count_is ∙ stands)
 
--- How far it has come: what is asked of the states of the bytes that are left decides, and the place of the next source is small.
-pub record IsUnderway (f : FileModel) (j : ℕ) (rest : List ℕ) (at : ℕ) : Type 0 where
+-- How far it has come: where T holds, what is asked of the states of the bytes that are left decides; and the place of the next source is
+-- small.
+pub record IsUnderway (T : Type 0) (f : FileModel) (j : ℕ) (rest : List ℕ) (at : ℕ) : Type 0 where
   pub fuel : ℕ
   pub enough : length rest ≤ fuel
   pub near : at + 176 * length rest ≤ 176 * length (job_of f j).bin
-  pub none : first_of (records_from f j at (states_of (cut fuel rest))) ≡ first_of (records_stage f j)
+  pub none : T → first_of (records_from f j at (states_of (cut fuel rest))) ≡ first_of (records_stage f j)
 
-pub begins : (f : FileModel) (j : ℕ) (list : List ℕ) → list ≡ (job_of f j).bin → IsUnderway f j list 0
+pub begins : (T : Type 0) (f : FileModel) (j : ℕ) (list : List ℕ) → list ≡ (job_of f j).bin → IsUnderway T f j list 0
 unfolding records_stage states_in packets
-begins f j list is = record {
+begins T f j list is = record {
   fuel = length list;
   enough = omega arith;
   near = omega (arith, ap length is);
-  none = ap (λ l. first_of (records_from f j 0 (states_of (cut (length l) l)))) is;
+  none = λ holds. ap (λ l. first_of (records_from f j 0 (states_of (cut (length l) l)))) is;
 }
 
 -- the states of a list whose first packet is one, or isn't
@@ -71,61 +72,60 @@ past : (p : List ℕ) (later : List (List ℕ)) → (opcode p == gl_shader_state
 past p later is = ap (λ b. if b then state (u32_at p 1) (greatest later) ∷ states_of later else states_of later) is
 
 -- what is asked of the bytes that are left, at a packet
-left : (f : FileModel) (j : ℕ) (rest : List ℕ) (at : ℕ) (u : IsUnderway f j rest at) (n : ℕ) → cut u.fuel rest ≡ front_packet rest ∷ cut n (behind rest)
+left : (T : Type 0) (f : FileModel) (j : ℕ) (rest : List ℕ) (at : ℕ) (u : IsUnderway T f j rest at) (holds : T) (n : ℕ) → cut u.fuel rest ≡ front_packet rest ∷ cut n (behind rest)
     → first_of (records_stage f j) ≡ first_of (records_from f j at (states_of (front_packet rest ∷ cut n (behind rest))))
-left f j rest at u n is = sym u.none ∙ ap (λ l. first_of (records_from f j at (states_of l))) is
+left T f j rest at u holds n is = sym (u.none holds) ∙ ap (λ l. first_of (records_from f j at (states_of l))) is
 
 -- the same at a state
-at_state : (f : FileModel) (j : ℕ) (rest : List ℕ) (at : ℕ) (u : IsUnderway f j rest at) (n : ℕ) → cut u.fuel rest ≡ front_packet rest ∷ cut n (behind rest)
+at_state : (T : Type 0) (f : FileModel) (j : ℕ) (rest : List ℕ) (at : ℕ) (u : IsUnderway T f j rest at) (holds : T) (n : ℕ) → cut u.fuel rest ≡ front_packet rest ∷ cut n (behind rest)
     → (opcode (front_packet rest) == gl_shader_state) ≡ true
     → first_of (records_stage f j)
     ≡ first_of (record_questions f j at (u32_at (front_packet rest) 1) ++ records_from f j (at + source_size (u32_at (front_packet rest) 1)) (states_of (cut n (behind rest))))
-at_state f j rest at u n is test =
-    left f j rest at u n is ∙ ap (λ l. first_of (records_from f j at l)) (here (front_packet rest) (cut n (behind rest)) test)
+at_state T f j rest at u holds n is test =
+    left T f j rest at u holds n is ∙ ap (λ l. first_of (records_from f j at l)) (here (front_packet rest) (cut n (behind rest)) test)
 
-pub stops_at : (f : FileModel) (j : ℕ) (rest packet : List ℕ) (at word : ℕ) (refusal : Refusal) → IsUnderway f j rest at → 1 ≤ length rest
+pub stops_at : (T : Type 0) (f : FileModel) (j : ℕ) (rest packet : List ℕ) (at word : ℕ) (refusal : Refusal) → IsUnderway T f j rest at → T → 1 ≤ length rest
     → packet ≡ front_packet rest → (opcode packet == gl_shader_state) ≡ true → word ≡ u32_at packet 1
     → first_of (record_questions f j at word) ≡ Some refusal → first_of (records_stage f j) ≡ Some refusal
-stops_at f j rest packet at word refusal u some is test word_is stands =
+stops_at T f j rest packet at word refusal u holds some is test word_is stands =
     let step = cut_step u.fuel rest some u.enough in
     let same = word_is ∙ ap (λ p. u32_at p 1) is in
-    at_state f j rest at u step.0 step.1.is (sym (ap (λ p. opcode p == gl_shader_state) is) ∙ test)
+    at_state T f j rest at u holds step.0 step.1.is (sym (ap (λ p. opcode p == gl_shader_state) is) ∙ test)
     ∙ stops (record_questions f j at (u32_at (front_packet rest) 1)) _ refusal (sym (ap (λ w. first_of (record_questions f j at w)) same) ∙ stands)
 
-pub goes_on : (f : FileModel) (j : ℕ) (rest packet later : List ℕ) (at word size : ℕ) → IsUnderway f j rest at → 1 ≤ length rest
+pub goes_on : (T : Type 0) (f : FileModel) (j : ℕ) (rest packet later : List ℕ) (at word size : ℕ) → IsUnderway T f j rest at → 1 ≤ length rest
     → packet ≡ front_packet rest → later ≡ behind rest → 1 ≤ length packet → length packet + length later ≤ length rest
-    → (opcode packet == gl_shader_state) ≡ true → word ≡ u32_at packet 1 → first_of (record_questions f j at word) ≡ None
-    → size ≡ source_size word → size ≤ 176 → IsUnderway f j later (at + size)
-goes_on f j rest packet later at word size u some is rest_is long fits test word_is stands size_is limit =
+    → (opcode packet == gl_shader_state) ≡ true → word ≡ u32_at packet 1 → (T → first_of (record_questions f j at word) ≡ None)
+    → size ≡ source_size word → size ≤ 176 → IsUnderway T f j later (at + size)
+goes_on T f j rest packet later at word size u some is rest_is long fits test word_is stands size_is limit =
     let step = cut_step u.fuel rest some u.enough in
     let same = word_is ∙ ap (λ p. u32_at p 1) is in
-    let none = sym (ap (λ w. first_of (record_questions f j at w)) same) ∙ stands in
     record {
       fuel = step.0;
       enough = omega (arith, step.1.enough, ap length rest_is);
       near = omega (arith, u.near, fits, long, limit);
-      none =
+      none = λ holds.
           ap (λ l. first_of (records_from f j (at + size) (states_of (cut step.0 l)))) rest_is
           ∙ ap (λ n. first_of (records_from f j (at + n) (states_of (cut step.0 (behind rest))))) (size_is ∙ ap source_size same)
-          ∙ sym (passes (record_questions f j at (u32_at (front_packet rest) 1)) _ none)
-          ∙ sym (at_state f j rest at u step.0 step.1.is (sym (ap (λ p. opcode p == gl_shader_state) is) ∙ test));
+          ∙ sym (passes (record_questions f j at (u32_at (front_packet rest) 1)) _ (sym (ap (λ w. first_of (record_questions f j at w)) same) ∙ stands holds))
+          ∙ sym (at_state T f j rest at u holds step.0 step.1.is (sym (ap (λ p. opcode p == gl_shader_state) is) ∙ test));
     }
 
 -- another packet
-pub passes_by : (f : FileModel) (j : ℕ) (rest packet later : List ℕ) (at : ℕ) → IsUnderway f j rest at → 1 ≤ length rest
+pub passes_by : (T : Type 0) (f : FileModel) (j : ℕ) (rest packet later : List ℕ) (at : ℕ) → IsUnderway T f j rest at → 1 ≤ length rest
     → packet ≡ front_packet rest → later ≡ behind rest → length packet + length later ≤ length rest
-    → (opcode packet == gl_shader_state) ≡ false → IsUnderway f j later at
-passes_by f j rest packet later at u some is rest_is fits test =
+    → (opcode packet == gl_shader_state) ≡ false → IsUnderway T f j later at
+passes_by T f j rest packet later at u some is rest_is fits test =
     let step = cut_step u.fuel rest some u.enough in
     record {
       fuel = step.0;
       enough = omega (arith, step.1.enough, ap length rest_is);
       near = omega (arith, u.near, fits);
-      none =
+      none = λ holds.
           ap (λ l. first_of (records_from f j at (states_of (cut step.0 l)))) rest_is
           ∙ sym (ap (λ l. first_of (records_from f j at l)) (past (front_packet rest) (cut step.0 (behind rest)) (sym (ap (λ p. opcode p == gl_shader_state) is) ∙ test)))
-          ∙ sym (left f j rest at u step.0 step.1.is);
+          ∙ sym (left T f j rest at u holds step.0 step.1.is);
     }
 
-pub through : (f : FileModel) (j : ℕ) (rest : List ℕ) (at : ℕ) → IsUnderway f j rest at → length rest ≡ 0 → first_of (records_stage f j) ≡ None
-through f j rest at u none = sym u.none ∙ ap (λ l. first_of (records_from f j at (states_of l))) (cut_nothing u.fuel rest none)
+pub through : (T : Type 0) (f : FileModel) (j : ℕ) (rest : List ℕ) (at : ℕ) → IsUnderway T f j rest at → T → length rest ≡ 0 → first_of (records_stage f j) ≡ None
+through T f j rest at u holds none = sym (u.none holds) ∙ ap (λ l. first_of (records_from f j at (states_of l))) (cut_nothing u.fuel rest none)

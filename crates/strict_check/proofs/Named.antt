@@ -1,4 +1,4 @@
--- What the shader uses that a handle names, by the list of all.
+-- What was found of the shader in a buffer, and of that which a handle names, by the list of all.
 use Rattle.std.proofs.Common.{◌≡◌, ◌≤◌, ◌<◌, ◌&&◌, ℕ, Bool, true, false, not, Some, None, List, [], ◌∷◌, ◌++◌, ◌+◌, length, get_or, if◌then◌else◌, refl, sym, ap, zero-add, ◌∙◌}
 use Rattle.std.proofs.lemmas.Bool.{le-ltb, lt-ltb}
 use Rattle.std.proofs.lemmas.List.FromFn.{map-range_with_len_more, length-map-range_with_len, get_or-map-range_with_len}
@@ -8,24 +8,48 @@ use Rattle.buffer_table.specs.{Table.buffer_at, Handles.is_plain, Handles.code_o
 use Rattle.job_format.specs.Model.{FileModel}
 use Rattle.job_check.specs.{Jobs.job_of, Shaders.content_of}
 use Rattle.strict_check.specs.declared.uses.Uses.{Uses}
-use Rattle.strict_check.specs.Uses.{uses_nothing, uses_in, uses_at, uses_up_to, all_uses, uses_behind, uses_named}
+use Rattle.strict_check.specs.Uses.{uses_nothing, uses_in, uses_at, uses_behind, uses_named}
+use Rattle.strict_check.specs.{declared.findings.Findings.Findings, Findings.findings_at, Findings.findings_up_to, Findings.all_findings}
+use Rattle.strict_check.specs.Stages.{code_questions_in, code_refused, code_stage}
+use Rattle.strict_rules.specs.declared.rule.StrictFault.{StrictFault}
+use Rattle.field_words.specs.Questions.{first_of}
+use Rattle.field_words.proofs.Questions.{answered_none, answered_some}
 
 -- one buffer more
-pub uses_none : (f : FileModel) → uses_up_to f 0 ≡ []
-unfolding uses_up_to
-uses_none f = refl
+pub findings_none : (f : FileModel) → findings_up_to f 0 ≡ []
+unfolding findings_up_to
+findings_none f = refl
 
-pub uses_more : (f : FileModel) (n : ℕ) → uses_up_to f (n + 1) ≡ uses_up_to f n ++ (uses_at f n ∷ [])
-unfolding uses_up_to
-uses_more f n = map-range_with_len_more (uses_at f) 0 n n (zero-add n)
+pub findings_more : (f : FileModel) (n : ℕ) → findings_up_to f (n + 1) ≡ findings_up_to f n ++ (findings_at f n ∷ [])
+unfolding findings_up_to
+findings_more f n = map-range_with_len_more (findings_at f) 0 n n (zero-add n)
 
-pub uses_count : (f : FileModel) → length (all_uses f) ≡ length f.buffers
-unfolding uses_up_to
-uses_count f = length-map-range_with_len (uses_at f) 0 (length f.buffers)
+pub findings_count : (f : FileModel) → length (all_findings f) ≡ length f.buffers
+unfolding findings_up_to
+findings_count f = length-map-range_with_len (findings_at f) 0 (length f.buffers)
 
-uses_is : (f : FileModel) (b : ℕ) (x : Uses) → b < length f.buffers → get_or (all_uses f) b x ≡ uses_at f b
-unfolding uses_up_to
-uses_is f b x below = get_or-map-range_with_len (uses_at f) 0 (length f.buffers) b b x below (zero-add b)
+findings_is : (f : FileModel) (b : ℕ) (x : Findings) → b < length f.buffers → get_or (all_findings f) b x ≡ findings_at f b
+unfolding findings_up_to
+findings_is f b x below = get_or-map-range_with_len (findings_at f) 0 (length f.buffers) b b x below (zero-add b)
+
+-- E1 to E7 of buffer b
+fault_is : (f : FileModel) (b : ℕ) (x : Findings) → b < length f.buffers → (get_or (all_findings f) b x).fault ≡ first_of (code_questions_in (buffer_at f.buffers b).kind (content_of f b))
+unfolding findings_at
+fault_is f b x below = ap (λ (y : Findings). y.fault) (findings_is f b x below)
+
+pub code_passes : (f : FileModel) (b : ℕ) (x : Findings) (findings : List Findings) → b < length f.buffers → findings ≡ all_findings f → (get_or findings b x).fault ≡ None
+    → first_of (code_stage f b) ≡ None
+unfolding code_stage
+code_passes f b x findings below are none =
+    answered_none (code_refused f b) (code_questions_in (buffer_at f.buffers b).kind (content_of f b))
+    (sym (fault_is f b x below) ∙ sym (ap (λ l. (get_or l b x).fault) are) ∙ none)
+
+pub code_stands : (f : FileModel) (b : ℕ) (x : Findings) (findings : List Findings) (fault : StrictFault) → b < length f.buffers → findings ≡ all_findings f
+    → (get_or findings b x).fault ≡ Some fault → first_of (code_stage f b) ≡ Some (code_refused f b fault)
+unfolding code_stage
+code_stands f b x findings fault below are some =
+    answered_some (code_refused f b) (code_questions_in (buffer_at f.buffers b).kind (content_of f b)) fault
+    (sym (fault_is f b x below) ∙ sym (ap (λ l. (get_or l b x).fault) are) ∙ some)
 
 -- the handles of job j, and what the one at i names, by whether it is there and has a buffer
 abbrev handles_of : FileModel → ℕ → List ℕ
@@ -62,11 +86,12 @@ past_buffers f j i over =
     ∙ ap (λ b. by_tests f number (nat_lt i (length (handles_of f j))) b (buffer_at f.buffers number).kind) (le-ltb number _ over)
     ∙ none_named f number (nat_lt i (length (handles_of f j))) (buffer_at f.buffers number).kind)
 
-pub at_buffer : (f : FileModel) (j i : ℕ) (none : Uses) → i < length (handles_of f j) → slice_index (handles_of f j) i < length f.buffers
-    → get_or (all_uses f) (slice_index (handles_of f j) i) none ≡ uses_named f j i
+pub at_buffer : (f : FileModel) (j i : ℕ) (none : Findings) → i < length (handles_of f j) → slice_index (handles_of f j) i < length f.buffers
+    → (get_or (all_findings f) (slice_index (handles_of f j) i) none).uses ≡ uses_named f j i
+unfolding findings_at
 at_buffer f j i none inside below =
     let number = slice_index (handles_of f j) i in
-    uses_is f number none below
+    ap (λ (x : Findings). x.uses) (findings_is f number none below)
     ∙ sym (unfolds f j i
     ∙ ap (λ b. by_tests f number b (nat_lt number (length f.buffers)) (buffer_at f.buffers number).kind) (lt-ltb i _ inside)
     ∙ ap (λ b. by_tests f number true b (buffer_at f.buffers number).kind) (lt-ltb number _ below)

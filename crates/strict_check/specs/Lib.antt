@@ -1,3 +1,4 @@
+pub mod Findings
 pub mod Stages
 pub mod Uses
 pub mod Whole

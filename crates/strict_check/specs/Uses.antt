@@ -1,6 +1,5 @@
 -- What the shaders of a file use that not each kind of program may.
-use Rattle.std.specs.Prelude.{ℕ, false, List, length, map, Option, Some, None}
-use Rattle.std.specs.List.{range_with_len}
+use Rattle.std.specs.Prelude.{ℕ, false, List, Option, Some, None}
 use Rattle.buffer_table.specs.{declared.buffer.Kind.Kind, declared.buffer.Kind.TheVariants.Plain, declared.buffer.Kind.TheVariants.Code}
 use Rattle.buffer_table.specs.{Table.buffer_at, Handles.code_of}
 use Rattle.job_format.specs.Model.{FileModel}
@@ -15,19 +14,13 @@ uses_of code = record { vpm = has_vpm_part code; tile = has_tile_part code }
 abbrev pub uses_nothing : Uses
 uses_nothing = record { vpm = false; tile = false }
 
--- those of buffer b, nothing of a Plain one; and all by buffer
+-- those of buffer b, nothing of a Plain one
 abbrev pub uses_in : Kind → List ℕ → Uses
 uses_in Plain content = uses_nothing
 uses_in Code content = uses_of (words_of content)
 
 unfoldable pub uses_at : FileModel → ℕ → Uses
 uses_at f b = uses_in (buffer_at f.buffers b).kind (content_of f b)
-
-unfoldable pub uses_up_to : FileModel → ℕ → List Uses
-uses_up_to f n = map (uses_at f) (range_with_len 0 n)
-
-abbrev pub all_uses : FileModel → List Uses
-all_uses f = uses_up_to f (length f.buffers)
 
 -- those of the shader in the Code buffer that a handle of job j names
 abbrev pub uses_behind : FileModel → Option ℕ → Uses

@@ -5,12 +5,14 @@
 #![tactic(auto)]
 
 mod check;
+mod findings;
 mod lists;
 mod records;
 mod shaders;
 mod uses;
 mod whole;
 
-pub use check::check_strict_parts;
+pub use check::{check_strict_findings, check_strict_parts};
+pub use findings::{Findings, all_findings, findings_in};
 pub use uses::Uses;
 pub use whole::check_strict_bytes;

@@ -5,10 +5,11 @@ ghost use Rattle.field_words.specs.Questions.{GoesOn};
 ghost use Rattle.job_format.specs.File.{IsWellFormed};
 ghost use Rattle.job_format.specs.Parts.{parts_view};
 ghost use Rattle.shader_records.specs.Sources.{handles_size, source_size};
-ghost use Rattle.strict_check.specs.Uses.{all_uses};
+ghost use Rattle.strict_check.specs.Findings.{all_findings};
 ghost use Rattle.strict_check.specs.Stages.{record_refused, use_questions, record_questions, records_stage};
 
-use crate::uses::{Uses, uses_named};
+use crate::findings::Findings;
+use crate::uses::uses_named;
 use bin_list::split_front;
 use job_check::{job_at, part_offset};
 use job_format::{FileParts, Refusal, Rule, Stage};
@@ -48,21 +49,26 @@ fn record_refusal(file: &FileParts, number: usize, rule: u8, at: u64) -> Refusal
 
 /// E8 of the record whose source begins at this place.
 #[tactic(auto, unfolding(crate::specs::Stages::use_questions))]
-fn use_fault(file: &FileParts, number: usize, uses: &[Uses], at: usize) -> Result<(), Refusal>
+fn use_fault(
+    file: &FileParts,
+    number: usize,
+    findings: &[Findings],
+    at: usize,
+) -> Result<(), Refusal>
     requires well_formed { IsWellFormed (parts_view file.now) }
     requires inside { number < length file.now.jobs.items }
-    requires uses { uses.now ≡ all_uses (parts_view file.now) }
     requires near { at < 2 ^ 31 }
-    ensures { GoesOn (use_questions (parts_view file.now) number at) (λ made. Unit {0}) result }
+    ensures { findings.now ≡ all_findings (parts_view file.now)
+        → GoesOn (use_questions (parts_view file.now) number at) (λ made. Unit {0}) result }
 {
     let records = job_at(file, number).records;
-    if uses_named(file, number, uses, word_at(records, at)).vpm {
+    if uses_named(file, number, findings, word_at(records, at)).vpm {
         return Err(record_refusal(file, number, 8, at as u64));
     }
-    if uses_named(file, number, uses, word_at(records, at + 4)).tile {
+    if uses_named(file, number, findings, word_at(records, at + 4)).tile {
         return Err(record_refusal(file, number, 8, at as u64 + 4));
     }
-    if uses_named(file, number, uses, word_at(records, at + 8)).tile {
+    if uses_named(file, number, findings, word_at(records, at + 8)).tile {
         return Err(record_refusal(file, number, 8, at as u64 + 8));
     }
     Ok(())
@@ -90,17 +96,17 @@ fn source_size(word: u32) -> usize
 fn record_fault(
     file: &FileParts,
     number: usize,
-    uses: &[Uses],
+    findings: &[Findings],
     at: usize,
     word: u32,
 ) -> Result<(), Refusal>
     requires well_formed { IsWellFormed (parts_view file.now) }
     requires inside { number < length file.now.jobs.items }
-    requires uses { uses.now ≡ all_uses (parts_view file.now) }
     requires near { at < 2 ^ 31 }
-    ensures { GoesOn (record_questions (parts_view file.now) number at word) (λ made. Unit {0}) result }
+    ensures { findings.now ≡ all_findings (parts_view file.now)
+        → GoesOn (record_questions (parts_view file.now) number at word) (λ made. Unit {0}) result }
 {
-    use_fault(file, number, uses, at)?;
+    use_fault(file, number, findings, at)?;
     let from = at + handles_size(word);
     match selection_fault(job_at(file, number).records, from, attribute_count(word)) {
         Some(place) => Err(record_refusal(file, number, 11, from as u64 + u64::from(place))),
@@ -108,12 +114,16 @@ fn record_fault(
     }
 }
 
-/// E8 and E11 of the records of the job of this number, where `uses` has what the shader of each buffer uses.
-pub(crate) fn records_stage(file: &FileParts, number: usize, uses: &[Uses]) -> Result<(), Refusal>
+/// E8 and E11 of the records of the job of this number, where `findings` has what was found of the shader of each buffer.
+pub(crate) fn records_stage(
+    file: &FileParts,
+    number: usize,
+    findings: &[Findings],
+) -> Result<(), Refusal>
     requires well_formed { IsWellFormed (parts_view file.now) }
     requires inside { number < length file.now.jobs.items }
-    requires uses { uses.now ≡ all_uses (parts_view file.now) }
-    ensures { GoesOn (records_stage (parts_view file.now) number) (λ made. Unit {0}) result }
+    ensures { findings.now ≡ all_findings (parts_view file.now)
+        → GoesOn (records_stage (parts_view file.now) number) (λ made. Unit {0}) result }
 {
     let mut at = 0;
     let mut rest = job_at(file, number).bin;
@@ -121,7 +131,7 @@ pub(crate) fn records_stage(file: &FileParts, number: usize, uses: &[Uses]) -> R
         let (packet, later) = split_front(rest);
         if packet[0] == GL_SHADER_STATE {
             let word = word_at(packet, 1);
-            record_fault(file, number, uses, at, word)?;
+            record_fault(file, number, findings, at, word)?;
             at += source_size(word);
         }
         rest = later;

@@ -2,8 +2,10 @@
 ghost use Rattle.std.specs.Prelude.{◌≡◌, ◌<◌, length};
 ghost use Rattle.job_format.specs.File.{IsWellFormed};
 ghost use Rattle.job_format.specs.Parts.{parts_view};
-ghost use Rattle.strict_check.specs.Uses.{uses_nothing, all_uses, uses_named};
+ghost use Rattle.strict_check.specs.Findings.{all_findings};
+ghost use Rattle.strict_check.specs.Uses.{uses_nothing, uses_named};
 
+use crate::findings::Findings;
 use job_check::job_at;
 use job_format::FileParts;
 
@@ -27,21 +29,26 @@ impl Uses {
     }
 }
 
-/// What the shader uses that a handle of the job of this number names, where `uses` has what the shader of each buffer uses; nothing
-/// where it names no Code buffer.
-pub(crate) fn uses_named(file: &FileParts, number: usize, uses: &[Uses], handle: u32) -> Uses
+/// What the shader uses that a handle of the job of this number names, where `findings` has what was found of the shader of each buffer;
+/// nothing where it names no Code buffer.
+pub(crate) fn uses_named(
+    file: &FileParts,
+    number: usize,
+    findings: &[Findings],
+    handle: u32,
+) -> Uses
     requires well_formed { IsWellFormed (parts_view file.now) }
     requires inside { number < length file.now.jobs.items }
-    requires uses { uses.now ≡ all_uses (parts_view file.now) }
-    ensures { result ≡ uses_named (parts_view file.now) number handle }
+    ensures { findings.now ≡ all_findings (parts_view file.now)
+        → result ≡ uses_named (parts_view file.now) number handle }
 {
     let handles = job_at(file, number).handles.as_slice();
     if handles.len() <= handle as usize {
         return Uses::nothing();
     }
     let buffer = handles[handle as usize] as usize;
-    if uses.len() <= buffer {
+    if findings.len() <= buffer {
         return Uses::nothing();
     }
-    uses[buffer]
+    findings[buffer].uses
 }

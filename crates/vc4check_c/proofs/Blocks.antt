@@ -11,7 +11,10 @@ use Rattle.uniform_stream.specs.Stream.{uniforms_of, is_open}
 use Rattle.shader_check.specs.Info.{samples_of, sample_of, is_sample}
 use Rattle.job_check.specs.Shaders.{words_of, told_of}
 use Rattle.job_check.proofs.Codes.{length_words}
-use Rattle.vc4check_c.specs.Block.{known_whole, known_sample, known_address, block_of, position_in, sample_in, address_in, whole_word, read_of, IsBlockOf}
+use Rattle.vc4check_c.specs.Block.{findings_word, fault_place, findings_in_words, findings_in_block, known_whole, known_sample, known_address, block_of, position_in, sample_in, address_in, whole_word, read_of, IsBlockOf}
+use Rattle.strict_rules.specs.{declared.rule.StrictRule.StrictRule, declared.rule.StrictFault.StrictFault}
+use Rattle.strict_rules.specs.declared.rule.StrictRule.TheVariants.{SetupAtSwitch, SetupAtEnd, Requests, Stretch, LastThree, Coupled, Mutex}
+use Rattle.strict_check.specs.{declared.findings.Findings.Findings, Findings.findings_of}
 use Rattle.vc4check_c.specs.{Shader.told_position, Shader.told_flag, declared.block.Known.Known}
 
 longer : (list : List ℕ) (n : ℕ) → length list ≤ n → length (list ++ (n ∷ [])) ≤ suc n
@@ -102,8 +105,8 @@ addresses_back [] = refl
 addresses_back (word ∷ words) = ap (λ l. word ∷ l) (addresses_back words)
 
 -- How a block reads: its first entry, then as many samples as that says, and then the address words.
-record Reads (shader : ShaderModel) (block : List Known) : Type 0 where
-  pub whole : get_or block 0 (record { words = [] }) ≡ known_whole shader
+record Reads (shader : ShaderModel) (findings : Findings) (block : List Known) : Type 0 where
+  pub whole : get_or block 0 (record { words = [] }) ≡ known_whole shader findings
   pub samples : take (length shader.samples) (drop 1 block) ≡ map known_sample shader.samples
   pub addresses : drop (1 + length shader.samples) block ≡ map known_address shader.address_words
 
@@ -113,9 +116,9 @@ front_taken front rest n is = subst (λ k. take k (front ++ rest) ≡ front) (sy
 rest_left : {X : Type 0} (front rest : List X) (n : ℕ) → n ≡ length front → drop n (front ++ rest) ≡ rest
 rest_left front rest n is = subst (λ k. drop k (front ++ rest) ≡ rest) (sym is) (drop-append_seam front rest)
 
-made_reads : (shader : ShaderModel) → Reads shader (block_of shader)
+made_reads : (shader : ShaderModel) (findings : Findings) → Reads shader findings (block_of shader findings)
 unfolding block_of
-made_reads shader =
+made_reads shader findings =
     let samples = map known_sample shader.samples in
     let addresses = map known_address shader.address_words in
     let n = length shader.samples in
@@ -123,11 +126,11 @@ made_reads shader =
     record {
       whole = refl;
       samples = front_taken samples addresses n counted;
-      addresses = rest_left (known_whole shader ∷ samples) addresses (1 + n) (omega (arith, counted));
+      addresses = rest_left (known_whole shader findings ∷ samples) addresses (1 + n) (omega (arith, counted));
     }
 
-block_reads : (shader : ShaderModel) (block : List Known) → block ≡ block_of shader → Reads shader block
-block_reads shader block is = subst (Reads shader) (sym is) (made_reads shader)
+block_reads : (shader : ShaderModel) (findings : Findings) (block : List Known) → block ≡ block_of shader findings → Reads shader findings block
+block_reads shader findings block is = subst (Reads shader findings) (sym is) (made_reads shader findings)
 
 -- So it reads as that shader.
 abbrev model : ℕ → List Sample → List ℕ → Bool → ShaderModel
@@ -137,7 +140,7 @@ pub made_read : (code : List ℕ) (block : List Known) → IsBlockOf code block 
 unfolding read_of told_of
 made_read code block made =
     let shader : ShaderModel = told_of (words_of code) in
-    let reads = block_reads shader block made.told in
+    let reads = block_reads shader (findings_of (words_of code)) block made.told in
     let count : whole_word block 2 ≡ length shader.samples = ap (λ entry. get_or entry.words 2 0) reads.whole in
     let uniforms : whole_word block 0 ≡ shader.uniforms = ap (λ entry. get_or entry.words 0 0) reads.whole in
     let threaded : (whole_word block 1 == 1) ≡ shader.threaded = ap (λ entry. get_or entry.words 1 0 == 1) reads.whole ∙ flag_back shader.threaded in
@@ -148,3 +151,59 @@ made_read code block made =
     ∙ ap (λ l. model shader.uniforms l read.address_words read.threaded) samples
     ∙ ap (λ l. model shader.uniforms shader.samples l read.threaded) addresses
     ∙ ap (model shader.uniforms shader.samples shader.address_words) threaded
+
+-- And what the strict check found comes back.
+abbrev found : Option StrictFault → (vpm tile : Bool) → Findings
+found fault vpm tile = record { fault = fault; uses = record { vpm = vpm; tile = tile } }
+
+none_back : (vpm tile : Bool) → findings_in_words (findings_word (found None vpm tile)) 0 ≡ found None vpm tile
+unfolding findings_word findings_in_words
+none_back true true = refl
+none_back true false = refl
+none_back false true = refl
+none_back false false = refl
+
+fault_back : (rule : StrictRule) (at : ℕ) (vpm tile : Bool)
+    → findings_in_words (findings_word (found (Some (record { rule = rule; at = at })) vpm tile)) at ≡ found (Some (record { rule = rule; at = at })) vpm tile
+unfolding findings_word findings_in_words
+fault_back SetupAtSwitch at true true = refl
+fault_back SetupAtSwitch at true false = refl
+fault_back SetupAtSwitch at false true = refl
+fault_back SetupAtSwitch at false false = refl
+fault_back SetupAtEnd at true true = refl
+fault_back SetupAtEnd at true false = refl
+fault_back SetupAtEnd at false true = refl
+fault_back SetupAtEnd at false false = refl
+fault_back Requests at true true = refl
+fault_back Requests at true false = refl
+fault_back Requests at false true = refl
+fault_back Requests at false false = refl
+fault_back Stretch at true true = refl
+fault_back Stretch at true false = refl
+fault_back Stretch at false true = refl
+fault_back Stretch at false false = refl
+fault_back LastThree at true true = refl
+fault_back LastThree at true false = refl
+fault_back LastThree at false true = refl
+fault_back LastThree at false false = refl
+fault_back Coupled at true true = refl
+fault_back Coupled at true false = refl
+fault_back Coupled at false true = refl
+fault_back Coupled at false false = refl
+fault_back Mutex at true true = refl
+fault_back Mutex at true false = refl
+fault_back Mutex at false true = refl
+fault_back Mutex at false false = refl
+
+back : (fault : Option StrictFault) (vpm tile : Bool) → findings_in_words (findings_word (found fault vpm tile)) (fault_place fault) ≡ found fault vpm tile
+back None vpm tile = none_back vpm tile
+back (Some fault) vpm tile = fault_back fault.rule fault.at vpm tile
+
+findings_back : (findings : Findings) → findings_in_words (findings_word findings) (fault_place findings.fault) ≡ findings
+findings_back findings = back findings.fault findings.uses.vpm findings.uses.tile
+
+pub made_findings : (code : List ℕ) (block : List Known) → IsBlockOf code block → findings_in_block block ≡ findings_of (words_of code)
+made_findings code block made =
+    let findings = findings_of (words_of code) in
+    let reads = block_reads (told_of (words_of code)) findings block made.told in
+    ap (λ entry. findings_in_words (get_or entry.words 3 0) (get_or entry.words 4 0)) reads.whole ∙ findings_back findings

@@ -1,16 +1,18 @@
 -- The job of an accepted submission may run over each memory that is prepared for it.
-use Rattle.std.proofs.Common.{◌≡◌, ◌==◌, ◌≤◌, ℕ, suc, Bool, true, false, List, [], ◌∷◌, length, map, refl, Some, None, arith, if◌then◌else◌}
+use Rattle.std.proofs.Common.{◌∙◌, ◌≡◌, ◌==◌, ◌≤◌, ℕ, suc, Bool, true, false, List, [], ◌∷◌, length, map, refl, Some, None, arith, if◌then◌else◌}
 use Rattle.std.specs.List.{slice_get, AllByRecursion}
 use Rattle.field_words.specs.{Questions.first_of, Sizes.most_code, Words.IsBytes}
-use Rattle.field_words.proofs.Nones.{front_none, rest_none}
+use Rattle.field_words.proofs.{Nones.front_none, Nones.rest_none, Questions.passes}
 use Rattle.job_format.specs.File.{BufferFits, Fits}
 use Rattle.job_check.specs.Faults.{place_stages}
-use Rattle.accepted_law.specs.{Neighbours.IsFaultless, Prepared.IsPrepared}
+use Rattle.promises.specs.Prepared.{IsFaultless, IsPrepared, MayRunOver}
 use Rattle.accepted_law.proofs.ByteTexts.{bytes_none}
-use Rattle.job_safety.specs.Prepared.{MayRunOver}
+use Rattle.accepted_strict.specs.Files.{FileStrict}
+use Rattle.strict_check.specs.Stages.{strict_stages}
 use Rattle.job_safety.proofs.Prepared.{prepared_jobs_law}
 use Rattle.vc4check_c.specs.{declared.submission.GivenBuffer.GivenBuffer, declared.submission.Submission.Submission}
-use Rattle.vc4check_c.specs.Submission.{content_in, entry_in, file_of, own_questions, submission_questions}
+use Rattle.vc4check_c.specs.Submission.{content_in, entry_in, file_of, own_questions, submission_questions, hardware_questions}
+use Rattle.vc4check_c.specs.Hardware.{slots_stage, guide_stages, hardware_stages}
 use Rattle.vc4check_c.specs.Types.{GivenFits, IsOfTypes}
 use Rattle.vc4check_c.proofs.Submissions.{shaders_few, well_formed}
 
@@ -56,3 +58,16 @@ pub may_run : (s : Submission) → IsOfTypes s → first_of (submission_question
 may_run s types none m prepared =
     let are = faultless s types none in
     prepared_jobs_law (file_of s) are.well_formed are.fits are.none m prepared
+
+-- The strict rules are asked behind all others.
+pub unstrict_none : (s : Submission) → first_of (hardware_questions s) ≡ None → first_of (submission_questions s) ≡ None
+unstrict_none s none =
+    let f = file_of s in
+    passes (own_questions s) (place_stages f) (front_none (own_questions s) (hardware_stages f) none)
+    ∙ front_none (place_stages f) (guide_stages f) (rest_none (own_questions s) (hardware_stages f) none)
+
+-- And none of them is broken.
+pub strict_none : (s : Submission) → first_of (hardware_questions s) ≡ None → FileStrict (file_of s)
+strict_none s none =
+    let f = file_of s in
+    front_none (strict_stages f) (slots_stage f) (rest_none (place_stages f) (guide_stages f) (rest_none (own_questions s) (hardware_stages f) none))

@@ -12,14 +12,14 @@ use Rattle.buffer_table.proofs.Named.{code_is as code_is_named}
 use Rattle.field_words.specs.declared.access.Actor.TheVariants.{Tmu as TheTmu}
 use Rattle.machine_plan.specs.Regions.{Interval, Rights, Inside}
 use Rattle.machine.specs.declared.job.Start.{Start}
-use Rattle.day_law.specs.Day.{Job, Admits, MayHappen}
-use Rattle.driver_law.specs.Driver.{job_in as job_in_file}
+use Rattle.day_law.specs.Day.{MayHappen}
+use Rattle.promises.specs.Holdings.{interval, interval_where, named_buffers, plain_of, codes_of, job_rights, file_rights, start_by, file_starts}
+use Rattle.promises.specs.Holdings.{lists_of as lists_in_file, slot_in, OfEachJob, of_jobs}
+use Rattle.promises.specs.Prepared.{IsPrepared, HasCode, HasContent, IsFaultless}
+use Rattle.promises.specs.{Days.Job, Days.Admits, Drivers.job_in as job_in_file, Sound.Sound, Sound.TexturesReadIn, Sound.ReadInOne}
 use Rattle.driver_law.proofs.Driver.{may_be_admitted_law}
 use Rattle.vc4check_c.specs.Joins.{MayJoin, job_of as job_of_answer}
 use Rattle.machine.specs.{State.State, State.Units, State.units_start, Step.step, Step.job_of as job_of_step}
-use Rattle.machine_law.specs.Sound.{Sound, TexturesReadIn, ReadInOne}
-use Rattle.accepted_law.specs.Holdings.{interval, interval_where, named_buffers, plain_of, codes_of, job_rights, file_rights, start_by, file_starts, lists_of as lists_in_file, slot_in}
-use Rattle.accepted_law.specs.{Prepared.IsPrepared, Prepared.HasCode, Prepared.HasContent, Holdings.OfEachJob}
 use Rattle.accepted_law.proofs.Unshared.{code_number}
 use Rattle.vc4check_c.specs.{declared.submission.GivenBuffer.GivenBuffer, declared.submission.Submission.Submission, declared.submit.Verdict.Verdict}
 use Rattle.vc4check_c.specs.{Jobs.told_lists, Submission.content_in, Submission.entry_in, Submission.job_in, Submission.file_of, Submit.accepted_verdict, Submit.IsTaken, Types.IsOfTypes}
@@ -31,10 +31,14 @@ use Rattle.job_format.specs.{Model.FileModel, Offsets.most_jobs, Reading.file_at
 use Rattle.job_check.specs.{Jobs.layouts_of, Emit.all_lengths_of}
 use Rattle.job_check.proofs.Counted.{as_many_layouts}
 use Rattle.job_safety.proofs.Prepared.{prepared_bytes_law}
-use Rattle.accepted_law.specs.Holdings.{of_jobs}
 use Rattle.vc4check_c.specs.{declared.jobs.JobsAnswer.JobsAnswer, Jobs.no_lists, Jobs.no_layout, Jobs.no_lengths, Jobs.all_lists, Jobs.lists_at, Jobs.accepted_jobs, Places.ArePlaced}
 use Rattle.vc4check_c.specs.Safe.{slot_of, lists_of, told_of, rights_of_job, AreReady, AreSafeToRun}
-use Rattle.vc4check_c.proofs.{MayRun.faultless, MayRun.may_run, Submissions.inside_at}
+use Rattle.accepted_law.proofs.Prepared.{prepared_memories_agree_law}
+use Rattle.accepted_strict.specs.Files.{FileStrict}
+use Rattle.accepted_strict.proofs.Files.{strict_files_obey_law}
+use Rattle.vc4check_c.specs.Obeys.{Obeys, ObeysGuide, AllObeyGuide}
+use Rattle.vc4check_c.proofs.{MayRun.faultless, MayRun.may_run, MayRun.unstrict_none, MayRun.strict_none, Submissions.inside_at}
+use Rattle.vc4check_c.proofs.Places.{unstrict_file, faultless_file, strict_file}
 
 -- Handles one after the other.
 named_append : (code : Bool) (buffers : List GivenBuffer) (xs ys : List ℕ) → named code buffers (xs ++ ys) ≡ named code buffers xs ++ named code buffers ys
@@ -269,10 +273,28 @@ unfolding file_rights file_starts file_of
 submissions_are_safe s old window answer types taken put m ready =
     let told = taken.told in
     let size = length (region_of (file_of s)) in
-    let sound = may_run s types taken.none_stands m (is_prepared s old window answer m taken put ready) in
+    let sound = may_run s types (unstrict_none s taken.none_stands) m (is_prepared s old window answer m taken put ready) in
     let one = sound_alike (file_rights (file_of s)) (plain_of (file_of s)) (data_of_job s) m (units_start (file_starts (file_of s))) (data_by_job s) sound in
     let righted = subst (λ r. Sound (r ∷ []) (data_of_job s) m (units_start (file_starts (file_of s)))) (rights_are s size answer told) one in
     subst (λ a. Sound (rights_of s answer.lists ∷ []) (data_of_job s) m (units_start (a ∷ []))) (start_is s size answer told) righted
+
+-- And none does what the guide forbids.
+prepared_obeys : (f : FileModel) → IsFaultless f → FileStrict f → (m : List ℕ) → IsPrepared f m → Obeys (file_rights f) m (units_start (file_starts f))
+prepared_obeys f accepted strict m prepared =
+    let obeys = strict_files_obey_law f accepted strict in
+    let agree = prepared_memories_agree_law f accepted m prepared in
+    record { never_forbidden = obeys.never_forbidden m agree; takes_oldest = obeys.takes_oldest m agree }
+
+pub submissions_obey : (s : Submission) (old window : List ℕ) (answer : Verdict) → IsOfTypes s → IsTaken s answer → window ≡ with_bytes old 0 (region_of (file_of s))
+    → ObeysGuide s window answer
+unfolding file_rights file_starts file_of
+submissions_obey s old window answer types taken put m ready =
+    let told = taken.told in
+    let size = length (region_of (file_of s)) in
+    let accepted = faultless s types (unstrict_none s taken.none_stands) in
+    let one = prepared_obeys (file_of s) accepted (strict_none s taken.none_stands) m (is_prepared s old window answer m taken put ready) in
+    let righted = subst (λ r. Obeys (r ∷ []) m (units_start (file_starts (file_of s)))) (rights_are s size answer told) one in
+    subst (λ a. Obeys (rights_of s answer.lists ∷ []) m (units_start (a ∷ []))) (start_is s size answer told) righted
 
 -- And the job may join those that are live.
 abbrev job_from : Start → Rights → List Interval → Job
@@ -306,7 +328,7 @@ submissions_may_join s old window answer types taken put d owed =
     ∙ ap (job_from (start_of answer.lists) (rights_of s answer.lists)) (data_is s) in
     subst (λ j. MayHappen d (Admits j)) job
     (may_be_admitted_law d f 0 (record {
-      accepted = faultless s types taken.none_stands;
+      accepted = faultless s types (unstrict_none s taken.none_stands);
       inside = one_job s;
       prepared = is_prepared s old window answer d.state.memory taken put owed.ready;
       apart = record {
@@ -378,7 +400,22 @@ files_are_safe bytes old window answer are placed put m ready =
     let few = placed.spelled.well_formed.few_jobs in
     let some = placed.spelled.well_formed.some_job in
     let size = length (region_of f) in
-    let sound = prepared_bytes_law bytes are placed.none_stands m (are_prepared f old window answer m few some told put ready) in
+    let sound = prepared_bytes_law bytes are (unstrict_file bytes placed.none_stands) m (are_prepared f old window answer m few some told put ready) in
     let righted = subst (λ r. Sound r (plain_of f) m (units_start (file_starts f))) (each_job f (job_rights f) (rights_of_job f answer) (job_rights_are f few size answer told)) sound in
     subst (λ a. Sound (of_jobs f (rights_of_job f answer)) (plain_of f) m (units_start a))
+    (each_job f (λ j. start_by (layout_of f j) (lengths_of f j)) (λ j. start_of (told_of answer j)) (job_start_is f few size answer told)) righted
+
+pub files_obey : (bytes : List ℕ) (old window : List ℕ) (answer : JobsAnswer) → IsBytes bytes → ArePlaced bytes answer
+    → window ≡ with_bytes old 0 (region_of (file_at bytes)) → AllObeyGuide (file_at bytes) window answer
+unfolding file_rights file_starts
+files_obey bytes old window answer are placed put m ready =
+    let f = file_at bytes in
+    let told = placed.told in
+    let few = placed.spelled.well_formed.few_jobs in
+    let some = placed.spelled.well_formed.some_job in
+    let size = length (region_of f) in
+    let prepared = are_prepared f old window answer m few some told put ready in
+    let all = prepared_obeys f (faultless_file bytes are placed.none_stands) (strict_file bytes placed.none_stands) m prepared in
+    let righted = subst (λ r. Obeys r m (units_start (file_starts f))) (each_job f (job_rights f) (rights_of_job f answer) (job_rights_are f few size answer told)) all in
+    subst (λ a. Obeys (of_jobs f (rights_of_job f answer)) m (units_start a))
     (each_job f (λ j. start_by (layout_of f j) (lengths_of f j)) (λ j. start_of (told_of answer j)) (job_start_is f few size answer told)) righted

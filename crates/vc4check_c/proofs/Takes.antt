@@ -7,7 +7,7 @@ use Rattle.relocation.specs.{declared.layout.Layout.Layout, Layout.region_end}
 use Rattle.job_check.specs.{declared.region.Region.Region, Emit.IsInside, Jobs.layout_of, Region.region_of, Region.IsLaid, Region.IsRegion}
 use Rattle.job_check.proofs.Counted.{as_many_layouts, first_layout, first_lengths}
 use Rattle.vc4check_c.specs.{declared.submission.Submission.Submission, declared.submit.Verdict.Verdict}
-use Rattle.vc4check_c.specs.{Submission.file_of, Submission.submission_questions, Submit.accepted_verdict, Submit.IsTaken, Jobs.no_layout, Jobs.no_lengths}
+use Rattle.vc4check_c.specs.{Submission.file_of, Submission.hardware_questions, Submit.accepted_verdict, Submit.IsTaken, Jobs.no_layout, Jobs.no_lengths}
 
 some_job : (s : Submission) → 1 ≤ length (file_of s).jobs
 unfolding file_of
@@ -29,7 +29,7 @@ first_inside : (size : ℕ) (layouts : List Layout) (none : Layout) → 1 ≤ le
 first_inside size [] none some all = absurd (omega (arith, some))
 first_inside size (layout ∷ layouts) none some all = all.0
 
-pub is_taken : (s : Submission) (region : Region) (verdict : Verdict) → first_of (submission_questions s) ≡ None → IsRegion (file_of s) region
+pub is_taken : (s : Submission) (region : Region) (verdict : Verdict) → first_of (hardware_questions s) ≡ None → IsRegion (file_of s) region
     → verdict ≡ accepted_verdict (length region.bytes.items) (get_or region.layouts.items 0 no_layout) (get_or region.lengths.items 0 no_lengths) → IsTaken s verdict
 is_taken s region verdict stands is told =
     let f = file_of s in

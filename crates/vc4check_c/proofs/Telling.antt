@@ -1,12 +1,12 @@
 -- Shaders of which there are blocks are checked ones.
-use Rattle.std.proofs.Common.{◌≡◌, ◌==◌, ◌<◌, ◌≤◌, ◌+◌, ℕ, zero, suc, Bool, true, false, List, [], ◌∷◌, length, map, get_or, refl, sym, ap, subst, Option, Some, None, option_map, IfSome, arith, ◌∙◌, inl, inr, if◌then◌else◌}
+use Rattle.std.proofs.Common.{◌≡◌, ◌==◌, ◌<◌, ◌≤◌, ◌+◌, ℕ, zero, suc, Bool, true, false, List, [], ◌∷◌, length, map, get_or, refl, sym, ap, subst, Option, Some, None, option_map, is_some, IfSome, arith, ◌∙◌, inl, inr, if◌then◌else◌}
 use Rattle.std.proofs.{lemmas.Bool.eqb-true, lemmas.Bool.cases_lt, lemmas.List.length-map, lemmas.List.ext_get_or, lemmas.List.get_or_past}
 use Rattle.std.proofs.lemmas.List.FromFn.{length-map-range_with_len, get_or-map-range_with_len}
 use Rattle.std.proofs.lemmas.Option.{get_or_from_slice_get, slice_get-map, slice_get_within}
 use Rattle.std.specs.List.{slice_get}
 use Rattle.field_words.specs.Questions.{Question, first_of, each}
 use Rattle.field_words.proofs.Questions.{passes, answered_none}
-use Rattle.buffer_table.specs.declared.buffer.Kind.TheVariants.{Plain, Code}
+use Rattle.buffer_table.specs.{declared.buffer.Kind.Kind, declared.buffer.Kind.TheVariants.Plain, declared.buffer.Kind.TheVariants.Code}
 use Rattle.buffer_table.specs.Table.{buffer_at, past_end}
 use Rattle.qpu_isa.specs.Shader.{ShaderModel, IsSoundShader}
 use Rattle.job_check.specs.Shaders.{table_of, words_of, told_of, code_questions, content_of, shader_for, shader_of, shaders_up_to, shaders_of}
@@ -14,9 +14,11 @@ use Rattle.job_check.specs.{Faults.shader_questions_in, Faults.shader_refused, F
 use Rattle.job_check.proofs.Codes.{AllSound, are_shaders}
 use Rattle.vc4check_c.specs.{declared.submission.GivenBuffer.GivenBuffer, declared.submission.Submission.Submission, Block.IsBlockOf}
 use Rattle.shader_records.specs.Inputs.{IsShaped, AreShaped}
-use Rattle.vc4check_c.specs.{Submission.content_in, Submission.entry_in, Submission.file_of, Block.read_of, Block.IsReadable}
-use Rattle.vc4check_c.specs.Telling.{read_in, AreReadable, AreKnown}
-use Rattle.vc4check_c.proofs.{Submissions.inside_at, Blocks.made_read}
+use Rattle.vc4check_c.specs.{Submission.content_in, Submission.entry_in, Submission.file_of, Block.read_of, Block.findings_in_block, Block.IsReadable}
+use Rattle.vc4check_c.specs.Telling.{read_in, findings_by_block, AreReadable, AreKnown}
+use Rattle.strict_check.specs.{declared.findings.Findings.Findings, Findings.findings_of, Findings.findings_nothing, Findings.findings_at, Findings.findings_up_to, Findings.all_findings}
+use Rattle.strict_check.specs.{Stages.code_questions_in, Uses.uses_in, Uses.uses_at}
+use Rattle.vc4check_c.proofs.{Submissions.inside_at, Blocks.made_read, Blocks.made_findings}
 
 -- what a check tells of the shader in a buffer
 told_in : GivenBuffer → Option ShaderModel
@@ -154,6 +156,10 @@ pub where_told : {X : Type 0} {P : Type 0} (told : Option X) (Holds : X → Type
 where_told None Holds promise holds = promise
 where_told (Some told) Holds promise holds = promise holds
 
+pub some_readable : {X : Type 0} (A : X → Type 0) {R : Type 0} (told : Option X) → IfSome told (λ x. A x × R) → is_some told ≡ true → R
+some_readable A None both is = absurd (cc)
+some_readable A (Some told) both is = both.1
+
 -- Blocks that can be read are those of the shaders, where the caller owes no more, and so they tell what is told of the shaders.
 are_blocks : (buffers : List GivenBuffer) → AreKnown buffers → AreReadable buffers (length buffers) → AreBlocks buffers (length buffers)
 are_blocks buffers known readable = λ b given inside here code. known b given here code (readable b given inside here code)
@@ -191,3 +197,42 @@ last_or_before buffers b i given other false last below before here there code r
 pub readable_more : (buffers : List GivenBuffer) (b : ℕ) (given : GivenBuffer) → AreReadable buffers b → slice_get buffers b ≡ Some given
     → (given.kind ≡ 1 → IsReadable given.known.now) → AreReadable buffers (b + 1)
 readable_more buffers b given before here readable = λ i other below there code. last_or_before buffers b i given other (i == b) refl below before here there code readable
+
+-- So is what they tell of the strict check what it would find.
+abbrev found_for : Kind → List ℕ → Findings
+found_for kind content = record { fault = first_of (code_questions_in kind content); uses = uses_in kind content }
+
+found_by : (is_code : Bool) (content : List ℕ) (read : Findings) → (is_code ≡ true → read ≡ findings_of (words_of content))
+    → (if is_code then read else findings_nothing) ≡ found_for (if is_code then Code else Plain) (if is_code then content else [])
+unfolding findings_of
+found_by true content read is = is refl
+found_by false content read is = refl
+
+found_is : (given : GivenBuffer) → (given.kind ≡ 1 → IsBlockOf given.content.now given.known.now) → findings_by_block given ≡ found_for (entry_in given).kind (content_in given)
+unfolding findings_by_block entry_in content_in
+found_is given block =
+    found_by (given.kind == 1) given.content.now (findings_in_block given.known.now) (λ is. made_findings given.content.now given.known.now (block (eqb-true given.kind 1 is)))
+
+finding_is : (s : Submission) (b : ℕ) (given : GivenBuffer) → slice_get s.buffers.now b ≡ Some given → (given.kind ≡ 1 → IsBlockOf given.content.now given.known.now)
+    → findings_at (file_of s) b ≡ findings_by_block given
+unfolding findings_at uses_at
+finding_is s b given here block =
+    ap (λ e. found_for e.kind (content_of (file_of s) b)) (buffer_is s b given here)
+    ∙ ap (found_for (entry_in given).kind) (content_is s b given here)
+    ∙ sym (found_is given block)
+
+pub given_count : (s : Submission) → length (map findings_by_block s.buffers.now) ≡ length (file_of s).buffers
+given_count s = length-map s.buffers.now findings_by_block ∙ sym (as_many s)
+
+pub findings_are : (s : Submission) → AreKnown s.buffers.now → AreReadable s.buffers.now (length s.buffers.now) → map findings_by_block s.buffers.now ≡ all_findings (file_of s)
+unfolding findings_up_to
+findings_are s known readable =
+    let buffers = s.buffers.now in
+    let f = file_of s in
+    ext_get_or findings_nothing (map findings_by_block buffers) (all_findings f) (given_count s ∙ sym (length-map-range_with_len (findings_at f) 0 (length f.buffers)))
+    (λ b below.
+    let inside : b < length buffers = let many = length-map buffers findings_by_block in omega (arith, below, many) in
+    let here = inside_at buffers b inside in
+    mapped_at findings_by_block buffers b here.0 findings_nothing here.1
+    ∙ sym (finding_is s b here.0 here.1 (are_blocks buffers known readable b here.0 inside here.1))
+    ∙ sym (get_or-map-range_with_len (findings_at f) 0 (length f.buffers) b b findings_nothing (omega (arith, below, given_count s)) (omega arith)))

@@ -1,15 +1,33 @@
 -- What is kept of a checked shader for later calls: entries of five words, the first of which tells of the whole shader, and then one for
 -- each sample and each address word.
-use Rattle.std.specs.Prelude.{◌≡◌, ◌≤◌, ◌==◌, ◌+◌, ℕ, List, [], ◌∷◌, ◌++◌, length, map, take, drop, slice_index, slice_index_or, Option, Some, None, if◌then◌else◌}
+use Rattle.std.specs.Prelude.{◌≡◌, ◌≤◌, ◌==◌, ◌+◌, ◌*◌, ◌/◌, ◌%◌, ℕ, List, [], ◌∷◌, ◌++◌, length, map, take, drop, slice_index, slice_index_or, Option, Some, None, if◌then◌else◌}
 use Rattle.field_words.specs.{Sizes.most_code, Questions.first_of, Questions.IsFirst}
 use Rattle.qpu_isa.specs.{declared.inst.Sample.Sample, Shader.ShaderModel, Shader.position, Shader.IsSoundShader}
 use Rattle.job_check.specs.Shaders.{words_of, code_questions, told_of}
 use Rattle.shader_check.specs.declared.fault.ShaderFault.{ShaderFault}
 use Rattle.shader_records.specs.Inputs.{IsShaped}
+use Rattle.strict_rules.specs.{declared.rule.StrictRule.StrictRule, declared.rule.StrictFault.StrictFault, Least.number_of}
+use Rattle.strict_rules.specs.declared.rule.StrictRule.TheVariants.{SetupAtSwitch, SetupAtEnd, Requests, Stretch, LastThree, Coupled, Mutex}
+use Rattle.strict_check.specs.{declared.findings.Findings.Findings, Findings.findings_of}
 use Rattle.vc4check_c.specs.{declared.block.Known.Known, declared.block.MadeAnswer.MadeAnswer, Shader.told_position, Shader.told_flag}
 
-abbrev pub known_whole : ShaderModel → Known
-known_whole shader = record { words = shader.uniforms ∷ told_flag shader.threaded ∷ length shader.samples ∷ 0 ∷ 0 ∷ [] }
+-- a strict rule by its number, 0 for none; and what the strict check found, in two words: the rule and what the shader uses, and the rule's
+-- instruction
+abbrev pub fault_number : Option StrictFault → ℕ
+fault_number None = 0
+fault_number (Some fault) = number_of fault.rule
+
+abbrev pub fault_place : Option StrictFault → ℕ
+fault_place None = 0
+fault_place (Some fault) = fault.at
+
+unfoldable pub findings_word : Findings → ℕ
+findings_word findings = fault_number findings.fault + 8 * told_flag findings.uses.vpm + 16 * told_flag findings.uses.tile
+
+abbrev pub known_whole : ShaderModel → Findings → Known
+known_whole shader findings = record {
+  words = shader.uniforms ∷ told_flag shader.threaded ∷ length shader.samples ∷ findings_word findings ∷ fault_place findings.fault ∷ [];
+}
 
 unfoldable pub known_sample : Sample → Known
 known_sample sample = record {
@@ -19,8 +37,12 @@ known_sample sample = record {
 abbrev pub known_address : ℕ → Known
 known_address word = record { words = word ∷ 0 ∷ 0 ∷ 0 ∷ 0 ∷ [] }
 
-unfoldable pub block_of : ShaderModel → List Known
-block_of shader = known_whole shader ∷ (map known_sample shader.samples ++ map known_address shader.address_words)
+unfoldable pub block_of : ShaderModel → Findings → List Known
+block_of shader findings = known_whole shader findings ∷ (map known_sample shader.samples ++ map known_address shader.address_words)
+
+-- that of the shader which these bytes hold
+abbrev pub block_of_code : List ℕ → List Known
+block_of_code code = block_of (told_of (words_of code)) (findings_of (words_of code))
 
 -- and back
 abbrev pub position_in : ℕ → Option ℕ
@@ -47,6 +69,25 @@ read_of block = record {
   threaded = whole_word block 1 == 1;
 }
 
+-- and of the strict rules
+abbrev pub rule_in : ℕ → StrictRule
+rule_in number =
+    if number == 1 then SetupAtSwitch
+    else (if number == 2 then SetupAtEnd
+    else (if number == 3 then Requests
+    else (if number == 4 then Stretch
+    else (if number == 5 then LastThree
+    else (if number == 6 then Coupled else Mutex)))))
+
+abbrev pub fault_in : (number at : ℕ) → Option StrictFault
+fault_in number at = if number == 0 then None else Some (record { rule = rule_in number; at = at })
+
+unfoldable pub findings_in_words : (word at : ℕ) → Findings
+findings_in_words word at = record { fault = fault_in (word % 8) at; uses = record { vpm = word / 8 % 2 == 1; tile = word / 16 == 1 } }
+
+abbrev pub findings_in_block : List Known → Findings
+findings_in_block block = findings_in_words (whole_word block 3) (whole_word block 4)
+
 -- A block that can be read: it has as many entries as the first says, and what it tells has the shape that the check asks. Blocks that
 -- weren't made of any shader may be like this too.
 pub record IsReadable (block : List Known) : Type 0 where
@@ -58,7 +99,7 @@ pub record IsBlockOf (code : List ℕ) (block : List Known) : Type 0 where
   pub few : length code ≤ most_code
   pub none_stands : first_of (code_questions code) ≡ None
   pub sound : IsSoundShader (told_of (words_of code))
-  pub told : block ≡ block_of (told_of (words_of code))
+  pub told : block ≡ block_of_code code
 
 -- what is told of a made block, and of a refused shader
 abbrev pub made_answer : List Known → MadeAnswer

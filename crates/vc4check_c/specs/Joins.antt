@@ -1,7 +1,8 @@
 -- What a driver owes when it hands a submission in beside the jobs that are live, and that its job may join them then.
 use Rattle.std.specs.Prelude.{ℕ, ◌∷◌, ◌++◌, List}
 use Rattle.machine_plan.specs.Regions.{Inside, IsOutside, rights_of as rights_of_number}
-use Rattle.day_law.specs.Day.{Day, Job, Admits, MayHappen, OnlyReads, rights_in}
+use Rattle.day_law.specs.Day.{MayHappen}
+use Rattle.promises.specs.Days.{Day, Job, Admits, OnlyReads, rights_in}
 use Rattle.vc4check_c.specs.declared.{submission.Submission.Submission, submit.Verdict.Verdict}
 use Rattle.vc4check_c.specs.Safe.{data_buffers, code_buffers, slot_of, lists_of, rights_of, start_of, IsReady}
 
@@ -16,6 +17,6 @@ pub record MayHandIn (s : Submission) (window : List ℕ) (answer : Verdict) (d 
 abbrev pub job_of : Submission → Verdict → Job
 job_of s answer = record { start = start_of answer.lists; rights = rights_of s answer.lists; plain = data_buffers s }
 
--- On each such day it may be admitted; and so the machine stays safe for ever, as `DriversAreSafe` (driver_law) says.
+-- On each such day it may be admitted; and so the machine stays safe for ever, as `DriversAreSafe` (promises) says.
 abbrev pub MayJoin : Submission → (window : List ℕ) → Verdict → Type 0
 MayJoin s window answer = (d : Day) → MayHandIn s window answer d → MayHappen d (Admits (job_of s answer))

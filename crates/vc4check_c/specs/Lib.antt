@@ -1,7 +1,9 @@
 pub mod Block
 pub mod Bound
+pub mod Hardware
 pub mod Jobs
 pub mod Joins
+pub mod Obeys
 pub mod Places
 pub mod Safe
 pub mod Sentence

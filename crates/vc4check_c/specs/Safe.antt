@@ -4,10 +4,9 @@ use Rattle.std.specs.Prelude.{◌≡◌, ℕ, zero, suc, ◌<◌, ◌+◌, ◌-�
 use Rattle.field_words.specs.{Sizes.slot_size, Writes.zeros}
 use Rattle.machine_plan.specs.Regions.{Interval, Rights}
 use Rattle.machine.specs.{declared.job.Start.Start, State.units_start}
-use Rattle.machine_law.specs.Sound.{Sound}
+use Rattle.promises.specs.{Sound.Sound, Holdings.plain_of, Holdings.codes_of, Holdings.of_jobs}
 use Rattle.vc4check_c.specs.{declared.jobs.JobLists.JobLists, declared.submission.GivenBuffer.GivenBuffer, declared.submission.Submission.Submission}
 use Rattle.job_format.specs.Model.{FileModel}
-use Rattle.accepted_law.specs.{Holdings.plain_of, Holdings.codes_of, Holdings.of_jobs}
 use Rattle.buffer_table.specs.{Table.buffer_at, Handles.code_of}
 use Rattle.job_check.specs.{Shaders.table_of, Shaders.content_of, Jobs.job_of}
 use Rattle.vc4check_c.specs.{declared.submit.Verdict.Verdict, declared.jobs.JobsAnswer.JobsAnswer, Jobs.no_lists}

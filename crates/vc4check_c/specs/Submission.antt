@@ -9,7 +9,7 @@ use Rattle.job_format.specs.{Rules.format_rule_number, Model.JobModel, Model.Fil
 use Rattle.job_format.specs.Offsets.{most_buffers, most_handles, most_states, entry_offset}
 use Rattle.job_check.specs.Faults.{refused, place_stages}
 use Rattle.vc4check_c.specs.{declared.submission.GivenBuffer.GivenBuffer, declared.submission.GivenSurface.GivenSurface}
-use Rattle.vc4check_c.specs.{declared.submission.GivenFrame.GivenFrame, declared.submission.Submission.Submission}
+use Rattle.vc4check_c.specs.{declared.submission.GivenFrame.GivenFrame, declared.submission.Submission.Submission, Hardware.hardware_stages}
 
 unfoldable pub surface_in : GivenSurface → Surface
 surface_in given = record { hindex = given.hindex; offset = given.offset; bits = given.bits; flags = given.flags }
@@ -110,6 +110,10 @@ job_questions_of s = job_questions s (entry_offset (length s.buffers.now))
 unfoldable pub own_questions : Submission → List (Question Refusal)
 own_questions s = over (length s.buffers.now) most_buffers 28 ∷ (entries_questions s.buffers.now ++ job_questions_of s)
 
--- All rules of a submission, in the order of refusal: its own, and those of the file that it stands for.
+-- All rules of a submission but the strict ones, in the order of refusal: its own, and those of the file that it stands for.
 abbrev pub submission_questions : Submission → List (Question Refusal)
 submission_questions s = own_questions s ++ place_stages (file_of s)
+
+-- and with the strict ones behind them, as hardware needs
+abbrev pub hardware_questions : Submission → List (Question Refusal)
+hardware_questions s = own_questions s ++ hardware_stages (file_of s)

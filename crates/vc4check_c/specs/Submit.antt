@@ -8,7 +8,7 @@ use Rattle.job_check.specs.{Emit.lengths_of, Emit.IsInside, Jobs.layout_of, decl
 use Rattle.job_check.specs.Region.{region_of, IsRegion}
 use Rattle.vc4check_c.specs.{declared.spot.Spot.Spot, declared.submission.Submission.Submission, declared.submit.Told.Told, Jobs.letter_code}
 use Rattle.vc4check_c.specs.{declared.submit.Verdict.Verdict, Jobs.told_lists, Jobs.no_lists, Spots.IsAt}
-use Rattle.vc4check_c.specs.Submission.{file_of, submission_questions}
+use Rattle.vc4check_c.specs.Submission.{file_of, hardware_questions}
 
 -- of an accepted one: how many bytes its lists take, where they lie and how long they are
 unfoldable pub accepted_verdict : ℕ → Layout → Lengths → Verdict
@@ -36,7 +36,7 @@ refused_verdict refusal spot = record {
 
 -- No rule stands of the submission; its lists lie in the lists' region in their order; and this is told.
 pub record IsTaken (s : Submission) (verdict : Verdict) : Type 0 where
-  pub none_stands : first_of (submission_questions s) ≡ None
+  pub none_stands : first_of (hardware_questions s) ≡ None
   pub inside : length (region_of (file_of s)) ≤ s.lists_size
   pub placed : IsInside (region_end (file_of s).regions) (layout_of (file_of s) 0)
   pub told : verdict ≡ accepted_verdict (length (region_of (file_of s))) (layout_of (file_of s) 0) (lengths_of (file_of s) 0)
@@ -49,13 +49,13 @@ pub record IsFront (s : Submission) (old new : List ℕ) (verdict : Verdict) : T
 
 -- What the check of a submission answers: its lists, or the first rule that stands and the place of its offset.
 abbrev pub Tells : Submission → Result Region (Stop Told) → Type 0
-Tells s (Ok region) = (first_of (submission_questions s) ≡ None) × IsRegion (file_of s) region
-Tells s (Err (Fault told)) = (first_of (submission_questions s) ≡ Some told.refusal) × IsAt (file_of s) told.refusal told.spot
+Tells s (Ok region) = (first_of (hardware_questions s) ≡ None) × IsRegion (file_of s) region
+Tells s (Err (Fault told)) = (first_of (hardware_questions s) ≡ Some told.refusal) × IsAt (file_of s) told.refusal told.spot
 Tells s (Err NoMemory) = Unit {0}
 
 -- A rule stands, none before it in the order of refusal does, and it is told, with the place of its offset.
 pub record IsRefusedAt (s : Submission) (refusal : Refusal) (verdict : Verdict) : Type 0 where
-  pub first : IsFirst (submission_questions s) refusal
+  pub first : IsFirst (hardware_questions s) refusal
   pub spot : Spot
   pub at : IsAt (file_of s) refusal spot
   pub told : verdict ≡ refused_verdict refusal spot

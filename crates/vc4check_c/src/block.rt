@@ -4,9 +4,11 @@ ghost use Rattle.field_words.specs.Sizes.{most_code};
 ghost use Rattle.field_words.specs.Questions.{Answers, first_of};
 ghost use Rattle.qpu_isa.specs.Shader.{shader_view, sample_at, address_at};
 ghost use Rattle.shader_records.specs.Inputs.{IsShapedSample};
-ghost use Rattle.job_check.specs.Shaders.{words_of, code_questions, told_of};
+ghost use Rattle.job_check.specs.Shaders.{words_of, code_questions};
+ghost use Rattle.strict_rules.specs.Least.{number_of};
+ghost use Rattle.strict_check.specs.Findings.{findings_of};
 ghost use Rattle.vc4check_c.specs.Shader.{with_front};
-ghost use Rattle.vc4check_c.specs.Block.{known_sample, known_address, block_of, made_answer, position_in, sample_in, address_in, whole_word, read_of, IsReadable, IsBlockOf, IsUnmade};
+ghost use Rattle.vc4check_c.specs.Block.{known_sample, known_address, findings_word, fault_number, block_of, block_of_code, made_answer, rule_in, findings_in_words, findings_in_block, position_in, sample_in, address_in, whole_word, read_of, IsReadable, IsBlockOf, IsUnmade};
 
 use crate::shader::position;
 use crate::status::{ACCEPTED, NO_MEMORY, REFUSED, SHORT, TOO_LONG};
@@ -15,6 +17,8 @@ use job_check::shader_in;
 use qpu_isa::{Sample, ShaderInfo};
 use shader_check::ShaderFault;
 use std::alloc::{AllocError, Global};
+use strict_check::{Findings, Uses, findings_in};
+use strict_rules::{StrictFault, StrictRule};
 
 /// An entry of what is kept of a checked shader: the first tells of the whole shader, and each other of a sample or an address
 /// word.
@@ -74,14 +78,35 @@ fn known_addresses(alloc: Global, words: &[u32]) -> Result<Vec<Known>, AllocErro
     Ok(entries)
 }
 
+/// The number of a strict rule that is broken, 0 for none, and what the shader uses, in one word.
+#[tactic(auto, unfolding(crate::specs::Block::findings_word))]
+fn findings_word(findings: &Findings) -> u32
+    ensures { result ≡ findings_word findings.now }
+{
+    let number = match findings.fault {
+        Some(fault) => u32::from(fault.rule.number()),
+        None => 0,
+    };
+    number + 8 * u32::from(findings.uses.vpm) + 16 * u32::from(findings.uses.tile)
+}
+
 /// What is kept of a shader.
 #[tactic(auto, unfolding(crate::specs::Block::block_of))]
-fn block_of(alloc: Global, info: &ShaderInfo) -> Result<Vec<Known>, AllocError>
+fn block_of(alloc: Global, info: &ShaderInfo, findings: &Findings) -> Result<Vec<Known>, AllocError>
     requires { length info.now.samples.items < 4294967296 }
-    ensures { IfOk result (λ block. block.items ≡ block_of (shader_view info.now)) }
+    ensures { IfOk result (λ block. block.items ≡ block_of (shader_view info.now) findings.now) }
 {
-    let count = info.samples.len() as u32;
-    let words = [info.uniforms, u32::from(info.threaded), count, 0, 0];
+    let place = match findings.fault {
+        Some(fault) => fault.at,
+        None => 0,
+    };
+    let words = [
+        info.uniforms,
+        u32::from(info.threaded),
+        info.samples.len() as u32,
+        findings_word(findings),
+        place,
+    ];
     let mut block = vec![in alloc; Known { words }]?;
     block.extend_from_slice(&known_samples(alloc, &info.samples)?)?;
     block.extend_from_slice(&known_addresses(alloc, &info.address_words)?)?;
@@ -94,7 +119,8 @@ fn made(alloc: Global, code: &[u8]) -> Result<Vec<Known>, Stop<ShaderFault>>
     ensures { Answers (code_questions code.now) (λ block. IsBlockOf code.now block.items) result }
 {
     let info = shader_in(alloc, code)?;
-    Ok(block_of(alloc, &info)?)
+    let findings = findings_in(alloc, code)?;
+    Ok(block_of(alloc, &info, &findings)?)
 }
 
 /// Puts a block to the room's start, or says that the room is too small.
@@ -130,11 +156,12 @@ pub extern "C" fn vc4check_make_shader(
     answer: &mut MadeAnswer,
 ) -> u32
     ensures statuses { result ≤ 4 }
-    ensures accepted { (result ≡ 0) ⊎ (result ≡ 2) → IsBlockOf code.now (block_of (told_of (words_of code.now))) }
-    ensures told { (result ≡ 0) ⊎ (result ≡ 2) → answer.new ≡ made_answer (block_of (told_of (words_of code.now))) }
-    ensures written { result ≡ 0 → room.new ≡ with_front room.old (block_of (told_of (words_of code.now))) }
-    ensures refused { result ≡ 1 → IsUnmade code.now (first_of (code_questions code.now)) answer.new }
-    ensures room { result ≡ 2 → length room.old < length (block_of (told_of (words_of code.now))) }
+    ensures accepted { (result ≡ 0) ⊎ (result ≡ 2) → IsBlockOf code.now (block_of_code code.now) }
+    ensures told { (result ≡ 0) ⊎ (result ≡ 2) → answer.new ≡ made_answer (block_of_code code.now) }
+    ensures written { result ≡ 0 → room.new ≡ with_front room.old (block_of_code code.now) }
+    ensures refused { result ≡ 1 → IsUnmade code.now (first_of (code_questions code.now))
+        answer.new }
+    ensures room { result ≡ 2 → length room.old < length (block_of_code code.now) }
     ensures long { (result ≡ 4) ↔ (most_code < length code.now) }
     ensures kept { result ≢ 0 → room.new ≡ room.old }
     ensures silent { 2 < result → answer.new ≡ answer.old }
@@ -225,6 +252,54 @@ fn read(alloc: Global, block: &[Known]) -> Result<ShaderInfo, AllocError>
     })
 }
 
+/// A strict rule by its number, the last for any other.
+fn rule_in(number: u32) -> StrictRule
+    ensures { result ≡ rule_in number }
+{
+    match number {
+        1 => StrictRule::SetupAtSwitch,
+        2 => StrictRule::SetupAtEnd,
+        3 => StrictRule::Requests,
+        4 => StrictRule::Stretch,
+        5 => StrictRule::LastThree,
+        6 => StrictRule::Coupled,
+        _ => StrictRule::Mutex,
+    }
+}
+
+/// What was found of a shader by the strict check, in two words.
+#[tactic(auto, unfolding(crate::specs::Block::findings_in_words))]
+fn findings_in_words(word: u32, at: u32) -> Findings
+    ensures { result ≡ findings_in_words word at }
+{
+    let number = word % 8;
+    let fault = if number == 0 {
+        None
+    } else {
+        Some(StrictFault {
+            rule: rule_in(number),
+            at,
+        })
+    };
+    let uses = Uses {
+        vpm: word / 8 % 2 == 1,
+        tile: word / 16 == 1,
+    };
+    Findings { fault, uses }
+}
+
+/// What a block tells of that: nothing where it has no entry.
+#[tactic(auto, unfolding(crate::specs::Block::findings_in_words))]
+pub(crate) fn findings_in_block(block: &[Known]) -> Findings
+    ensures { result ≡ findings_in_block block.now }
+{
+    if block.is_empty() {
+        return findings_in_words(0, 0);
+    }
+    let [_, _, _, word, at] = block[0].words;
+    findings_in_words(word, at)
+}
+
 /// Whether a position of a sample is in the stream of so many uniforms, or there is none.
 fn is_inside(position: Option<u32>, uniforms: u32) -> bool
     ensures { result ≡ true → (k : ℕ) → position ≡ Some k → k < uniforms }
@@ -279,7 +354,8 @@ pub(crate) fn shader_in_block(
     alloc: Global,
     block: &[Known],
 ) -> Result<Option<ShaderInfo>, AllocError>
-    ensures { IfOk result (λ found. IfSome found (λ info. IsReadable block.now × (shader_view info ≡ read_of block.now))) }
+    ensures { IfOk result (λ found. IfSome found
+        (λ info. IsReadable block.now × (shader_view info ≡ read_of block.now))) }
 {
     if block.is_empty() || block.len() < 1 + block[0].words[2] as usize {
         return Ok(None);

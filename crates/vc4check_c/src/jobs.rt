@@ -194,7 +194,8 @@ pub extern "C" fn vc4check_check(
 ) -> u32
     ensures statuses { result ≤ 3 }
     ensures accepted { result ≡ 0 → AreAccepted bytes.now answer.new }
-    ensures relocated { result ≡ 0 → block.new ≡ with_bytes block.old 0 (memory_of (file_at bytes.now)) }
+    ensures relocated { result ≡ 0 → block.new
+        ≡ with_bytes block.old 0 (memory_of (file_at bytes.now)) }
     ensures refused { result ≡ 1 → AreRefused bytes.now (refusal_of bytes.now) answer.new }
     ensures short { result ≡ 2 → AreAccepted bytes.now answer.new }
     ensures fits { result ≡ 0 → length (memory_of (file_at bytes.now)) ≤ length block.old }

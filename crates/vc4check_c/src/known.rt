@@ -2,12 +2,13 @@
 ghost use Rattle.std.specs.Prelude.{◌≡◌, length, map, slice_get, Some, IfOk, IfSome};
 ghost use Rattle.shader_records.specs.Inputs.{shader_option, shaders_view};
 ghost use Rattle.vc4check_c.specs.Block.{IsReadable};
-ghost use Rattle.vc4check_c.specs.Telling.{read_in, AreReadable};
+ghost use Rattle.vc4check_c.specs.Telling.{read_in, findings_by_block, AreReadable};
 
-use crate::block::shader_in_block;
+use crate::block::{findings_in_block, shader_in_block};
 use crate::submission::GivenBuffer;
 use qpu_isa::ShaderInfo;
 use std::alloc::{AllocError, Global};
+use strict_check::Findings;
 
 /// What a buffer's block tells of its shader, of which a Plain one has none; and `None` where the block can't be read.
 #[tactic(auto, unfolding(crate::specs::Telling::read_in))]
@@ -52,4 +53,30 @@ pub(crate) fn shaders_in(
         }
     }
     Ok(Some(shaders))
+}
+
+/// What a buffer's block tells of the strict check of its shader, of which a Plain one has none.
+#[tactic(auto, unfolding(crate::specs::Telling::findings_by_block))]
+fn findings_by_block(given: &GivenBuffer) -> Findings
+    ensures { result ≡ findings_by_block given.now }
+{
+    if given.kind == 1 {
+        findings_in_block(given.known)
+    } else {
+        Findings::nothing()
+    }
+}
+
+/// What the blocks of all buffers tell of it, one entry for each buffer.
+pub(crate) fn findings_in(
+    alloc: Global,
+    buffers: &[GivenBuffer],
+) -> Result<Vec<Findings>, AllocError>
+    ensures { IfOk result (λ findings. findings.items ≡ map findings_by_block buffers.now) }
+{
+    let mut findings = Vec::with_capacity(alloc, buffers.len())?;
+    for given in buffers {
+        findings.push(findings_by_block(given))?;
+    }
+    Ok(findings)
 }

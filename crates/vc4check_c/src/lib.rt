@@ -6,6 +6,7 @@
 
 mod block;
 mod bound;
+mod hardware;
 mod jobs;
 mod known;
 mod place;

@@ -58,7 +58,8 @@ fn put_text(text: &[u8], room: &mut [u8])
 #[tactic(auto, unfolding(crate::specs::Sentence::c_text))]
 pub extern "C" fn vc4check_sentence(letter: u32, number: u32, room: &mut [u8]) -> usize
     ensures whole { result ≡ length (sentence_told letter number) }
-    ensures told { room.new ≡ with_front room.old (c_text (length room.old) (sentence_told letter number)) }
+    ensures told { room.new ≡ with_front room.old
+        (c_text (length room.old) (sentence_told letter number)) }
 {
     let text = sentence(letter, number);
     if !room.is_empty() {

@@ -142,9 +142,12 @@ pub extern "C" fn vc4check_shader(
     ensures statuses { result ≤ 4 }
     ensures accepted { result ≡ 0 → IsAcceptedShader code.now answer.new }
     ensures sound { result ≡ 0 → IsSoundShader (told_of code.now) }
-    ensures samples { result ≡ 0 → samples.new ≡ with_front samples.old (map told_sample (samples_of code.now)) }
-    ensures address_words { result ≡ 0 → address_words.new ≡ with_front address_words.old (address_words_of code.now) }
-    ensures refused { result ≡ 1 → IsRefusedShader code.now (first_of (shader_questions code.now)) answer.new }
+    ensures samples { result ≡ 0 → samples.new
+        ≡ with_front samples.old (map told_sample (samples_of code.now)) }
+    ensures address_words { result ≡ 0 → address_words.new
+        ≡ with_front address_words.old (address_words_of code.now) }
+    ensures refused { result ≡ 1 → IsRefusedShader code.now (first_of (shader_questions code.now))
+        answer.new }
     ensures short { result ≡ 2 → IsAcceptedShader code.now answer.new }
     ensures room { result ≡ 2 → ((length samples.old < length (samples_of code.now))
         ⊎ (length address_words.old < length (address_words_of code.now))) }

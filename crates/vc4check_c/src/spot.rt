@@ -127,8 +127,10 @@ fn content(index: u32, offset: u64) -> Spot
 fn content_spot(buffers: &[Buffer], is_end: bool, rest: u64) -> Spot
     requires { length buffers.now ≤ most_buffers }
     ensures part { result.part ≡ 3 }
-    ensures adds { sum (map (λ b. b.content) (take result.index buffers.now)) + result.offset ≡ rest }
-    ensures index { IsIn (length buffers.now) result.index result.offset (content_room buffers.now is_end result.index) }
+    ensures adds { sum (map (λ b. b.content) (take result.index buffers.now))
+        + result.offset ≡ rest }
+    ensures index { IsIn (length buffers.now) result.index result.offset
+        (content_room buffers.now is_end result.index) }
 {
     let mut index = 0;
     let mut at = 0;

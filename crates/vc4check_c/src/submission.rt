@@ -180,7 +180,8 @@ fn entry_fault(given: &GivenBuffer, at: usize) -> Option<Refusal>
 fn entry_at(buffers: &[GivenBuffer], b: usize) -> Result<Buffer, Stop<Refusal>>
     requires few { b ≤ most_buffers }
     requires inside { b < length buffers.now }
-    ensures { Answers (buffer_questions buffers.now b) (λ buffer. slice_get (map entry_in buffers.now) b ≡ Some buffer) result }
+    ensures { Answers (buffer_questions buffers.now b)
+        (λ buffer. slice_get (map entry_in buffers.now) b ≡ Some buffer) result }
 {
     match buffers.get(b) {
         Some(given) => match entry_fault(given, HEADER_SIZE + ENTRY_SIZE * b) {
@@ -194,7 +195,8 @@ fn entry_at(buffers: &[GivenBuffer], b: usize) -> Result<Buffer, Stop<Refusal>>
 /// The entries of all buffers.
 fn entries(alloc: Global, buffers: &[GivenBuffer]) -> Result<Vec<Buffer>, Stop<Refusal>>
     requires { length buffers.now ≤ most_buffers }
-    ensures { Answers (entries_questions buffers.now) (λ entries. entries.items ≡ map entry_in buffers.now) result }
+    ensures { Answers (entries_questions buffers.now)
+        (λ entries. entries.items ≡ map entry_in buffers.now) result }
 {
     let mut entries = Vec::with_capacity(alloc, buffers.len())?;
     for b in 0..buffers.len() {
@@ -250,7 +252,8 @@ fn job_fault(given: &Submission, at: usize) -> Option<Refusal>
 
 /// The contents of all buffers.
 fn contents<'a>(alloc: Global, buffers: &[GivenBuffer<'a>]) -> Result<Vec<&'a [u8]>, AllocError>
-    ensures { IfOk result (λ contents. map (λ c. c.now) contents.items ≡ map content_in buffers.now) }
+    ensures { IfOk result (λ contents. map (λ c. c.now) contents.items
+        ≡ map content_in buffers.now) }
 {
     let mut contents = Vec::with_capacity(alloc, buffers.len())?;
     for given in buffers {
@@ -278,7 +281,8 @@ fn job_in<'a>(given: &Submission<'a>) -> JobParts<'a>
 /// The entries of the buffers, where nothing is wrong with the submission's own numbers.
 #[tactic(auto, unfolding(crate::specs::Submission::own_questions), using(field_words::proofs::Questions::passes, field_words::proofs::Questions::stops))]
 fn checked_entries(alloc: Global, given: &Submission) -> Result<Vec<Buffer>, Stop<Refusal>>
-    ensures { Answers (own_questions given.now) (λ entries. entries.items ≡ map entry_in given.now.buffers.now) result }
+    ensures { Answers (own_questions given.now)
+        (λ entries. entries.items ≡ map entry_in given.now.buffers.now) result }
 {
     let count = given.buffers.len();
     if count > MOST_BUFFERS as usize {
@@ -297,7 +301,8 @@ pub(crate) fn parts_in<'a>(
     alloc: Global,
     given: &Submission<'a>,
 ) -> Result<FileParts<'a>, Stop<Refusal>>
-    ensures { Answers (own_questions given.now) (λ parts. parts_view parts ≡ file_of given.now) result }
+    ensures { Answers (own_questions given.now)
+        (λ parts. parts_view parts ≡ file_of given.now) result }
 {
     let buffers = checked_entries(alloc, given)?;
     Ok(FileParts {

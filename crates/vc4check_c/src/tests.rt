@@ -97,7 +97,7 @@ fn refuses(rt: HostRuntime) -> Result<(), Fail> {
     assert_eq!(rt; status, REFUSED);
     assert_eq!(rt; answer, told);
     assert_eq!(rt; block.get(0).copied(), Some(0xa5));
-    assert_eq!(rt; vc4check_version(), 4);
+    assert_eq!(rt; vc4check_version(), 5);
     Ok(())
 }
 

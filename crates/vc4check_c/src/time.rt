@@ -36,7 +36,8 @@ fn check_afresh(
 #[tactic(auto, using(field_words::proofs::Questions::passes, field_words::proofs::Questions::stops))]
 fn bound_of(alloc: Global, given: &Submission) -> Result<Bound, Stop<Refusal>>
     requires types { IsOfTypes given.now }
-    ensures { Answers (submission_questions given.now) (λ bound. bound ≡ bound_in (file_of given.now)) result }
+    ensures { Answers (submission_questions given.now)
+        (λ bound. bound ≡ bound_in (file_of given.now)) result }
 {
     let parts = parts_in(alloc, given)?;
     let region = check_afresh(alloc, given, &parts)?;
@@ -77,7 +78,8 @@ pub extern "C" fn vc4check_submission_bound(
     ensures ends { result ≡ 0 → KeepsEnd (file_of submission.now) }
     // So do the steps for the job alone, where jobs come and go.
     ensures lives { result ≡ 0 → KeepsLive (file_of submission.now) }
-    ensures refused { result ≡ 1 → IsSubmissionUnbounded submission.now (first_of (submission_questions submission.now)) answer.new }
+    ensures refused { result ≡ 1 → IsSubmissionUnbounded submission.now
+        (first_of (submission_questions submission.now)) answer.new }
     ensures starved { result ≡ 3 → answer.new ≡ answer.old }
     ensures known { result ≢ 2 }
 {

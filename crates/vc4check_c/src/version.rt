@@ -2,12 +2,12 @@
 ghost use Rattle.std.specs.Prelude.{◌≡◌};
 
 /// The version of this interface. It rises where a status, a struct or a call changes.
-const VERSION: u32 = 4;
+const VERSION: u32 = 5;
 
 /// The version of this interface.
 #[unsafe(no_mangle)]
 pub extern "C" fn vc4check_version() -> u32
-    ensures { result ≡ 4 }
+    ensures { result ≡ 5 }
 {
     VERSION
 }

@@ -1,38 +1,8 @@
--- The shaders decide, or else the first job that breaks a rule.
-use Rattle.std.proofs.Common.{length, ap, sym, arith, ◌∙◌}
-use Rattle.std.proofs.lemmas.List.{length-map}
-use Rattle.field_words.specs.Questions.{first_of, each}
-use Rattle.field_words.proofs.Questions.{passes, refuses_front, each_stop, each_end}
-use Rattle.job_format.specs.Parts.{parts_view, job_parts_view}
-use Rattle.job_check.proofs.Order.{exits}
-use Rattle.strict_check.specs.Stages.{codes_stage, job_stages, strict_stages}
+-- There is an entry for each buffer.
+use Rattle.std.proofs.Common.{length, ap, ◌∙◌}
+use Rattle.job_format.specs.Parts.{parts_view}
+use Rattle.strict_check.proofs.Named.{findings_count}
 use Rattle.strict_check.proofs.check.check_strict_parts.Goals as goal
 
-pub returns-in_err-uses : goal.returns-in_err-uses
-unfolding strict_stages
-returns-in_err-uses c =
-    let f = parts_view c.args.file.now in
-    exits (strict_stages f) _ c.from_residual.result c.in_err-uses.field-0.0 c.from_residual.ensures.1
-    (refuses_front (codes_stage f) (each (job_stages f) 0 (length f.jobs)) c.in_err-uses.field-0.0 c.in_err-uses.ensures)
-
-pub returns-in-Err : goal.returns-in-Err
-unfolding strict_stages
-returns-in-Err c =
-    let f = parts_view c.args.file.now in
-    let jobs = c.args.file.now.jobs.items in
-    passes (codes_stage f) (each (job_stages f) 0 (length f.jobs)) c.in_ok-uses.ensures.0
-    ∙ ap (λ n. first_of (each (job_stages f) 0 n)) (length-map jobs job_parts_view)
-    ∙ sym c.loop-number.invariant
-    ∙ each_stop (job_stages f) c.loop-number.number (length jobs) c.in-Err.refusal (omega (arith, c.loop-number-test.true, c.len-number-end.ensures)) c.in-Err.ensures
-
-pub returns : goal.returns
-unfolding strict_stages
-returns c =
-    let f = parts_view c.args.file.now in
-    let jobs = c.args.file.now.jobs.items in (
-      passes (codes_stage f) (each (job_stages f) 0 (length f.jobs)) c.in_ok-uses.ensures.0
-          ∙ ap (λ n. first_of (each (job_stages f) 0 n)) (length-map jobs job_parts_view)
-          ∙ sym c.loop-number.invariant
-          ∙ each_end (job_stages f) c.loop-number.number (length jobs) (omega (arith, c.loop-number-test.false, c.len-number-end.ensures)),
-      tt,
-    )
+pub check_strict_findings-requires-clause-many : goal.check_strict_findings-requires-clause-many
+check_strict_findings-requires-clause-many c = ap length (c.deref.ensures.value ∙ c.in_ok-findings.ensures) ∙ findings_count (parts_view c.args.file.now)

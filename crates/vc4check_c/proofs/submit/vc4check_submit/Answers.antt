@@ -2,7 +2,7 @@
 use Rattle.std.proofs.Common.{◌≡◌, length, drop, sym, ap, subst, arith, ◌∙◌}
 use Rattle.field_words.specs.Writes.{with_bytes}
 use Rattle.vc4check_c.specs.Submit.{accepted_verdict}
-use Rattle.vc4check_c.proofs.Safe.{submissions_are_safe, submissions_may_join}
+use Rattle.vc4check_c.proofs.Safe.{submissions_are_safe, submissions_obey, submissions_may_join}
 use Rattle.vc4check_c.proofs.Takes.{size_inside, some_lists, is_taken, behind_stays}
 use Rattle.vc4check_c.proofs.submit.vc4check_submit.Goals as goal
 
@@ -39,14 +39,21 @@ returns-in-Ok-clause-front c = λ zero.
     }
 
 -- The window has the lists, and the answer tells where.
+pub returns-in-Ok-clause-relocated : goal.returns-in-Ok-clause-relocated
+returns-in-Ok-clause-relocated c = λ known zero.
+    c.put.ensures.put zero ∙ ap (with_bytes c.args.window.now 0) (c.deref-in-Ok-3.ensures.value ∙ (c.in-Ok.ensures.tells known).1.bytes_are)
+
 pub returns-in-Ok-clause-safe : goal.returns-in-Ok-clause-safe
-returns-in-Ok-clause-safe c = λ known.
-    let bytes = c.deref-in-Ok-3.ensures.value ∙ (c.in-Ok.ensures.tells known).1.bytes_are in
-    λ zero types. submissions_are_safe c.args.submission.now c.args.window.now c.put.new.room c.accepted.result types (returns-in-Ok-clause-accepted c known zero)
-    (c.put.ensures.put zero ∙ ap (with_bytes c.args.window.now 0) bytes)
+returns-in-Ok-clause-safe c = λ known zero types.
+    submissions_are_safe c.args.submission.now c.args.window.now c.put.new.room c.accepted.result types
+    (returns-in-Ok-clause-accepted c known zero) (returns-in-Ok-clause-relocated c known zero)
+
+pub returns-in-Ok-clause-strict : goal.returns-in-Ok-clause-strict
+returns-in-Ok-clause-strict c = λ known zero types.
+    submissions_obey c.args.submission.now c.args.window.now c.put.new.room c.accepted.result types
+    (returns-in-Ok-clause-accepted c known zero) (returns-in-Ok-clause-relocated c known zero)
 
 pub returns-in-Ok-clause-joins : goal.returns-in-Ok-clause-joins
-returns-in-Ok-clause-joins c = λ known.
-    let bytes = c.deref-in-Ok-3.ensures.value ∙ (c.in-Ok.ensures.tells known).1.bytes_are in
-    λ zero types. submissions_may_join c.args.submission.now c.args.window.now c.put.new.room c.accepted.result types (returns-in-Ok-clause-accepted c known zero)
-    (c.put.ensures.put zero ∙ ap (with_bytes c.args.window.now 0) bytes)
+returns-in-Ok-clause-joins c = λ known zero types.
+    submissions_may_join c.args.submission.now c.args.window.now c.put.new.room c.accepted.result types
+    (returns-in-Ok-clause-accepted c known zero) (returns-in-Ok-clause-relocated c known zero)

@@ -3,7 +3,7 @@ use Rattle.std.proofs.Common.{◌≡◌, None, sym, subst, ◌∙◌}
 use Rattle.field_words.specs.Questions.{first_of}
 use Rattle.field_words.proofs.Questions.{passes}
 use Rattle.job_check.specs.Faults.{place_stages}
-use Rattle.accepted_law.specs.Neighbours.{IsFaultless}
+use Rattle.promises.specs.Prepared.{IsFaultless}
 use Rattle.vc4check_c.specs.Submission.{file_of, own_questions, submission_questions}
 use Rattle.vc4check_c.proofs.MayRun.{faultless}
 use Rattle.vc4check_c.proofs.time.bound_of.Goals as goal

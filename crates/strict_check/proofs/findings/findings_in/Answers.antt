@@ -1,7 +1,7 @@
 -- The words are no more than a shader may have.
 use Rattle.std.proofs.Common.{◌/◌, length, ap, arith, ◌∙◌}
 use Rattle.job_check.proofs.Codes.{length_words}
-use Rattle.strict_check.proofs.shaders.uses_in.Goals as goal
+use Rattle.strict_check.proofs.findings.findings_in.Goals as goal
 
 pub flow-requires : goal.flow-requires
 flow-requires c =
