@@ -25,7 +25,8 @@ use Rattle.job_check.specs.Emit.{memory_of}
 use Rattle.job_check.proofs.Wider.{wider_none}
 use Rattle.machine_plan.specs.{Memory.bytes_at, Regions.Agree, Regions.Inside}
 use Rattle.machine_plan.proofs.Words.{byte_read}
-use Rattle.accepted_law.specs.{Settled.AreSettled, Settled.Holds, Holdings.fixed_of, Holdings.file_starts}
+use Rattle.accepted_law.specs.Settled.{AreSettled, Holds}
+use Rattle.promises.specs.Holdings.{fixed_of, file_starts}
 use Rattle.accepted_law.proofs.{Holding.holds_all, Settling.files_settle_law}
 use Rattle.textured_job.specs.{Job.textured, Laws.textured_bytes}
 use Rattle.textured_job.proofs.{Whole.file_none, Witness.is_file, Witness.textured_witness}

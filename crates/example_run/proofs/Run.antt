@@ -46,7 +46,7 @@ use Rattle.example_run.proofs.Known.{Has, goes_on}
 -- the emitted lists
 abbrev pub bin_bytes : List ℕ
 bin_bytes =
-    112 ∷ 0 ∷ 32 ∷ 0 ∷ 0 ∷ 0 ∷ 240 ∷ 7 ∷ 0 ∷ 0 ∷ 16 ∷ 0 ∷ 0 ∷ 1 ∷ 1 ∷ 68 ∷ 6 ∷ 64 ∷ 49 ∷ 0 ∷ 0 ∷ 0
+    112 ∷ 0 ∷ 32 ∷ 0 ∷ 0 ∷ 0 ∷ 240 ∷ 7 ∷ 0 ∷ 0 ∷ 16 ∷ 0 ∷ 0 ∷ 1 ∷ 1 ∷ 68 ∷ 6 ∷ 56 ∷ 18 ∷ 64 ∷ 49 ∷ 0 ∷ 0 ∷ 0
     ∷ 33 ∷ 4 ∷ 3 ∷ 0 ∷ 0 ∷ 0 ∷ 0 ∷ 0 ∷ 0 ∷ 0 ∷ 7 ∷ 4 ∷ []
 
 abbrev pub record_bytes : List ℕ

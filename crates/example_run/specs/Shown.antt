@@ -11,7 +11,7 @@ use Rattle.qpu_machine.specs.declared.state.Ask.{Ask, TheVariants.Direct, TheVar
 use Rattle.machine.specs.declared.job.Start.{Start}
 use Rattle.machine.specs.State.{State, start_of, item_at}
 use Rattle.machine.specs.Step.{Event, IsRun, step, finished}
-use Rattle.accepted_law.specs.Holdings.{interval, buffer_interval, fixed_of, file_starts}
+use Rattle.promises.specs.Holdings.{interval, buffer_interval, fixed_of, file_starts}
 use Rattle.textured_job.specs.Laws.{IsAccepted}
 
 -- The units that step. The binner's choice word names the tile that gets an item, or says that the primitive is done; the renderer's says
@@ -28,11 +28,11 @@ processor = record { unit = TheQpu 0; words = [] }
 abbrev pub texture_unit : Event
 texture_unit = record { unit = TheTmu 0 0; words = [] }
 
--- Four packets, to the primitive; its three vertices; its coordinate program; an item on the one tile, and no more; then the semaphore is
+-- Five packets, to the primitive; its three vertices; its coordinate program; an item on the one tile, and no more; then the semaphore is
 -- incremented, and the list flushed.
 abbrev pub binning : List Event
 binning =
-    binner 0 ∷ binner 0 ∷ binner 0 ∷ binner 0
+    binner 0 ∷ binner 0 ∷ binner 0 ∷ binner 0 ∷ binner 0
     ∷ binner 0 ∷ binner 0 ∷ binner 0
     ∷ binner 0 ∷ processor ∷ processor ∷ processor
     ∷ binner 0 ∷ binner 1
@@ -45,9 +45,9 @@ to_texture =
     ++ (renderer 0 ∷ renderer 0 ∷ renderer 0 ∷ renderer 0
     ∷ renderer 2 ∷ processor ∷ processor ∷ processor ∷ processor ∷ processor ∷ [])
 
--- The texel comes, and by it the program sends for a word of the table.
+-- The texel comes, and by it the program sends for a word of the table, and switches again.
 abbrev pub to_direct : List Event
-to_direct = to_texture ++ (texture_unit ∷ processor ∷ processor ∷ processor ∷ processor ∷ [])
+to_direct = to_texture ++ (texture_unit ∷ processor ∷ processor ∷ processor ∷ processor ∷ processor ∷ processor ∷ processor ∷ [])
 
 -- The word comes, and the program ends; the renderer goes past the item and out of the tile's list, and stores the tile.
 abbrev pub whole_run : List Event
@@ -82,11 +82,11 @@ TakesTexture s = Serves s (Texture (0x84000 ∷ 0x800800 ∷ 0 ∷ 0 ∷ [])) (r
 abbrev pub ReadsDirectly : State → Type 0
 ReadsDirectly s = Serves s (Direct (replicate 16 0x84400)) (replicate 16 (read 0x84400 4))
 
--- These 39 events are a run, at whose end the machine is finished; and on the way the texture unit does both.
+-- These 43 events are a run, at whose end the machine is finished; and on the way the texture unit does both.
 pub record Happens (starts : List Start) (m : List ℕ) : Type 0 where
   pub found : List Access
   pub run : IsRun (start_of m starts) whole_run found (after starts m whole_run)
-  pub steps : length whole_run ≡ 39
+  pub steps : length whole_run ≡ 43
   pub ends : finished (after starts m whole_run) ≡ true
   pub texture : TakesTexture (after starts m to_texture)
   pub direct : ReadsDirectly (after starts m to_direct)

@@ -20,7 +20,8 @@ use Rattle.render_list.specs.Surfaces.{place_in}
 use Rattle.job_check.specs.Jobs.{job_of, slot_of, has_bin, has_tiles, grid_of, lists_begin, lists_room, layout_of, places_in, render_room, bin_list_of, input_for, records_of, streams_of, render_list_of}
 use Rattle.job_check.specs.Emit.{lengths_of}
 use Rattle.machine_plan.specs.Regions.{Interval, Rights}
-use Rattle.accepted_law.specs.Holdings.{named_buffers, plain_of, codes_of, lists_of, lists_in, slot_in, file_rights, fixed_below, fixed_of, start_by, file_starts}
+use Rattle.promises.specs.Holdings.{named_buffers, plain_of, codes_of, lists_of, lists_in, slot_in, file_rights, fixed_below, fixed_of, start_by}
+use Rattle.promises.specs.Holdings.{file_starts}
 use Rattle.textured_job.specs.Job.{frame, textured, two_clients, one_client}
 use Rattle.textured_job.proofs.Cases.{Case, Alone, First, Second, Single, file_in, number_in, input_in}
 use Rattle.textured_job.proofs.{Lists.grid_is, Whole.input_is}
@@ -43,7 +44,7 @@ lengths_told Second = refl
 lengths_told Single = refl
 
 abbrev lengths : Lengths
-lengths = record { bin = 34; records = 48; uniforms = 16; render = 21 }
+lengths = record { bin = 36; records = 48; uniforms = 16; render = 21 }
 
 lengths_computed : (c : Case) → lengths_by (file_in c) (number_in c) (input_in c) (Some (1, 1)) ≡ lengths
 unfolding bin_list_of has_bin textured two_clients one_client job_of passed packets front_packet behind bin_taken bin_length packet_text index_text state_text config_text u32_at seen_before alloc_offset rounded_up record_room record_size is_extended attribute_count records_text record_text word_bytes uniforms_text streams_text stream_text shader_used code_number code_of buffer_at record_source places_in place_in data_of is_present is_full is_multisample tile_side is_first_tile is_last_tile head_packet clear_slots front_slots list_place color_store more_after_multisample_zs more_after_multisample_color some_before_zs some_before_color load_slots list_slots write_slots tile_slots span_slots render_slots render_text render_packet slot_of

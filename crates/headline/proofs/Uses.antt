@@ -1,36 +1,20 @@
--- The headline, proved and used: what it comes to for the two files.
+-- The headline used: what it comes to for the two files.
 use Rattle.std.proofs.Common.{◌≡◌, ◌≤◌, ◌<◌, ◌⊎◌, inl, inr, ℕ, zero, suc, ◌+◌, List, [], ◌∷◌, length, map, None, sym, subst, arith, ◌∙◌}
 use Rattle.std.specs.List.{AllByRecursion, flat_map}
 use Rattle.field_words.specs.{declared.access.Access.Access, declared.access.Actor.TheVariants.Tmu as TheTmu}
-use Rattle.job_format.specs.{Model.FileModel, File.IsFileOf, Reading.file_at}
+use Rattle.job_format.specs.{Model.FileModel, File.IsFileOf}
 use Rattle.job_format.proofs.Laws.{read_again}
-use Rattle.job_check.specs.{Emit.memory_of, Whole.refusal_of}
+use Rattle.job_check.specs.Emit.{memory_of}
 use Rattle.machine_plan.specs.Regions.{Every, Inside, IsIn, rights_of, IsSafeAccess, IsSafeIn, IsOutside, Agree}
 use Rattle.machine.specs.{State.units_start, Step.job_of, Step.step}
-use Rattle.machine_law.specs.Sound.{ReadInOne, Sound}
-use Rattle.accepted_law.specs.Holdings.{OfEachJob, plain_of, fixed_of, file_rights, file_starts}
+use Rattle.promises.specs.Holdings.{OfEachJob, plain_of, fixed_of, file_rights, file_starts}
+use Rattle.promises.specs.{Sound.ReadInOne, Sound.Sound, Sound.AreSound, MayRun.MayRun, MayRun.AcceptedMayRun}
 use Rattle.accepted_law.specs.Held.{AreFixed}
-use Rattle.job_safety.specs.{Files.IsSafeFile, Safe.AreSound}
-use Rattle.job_safety.proofs.Safety.{bytes_spell, file_is_safe, fixed_upto, file_ends}
+use Rattle.job_safety.proofs.Safety.{fixed_upto}
 use Rattle.textured_job.specs.{Job.textured, Job.two_clients, Laws.IsAccepted, Laws.textured_bytes, Laws.two_clients_bytes}
 use Rattle.textured_job.proofs.Witness.{is_file, two_are_file, textured_witness, two_clients_witness}
 use Rattle.headline.specs.Numbers.{Span, Numbers, alone, first, second, reached, numbers_of, Misses, intervals, rights, start, fixed, KeepAnywhere, InNumbers}
-use Rattle.headline.specs.{Ends.AcceptedEnd, MayRun.MayRun, MayRun.AcceptedMayRun}
 use Rattle.headline.proofs.Stages.{AreOf, alone_is, two_are}
-
-pub may_run : (bytes : List ℕ) → IsFileOf bytes (file_at bytes) → refusal_of bytes ≡ None → MayRun bytes
-unfolding refusal_of
-may_run bytes is none =
-    let file : IsSafeFile (file_at bytes) = file_is_safe bytes is none in
-    record { none = none; spells = is; sound = file.sound; lists_fixed = λ j inside. (file.fixed j inside).lists; code_fixed = λ j inside. (file.fixed j inside).code }
-
-pub accepted_may_run : AcceptedMayRun
-unfolding refusal_of
-accepted_may_run bytes fits none = may_run bytes (bytes_spell bytes fits none) none
-
-pub accepted_end : AcceptedEnd
-unfolding refusal_of
-accepted_end bytes fits none = file_ends bytes (bytes_spell bytes fits none) none
 
 -- an access that keeps to the rights of the job of a number
 keeps_at : (jobs : List Numbers) (a : Access) (j : ℕ) → IsSafeIn (rights_of (map rights jobs) j) a → (j < length jobs) × IsSafeIn (rights (numbers_of jobs j)) a

@@ -7,7 +7,7 @@ use Rattle.job_format.specs.Model.{FileModel}
 use Rattle.job_check.specs.Emit.{memory_of}
 use Rattle.machine_plan.specs.{Others.Happening, Others.OthersRun, Others.IsLeft, Others.SameAmong, Regions.Interval, Regions.Inside, Regions.Rights, Regions.IsSafeIn, Regions.Agree}
 use Rattle.machine.specs.{declared.job.Start.Start, State.State, State.units_start, State.start_of, Step.Event, Step.ready, Step.turn}
-use Rattle.machine_law.specs.Sound.{TexturesReadIn}
+use Rattle.promises.specs.Sound.{TexturesReadIn}
 use Rattle.textured_job.specs.Job.{textured, two_clients}
 
 -- a place, and how many bytes from there on
@@ -28,7 +28,7 @@ pub record Numbers : Type 0 where
 abbrev pub alone : Numbers
 alone = record {
   slot = (4096, slot_size);
-  bin = (0, 34);
+  bin = (0, 36);
   records = (48, 48);
   uniforms = (112, 16);
   render = (144, 21);
@@ -46,7 +46,7 @@ first = record alone {
 abbrev pub second : Numbers
 second = record {
   slot = (528384, slot_size);
-  bin = (176, 34);
+  bin = (176, 36);
   records = (224, 48);
   uniforms = (288, 16);
   render = (320, 21);

@@ -174,7 +174,8 @@ pub(crate) fn cell_counts(
     accesses: &[Logged],
 ) -> Result<Vec<u64>, AllocError>
     ensures long { IfOk result (λ counts. length counts.items ≡ 20) }
-    ensures value { IfOk result (λ counts. counts.items ≡ cell_counts regions.now buffers.now layouts.now way accesses.now) }
+    ensures value { IfOk result (λ counts. counts.items
+        ≡ cell_counts regions.now buffers.now layouts.now way accesses.now) }
 {
     let mut counts = vec![in alloc; 0u64; CELLS]?;
     for logged in accesses {

@@ -18,7 +18,8 @@ const TONES: u64 = 7;
 fn push_heat(alloc: Global, out: &mut Vec<u8>, class: &str, x: u64, n: u64, count: u64) -> Drawn
     requires left { x < 2 ^ 32 }
     requires few { n < 2 ^ 32 }
-    ensures { OnOk result (out.new.items ≡ out.old.items ++ forest_text (heat_part class.now x n count)) }
+    ensures { OnOk result (out.new.items ≡ out.old.items
+        ++ forest_text (heat_part class.now x n count)) }
 {
     if count == 0 {
         return Ok(());
@@ -39,7 +40,8 @@ fn push_heat(alloc: Global, out: &mut Vec<u8>, class: &str, x: u64, n: u64, coun
 fn push_heats(alloc: Global, out: &mut Vec<u8>, class: &str, x: u64, counts: &[u64]) -> Drawn
     requires left { x < 2 ^ 32 }
     requires few { length counts.now < 2 ^ 32 }
-    ensures { OnOk result (out.new.items ≡ out.old.items ++ forest_text (each (heat_at class.now x counts.now) (length counts.now))) }
+    ensures { OnOk result (out.new.items ≡ out.old.items
+        ++ forest_text (each (heat_at class.now x counts.now) (length counts.now))) }
 {
     for n in 0..counts.len() {
         push_heat(alloc, out, class, x, n as u64, counts[n])?;
@@ -72,7 +74,8 @@ fn push_strip(
     requires right { 96 ≤ x }
     requires left { x < 2 ^ 32 }
     requires few { length counts.now < 2 ^ 32 }
-    ensures { OnOk result (out.new.items ≡ out.old.items ++ forest_text (heat_strip class.now title.now x counts.now)) }
+    ensures { OnOk result (out.new.items ≡ out.old.items
+        ++ forest_text (heat_strip class.now title.now x counts.now)) }
 {
     push_label(out, x, TOP - 12, "note", title.as_bytes())?;
     push_ground(out, x)?;
@@ -121,7 +124,8 @@ pub(crate) fn push_heat_strips(
 ) -> Drawn
     requires reads { length reads.now < 2 ^ 32 }
     requires writes { length writes.now < 2 ^ 32 }
-    ensures { OnOk result (out.new.items ≡ out.old.items ++ forest_text (heat reads.now writes.now)) }
+    ensures { OnOk result (out.new.items ≡ out.old.items
+        ++ forest_text (heat reads.now writes.now)) }
 {
     push_strip(alloc, out, "read", "reads", 96, reads)?;
     push_strip(alloc, out, "write", "writes", 408, writes)?;

@@ -20,7 +20,8 @@ const PICTURE: usize = 65_536;
 #[tactic(auto, unfolding(crate::specs::Memory::box_part))]
 fn push_box(out: &mut Vec<u8>, memory: u32, regions: &Regions, buffers: &[Buffer], n: u64) -> Drawn
     requires { n < 2 ^ 32 }
-    ensures { OnOk result (out.new.items ≡ out.old.items ++ forest_text (box_part memory regions.now buffers.now n)) }
+    ensures { OnOk result (out.new.items ≡ out.old.items
+        ++ forest_text (box_part memory regions.now buffers.now n)) }
 {
     let from = n * box_size(memory);
     let shade = shade_in(regions, buffers, from, from + box_size(memory));
@@ -36,7 +37,8 @@ fn push_boxes(
     count: u64,
 ) -> Drawn
     requires { count < 2 ^ 32 }
-    ensures { OnOk result (out.new.items ≡ out.old.items ++ forest_text (each (box_part memory regions.now buffers.now) count)) }
+    ensures { OnOk result (out.new.items ≡ out.old.items
+        ++ forest_text (each (box_part memory regions.now buffers.now) count)) }
 {
     for n in 0..count {
         push_box(out, memory, regions, buffers, n)?;
@@ -47,7 +49,8 @@ fn push_boxes(
 /// Appends the strip of boxes.
 #[tactic(auto, unfolding(crate::specs::Memory::strip))]
 fn push_strip(out: &mut Vec<u8>, memory: u32, regions: &Regions, buffers: &[Buffer]) -> Drawn
-    ensures { OnOk result (out.new.items ≡ out.old.items ++ forest_text (strip memory regions.now buffers.now)) }
+    ensures { OnOk result (out.new.items ≡ out.old.items
+        ++ forest_text (strip memory regions.now buffers.now)) }
 {
     begin(out, "g")?;
     worded(out, "id", "strip")?;
@@ -93,7 +96,8 @@ fn push_head(alloc: Global, out: &mut Vec<u8>, memory: u64, size: u64) -> Drawn
 #[tactic(auto, unfolding(crate::specs::Memory::entry))]
 fn push_entry(out: &mut Vec<u8>, y: u64, class: &str, words: &str) -> Drawn
     requires { y < 2 ^ 32 }
-    ensures { OnOk result (out.new.items ≡ out.old.items ++ forest_text (entry y class.now words.now)) }
+    ensures { OnOk result (out.new.items ≡ out.old.items
+        ++ forest_text (entry y class.now words.now)) }
 {
     push_rect(out, 424, y, 18, 12, class)?;
     push_label(out, 506, y + 11, "note", words.as_bytes())
@@ -101,7 +105,8 @@ fn push_entry(out: &mut Vec<u8>, y: u64, class: &str, words: &str) -> Drawn
 
 #[tactic(auto, unfolding(crate::specs::Memory::tones))]
 fn push_tones(out: &mut Vec<u8>, y: u64, first: &str, second: &str, third: &str) -> Drawn
-    ensures { OnOk result (out.new.items ≡ out.old.items ++ forest_text (tones y first.now second.now third.now)) }
+    ensures { OnOk result (out.new.items ≡ out.old.items
+        ++ forest_text (tones y first.now second.now third.now)) }
 {
     push_rect(out, 442, y, 18, 12, first)?;
     push_rect(out, 460, y, 18, 12, second)?;
@@ -167,7 +172,8 @@ fn kind_words(kind: Kind) -> &'static [u8]
 #[tactic(auto, unfolding(crate::specs::Memory::buffer_line))]
 fn push_buffer(alloc: Global, out: &mut Vec<u8>, number: u64, y: u64, buffer: &Buffer) -> Drawn
     requires { 11 ≤ y }
-    ensures { OnOk result (out.new.items ≡ out.old.items ++ forest_text (buffer_line number y buffer.now)) }
+    ensures { OnOk result (out.new.items ≡ out.old.items
+        ++ forest_text (buffer_line number y buffer.now)) }
 {
     push_class(out, 424, y - 11, 18, 12, shade_of(buffer))?;
     push_label(out, 490, y, "end", &decimal(alloc, number)?)?;
@@ -197,7 +203,8 @@ fn push_row(alloc: Global, out: &mut Vec<u8>, buffers: &[Buffer], n: usize) -> D
 fn push_rows(alloc: Global, out: &mut Vec<u8>, buffers: &[Buffer], count: usize) -> Drawn
     requires some { count ≤ length buffers.now }
     requires few { count ≤ 12 }
-    ensures { OnOk result (out.new.items ≡ out.old.items ++ forest_text (each (row_part buffers.now) count)) }
+    ensures { OnOk result (out.new.items ≡ out.old.items
+        ++ forest_text (each (row_part buffers.now) count)) }
 {
     for n in 0..count {
         push_row(alloc, out, buffers, n)?;
@@ -245,7 +252,8 @@ pub fn push_memory(
     regions: &Regions,
     buffers: &[Buffer],
 ) -> Drawn
-    ensures { OnOk result (out.new.items ≡ out.old.items ++ forest_text (memory_parts memory regions.now buffers.now)) }
+    ensures { OnOk result (out.new.items ≡ out.old.items
+        ++ forest_text (memory_parts memory regions.now buffers.now)) }
 {
     push_head(alloc, out, u64::from(memory), box_size(memory))?;
     push_strip(out, memory, regions, buffers)?;
@@ -263,7 +271,8 @@ pub fn memory_picture(
     regions: &Regions,
     buffers: &[Buffer],
 ) -> Result<Vec<u8>, NoMemory>
-    ensures { IfOk result (λ text. text.items ≡ forest_text (memory_picture memory regions.now buffers.now)) }
+    ensures { IfOk result (λ text. text.items
+        ≡ forest_text (memory_picture memory regions.now buffers.now)) }
 {
     let mut out = Vec::with_capacity(alloc, PICTURE)?;
     begin_drawing(alloc, &mut out, 490, "Memory of the jobs")?;

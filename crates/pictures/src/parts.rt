@@ -54,7 +54,8 @@ const NAMESPACE: &str = "http://www.w3.org/2000/svg";
 
 /// Appends a box of this class.
 pub fn push_rect(out: &mut Vec<u8>, x: u64, y: u64, width: u64, height: u64, class: &str) -> Drawn
-    ensures { OnOk result (out.new.items ≡ out.old.items ++ forest_text (rect x y width height class.now)) }
+    ensures { OnOk result (out.new.items ≡ out.old.items
+        ++ forest_text (rect x y width height class.now)) }
 {
     begin(out, "rect")?;
     numbered(out, "x", x)?;
@@ -67,14 +68,16 @@ pub fn push_rect(out: &mut Vec<u8>, x: u64, y: u64, width: u64, height: u64, cla
 
 /// Appends a box of this shade.
 pub fn push_class(out: &mut Vec<u8>, x: u64, y: u64, width: u64, height: u64, shade: Shade) -> Drawn
-    ensures { OnOk result (out.new.items ≡ out.old.items ++ forest_text (rect x y width height (class_of shade))) }
+    ensures { OnOk result (out.new.items ≡ out.old.items
+        ++ forest_text (rect x y width height (class_of shade))) }
 {
     push_rect(out, x, y, width, height, shade.class())
 }
 
 /// Appends words at a place, in this class.
 pub fn push_label(out: &mut Vec<u8>, x: u64, y: u64, class: &str, words: &[u8]) -> Drawn
-    ensures { OnOk result (out.new.items ≡ out.old.items ++ forest_text (label x y class.now words.now)) }
+    ensures { OnOk result (out.new.items ≡ out.old.items
+        ++ forest_text (label x y class.now words.now)) }
 {
     begin(out, "text")?;
     numbered(out, "x", x)?;
@@ -112,7 +115,8 @@ fn push_told(out: &mut Vec<u8>, name: &str, words: &str) -> Drawn
 
 // The root's attributes.
 fn push_root(alloc: Global, out: &mut Vec<u8>, height: u64) -> Drawn
-    ensures { OnOk result (out.new.items ≡ out.old.items ++ flat_map attribute_text (root_attributes height)) }
+    ensures { OnOk result (out.new.items ≡ out.old.items
+        ++ flat_map attribute_text (root_attributes height)) }
 {
     let view = format!(in alloc; "0 0 960 {height}")?;
     worded(out, "xmlns", NAMESPACE)?;
@@ -135,7 +139,8 @@ pub fn begin_drawing(alloc: Global, out: &mut Vec<u8>, height: u64, title: &str)
 
 /// Ends a drawing.
 pub fn end_drawing(out: &mut Vec<u8>) -> Drawn
-    ensures { OnOk result (out.new.items ≡ out.old.items ++ (codes "</" ++ (codes "svg" ++ codes ">\n"))) }
+    ensures { OnOk result (out.new.items ≡ out.old.items
+        ++ (codes "</" ++ (codes "svg" ++ codes ">\n"))) }
 {
     close(out, "svg")
 }

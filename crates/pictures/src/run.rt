@@ -65,7 +65,8 @@ fn push_run_table(
     layouts: &[Layout],
     log: &Log,
 ) -> Drawn
-    ensures { OnOk result (out.new.items ≡ out.old.items ++ forest_text (run_table regions.now buffers.now layouts.now log.now)) }
+    ensures { OnOk result (out.new.items ≡ out.old.items
+        ++ forest_text (run_table regions.now buffers.now layouts.now log.now)) }
 {
     let accesses = &log.accesses;
     let reads = cell_counts(alloc, regions, buffers, layouts, Way::Read, accesses)?;
@@ -103,7 +104,8 @@ fn push_parts(
     layouts: &[Layout],
     log: &Log,
 ) -> Drawn
-    ensures { OnOk result (out.new.items ≡ out.old.items ++ forest_text (run_parts memory regions.now buffers.now layouts.now log.now)) }
+    ensures { OnOk result (out.new.items ≡ out.old.items
+        ++ forest_text (run_parts memory regions.now buffers.now layouts.now log.now)) }
 {
     push_memory(alloc, out, memory, regions, buffers)?;
     push_head(alloc, out, log)?;
@@ -122,7 +124,8 @@ pub fn run_picture(
     layouts: &[Layout],
     log: &Log,
 ) -> Result<Vec<u8>, NoMemory>
-    ensures { IfOk result (λ text. text.items ≡ forest_text (run_picture memory regions.now buffers.now layouts.now log.now)) }
+    ensures { IfOk result (λ text. text.items
+        ≡ forest_text (run_picture memory regions.now buffers.now layouts.now log.now)) }
 {
     let mut out = Vec::with_capacity(alloc, PICTURE)?;
     let title = "Accesses of a run in the memory of the jobs";

@@ -54,7 +54,8 @@ pub fn begin(out: &mut Vec<u8>, name: &str) -> Drawn
 /// An attribute of the element that was begun, whose value is words.
 #[tactic(auto, unfolding(crate::specs::Forest::attribute_text))]
 pub fn worded(out: &mut Vec<u8>, name: &str, value: &str) -> Drawn
-    ensures { OnOk result (out.new.items ≡ out.old.items ++ attribute_text (worded name.now value.now)) }
+    ensures { OnOk result (out.new.items ≡ out.old.items
+        ++ attribute_text (worded name.now value.now)) }
 {
     out.extend_from_slice(b" ")?;
     out.extend_from_slice(name.as_bytes())?;
@@ -66,7 +67,8 @@ pub fn worded(out: &mut Vec<u8>, name: &str, value: &str) -> Drawn
 /// An attribute of the element that was begun, whose value is a number.
 #[tactic(auto, unfolding(crate::specs::Forest::attribute_text))]
 pub fn numbered(out: &mut Vec<u8>, name: &str, number: u64) -> Drawn
-    ensures { OnOk result (out.new.items ≡ out.old.items ++ attribute_text (numbered name.now number)) }
+    ensures { OnOk result (out.new.items ≡ out.old.items
+        ++ attribute_text (numbered name.now number)) }
 {
     out.extend_from_slice(b" ")?;
     out.extend_from_slice(name.as_bytes())?;
@@ -91,7 +93,8 @@ pub fn end_tag(out: &mut Vec<u8>) -> Drawn
 
 /// Closes an element that has things in it.
 pub fn close(out: &mut Vec<u8>, name: &str) -> Drawn
-    ensures { OnOk result (out.new.items ≡ out.old.items ++ (codes "</" ++ (name.now ++ codes ">\n"))) }
+    ensures { OnOk result (out.new.items ≡ out.old.items
+        ++ (codes "</" ++ (name.now ++ codes ">\n"))) }
 {
     out.extend_from_slice(b"</")?;
     out.extend_from_slice(name.as_bytes())?;

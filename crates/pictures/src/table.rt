@@ -11,7 +11,8 @@ use std::alloc::Global;
 #[tactic(auto, unfolding(crate::specs::Table::column_head))]
 fn push_column(out: &mut Vec<u8>, column: u64, class: &str, name: &str) -> Drawn
     requires { column < 4 }
-    ensures { OnOk result (out.new.items ≡ out.old.items ++ forest_text (column_head column class.now name.now)) }
+    ensures { OnOk result (out.new.items ≡ out.old.items
+        ++ forest_text (column_head column class.now name.now)) }
 {
     push_rect(out, 256 + 180 * column, 563, 18, 12, class)?;
     push_label(out, 280 + 180 * column, 574, "note", name.as_bytes())?;
@@ -54,7 +55,8 @@ fn push_cell(
     requires writes { length writes.now ≡ 20 }
     requires row { row < 4 }
     requires column { column < 4 }
-    ensures { OnOk result (out.new.items ≡ out.old.items ++ forest_text (cell_part reads.now writes.now row column)) }
+    ensures { OnOk result (out.new.items ≡ out.old.items
+        ++ forest_text (cell_part reads.now writes.now row column)) }
 {
     let cell = (5 * row + column) as usize;
     let y = 612 + 18 * row;
@@ -79,7 +81,8 @@ fn push_cells(alloc: Global, out: &mut Vec<u8>, reads: &[u64], writes: &[u64], r
     requires reads { length reads.now ≡ 20 }
     requires writes { length writes.now ≡ 20 }
     requires row { row < 4 }
-    ensures { OnOk result (out.new.items ≡ out.old.items ++ forest_text (each (cell_part reads.now writes.now row) 4)) }
+    ensures { OnOk result (out.new.items ≡ out.old.items
+        ++ forest_text (each (cell_part reads.now writes.now row) 4)) }
 {
     for column in 0..4 {
         push_cell(alloc, out, reads, writes, row, column)?;
@@ -92,7 +95,8 @@ fn push_unit(alloc: Global, out: &mut Vec<u8>, reads: &[u64], writes: &[u64], ro
     requires reads { length reads.now ≡ 20 }
     requires writes { length writes.now ≡ 20 }
     requires row { row < 4 }
-    ensures { OnOk result (out.new.items ≡ out.old.items ++ forest_text (unit_part reads.now writes.now row)) }
+    ensures { OnOk result (out.new.items ≡ out.old.items
+        ++ forest_text (unit_part reads.now writes.now row)) }
 {
     push_label(out, 96, 612 + 18 * row, "note", row_name(row))?;
     push_cells(alloc, out, reads, writes, row)
@@ -102,7 +106,8 @@ fn push_unit(alloc: Global, out: &mut Vec<u8>, reads: &[u64], writes: &[u64], ro
 fn push_units(alloc: Global, out: &mut Vec<u8>, reads: &[u64], writes: &[u64]) -> Drawn
     requires reads { length reads.now ≡ 20 }
     requires writes { length writes.now ≡ 20 }
-    ensures { OnOk result (out.new.items ≡ out.old.items ++ forest_text (each (unit_part reads.now writes.now) 4)) }
+    ensures { OnOk result (out.new.items ≡ out.old.items
+        ++ forest_text (each (unit_part reads.now writes.now) 4)) }
 {
     for row in 0..4 {
         push_unit(alloc, out, reads, writes, row)?;
@@ -115,7 +120,8 @@ fn push_units(alloc: Global, out: &mut Vec<u8>, reads: &[u64], writes: &[u64]) -
 pub(crate) fn push_table(alloc: Global, out: &mut Vec<u8>, reads: &[u64], writes: &[u64]) -> Drawn
     requires reads { length reads.now ≡ 20 }
     requires writes { length writes.now ≡ 20 }
-    ensures { OnOk result (out.new.items ≡ out.old.items ++ forest_text (unit_table reads.now writes.now)) }
+    ensures { OnOk result (out.new.items ≡ out.old.items
+        ++ forest_text (unit_table reads.now writes.now)) }
 {
     push_columns(out)?;
     push_units(alloc, out, reads, writes)

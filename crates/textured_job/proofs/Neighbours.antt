@@ -17,7 +17,8 @@ use Rattle.job_format.proofs.Laws.{read_again}
 use Rattle.job_check.specs.Jobs.{job_of, has_bin, grid_of, slot_of, lists_begin, layout_of, places_in, bin_list_of, records_of, streams_of, render_list_of}
 use Rattle.job_check.specs.{Shaders.content_of, Emit.lengths_of, Emit.memory_of}
 use Rattle.job_check.proofs.{Views.list_length, Views.lengths, Views.lengths_are, Wider.wider_none}
-use Rattle.accepted_law.specs.Neighbours.{jobs_of, named_at, StandAlike, PlacedAlike, FilledAlike, AreNeighbourFiles, AlikeTo}
+use Rattle.accepted_law.specs.Neighbours.{FilledAlike}
+use Rattle.promises.specs.Apart.{jobs_of, named_at, StandAlike, PlacedAlike, AreNeighbourFiles, AlikeTo}
 use Rattle.accepted_law.specs.Settled.{Settled}
 use Rattle.accepted_law.proofs.{Emitted.emitted_alike_law, RenderWalking.frame_setup, Settling.files_settle_law}
 use Rattle.textured_job.specs.{Job.two_clients, Job.one_client, Laws.AreWitnesses, Laws.two_clients_bytes, Laws.one_client_bytes}

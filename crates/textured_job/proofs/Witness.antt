@@ -9,13 +9,15 @@ use Rattle.job_format.specs.Text.{header_text, buffer_text, surface_text, frame_
 use Rattle.job_format.specs.{Faults.format_questions, Model.FileModel, Reading.file_at}
 use Rattle.buffer_table.specs.declared.buffer.Kind.{Kind, TheVariants.Plain, TheVariants.Code}
 use Rattle.job_format.proofs.Laws.{read_again}
-use Rattle.job_check.specs.{Faults.file_stages, Jobs.job_of, Whole.format_refused, Whole.refusal_of, Whole.questions_within}
+use Rattle.job_check.specs.{Faults.file_stages, Jobs.job_of, Whole.all_questions, Whole.format_refused, Whole.refusal_of, Whole.questions_within}
+use Rattle.strict_check.specs.{Stages.strict_stages, Whole.strict_questions, Whole.strict_refusal_of}
 use Rattle.shader_records.specs.Sources.{shader_used}
 use Rattle.render_list.specs.Frame.{no_surface}
 use Rattle.textured_job.specs.Job.{code_bytes, fragment_words, vertex_words, fragment_told, page, colour_write, frame, bin_list, records, uniforms, job, textured, two_clients, one_client}
 use Rattle.textured_job.specs.Laws.{UsesAll, HasAll, IsAccepted, IsWitness, IsWitnessOfTwo, textured_bytes, two_clients_bytes, one_client_bytes}
-use Rattle.textured_job.proofs.Cases.{Case, Alone, First, Second, file_in, number_in}
+use Rattle.textured_job.proofs.Cases.{Case, Alone, First, Second, Single, file_in, number_in}
 use Rattle.textured_job.proofs.{Lists.bin_there, Records.drawn_is}
+use Rattle.textured_job.proofs.Strict.{strict_none}
 use Rattle.textured_job.proofs.Whole.{input_is, file_none, file_none_of_two, file_none_of_one}
 use Rattle.accepted_law.proofs.ByteTexts.{bytes_cons}
 
@@ -107,7 +109,7 @@ fits = record {
   mem_size = lit< tt;
   regions = record { lists_place = lit< tt; lists_size = lit< tt; tile_place = lit< tt; tile_slots = lit< tt };
   buffers = (
-    page_fits 1 0x81000 Code 112 (lit< tt) (lit< tt) (lit< tt),
+    page_fits 1 0x81000 Code 136 (lit< tt) (lit< tt) (lit< tt),
     (
       page_fits 1 0x82000 Code 24 (lit< tt) (lit< tt) (lit< tt),
       (page_fits 1 0x83000 Plain 0 (lit< tt) (lit< tt) (lit< tt), (page_fits 1 0x84000 Plain 0 (lit< tt) (lit< tt) (lit< tt), tt)),
@@ -124,7 +126,7 @@ two_fit = record {
   mem_size = lit< tt;
   regions = record { lists_place = lit< tt; lists_size = lit< tt; tile_place = lit< tt; tile_slots = lit< tt };
   buffers = (
-    page_fits 1 0x101000 Code 112 (lit< tt) (lit< tt) (lit< tt),
+    page_fits 1 0x101000 Code 136 (lit< tt) (lit< tt) (lit< tt),
     (
       page_fits 1 0x102000 Code 24 (lit< tt) (lit< tt) (lit< tt),
       (
@@ -132,7 +134,7 @@ two_fit = record {
         (
           page_fits 1 0x104000 Plain 0 (lit< tt) (lit< tt) (lit< tt),
           (
-            page_fits 2 0x105000 Code 112 (lit< tt) (lit< tt) (lit< tt),
+            page_fits 2 0x105000 Code 136 (lit< tt) (lit< tt) (lit< tt),
             (
               page_fits 2 0x106000 Code 24 (lit< tt) (lit< tt) (lit< tt),
               (page_fits 2 0x107000 Plain 0 (lit< tt) (lit< tt) (lit< tt), (page_fits 2 0x108000 Plain 0 (lit< tt) (lit< tt) (lit< tt), tt)),
@@ -153,7 +155,7 @@ one_fits = record {
   mem_size = lit< tt;
   regions = record { lists_place = lit< tt; lists_size = lit< tt; tile_place = lit< tt; tile_slots = lit< tt };
   buffers = (
-    page_fits 1 0x101000 Code 112 (lit< tt) (lit< tt) (lit< tt),
+    page_fits 1 0x101000 Code 136 (lit< tt) (lit< tt) (lit< tt),
     (
       page_fits 1 0x102000 Code 24 (lit< tt) (lit< tt) (lit< tt),
       (page_fits 1 0x103000 Plain 0 (lit< tt) (lit< tt) (lit< tt), (page_fits 1 0x104000 Plain 0 (lit< tt) (lit< tt) (lit< tt), tt)),
@@ -221,17 +223,19 @@ two_are_file = record { fits = two_fit; well_formed = two_well_formed; text = re
 pub one_is_file : IsFileOf one_client_bytes one_client
 one_is_file = record { fits = one_fits; well_formed = one_well_formed; text = refl }
 
--- bytes of a file of which no rule stands are accepted
-accepted : (bytes : List ℕ) (f : FileModel) → IsBytes bytes → IsFileOf bytes f → first_of (file_stages f) ≡ None → IsAccepted bytes
-unfolding refusal_of questions_within
-accepted bytes f are_bytes is none =
+-- bytes of a file which breaks no rule are accepted
+accepted : (bytes : List ℕ) (f : FileModel) → IsBytes bytes → IsFileOf bytes f → first_of (file_stages f) ≡ None → first_of (strict_stages f) ≡ None → IsAccepted bytes
+unfolding refusal_of questions_within strict_refusal_of strict_questions
+accepted bytes f are_bytes is none strict =
     let again = read_again bytes f is in
+    let asked : first_of (all_questions bytes) ≡ None =
+    passes (answered format_refused (format_questions bytes)) (file_stages (file_at bytes)) (answered_none format_refused (format_questions bytes) again.0)
+    ∙ (ap (λ g. first_of (file_stages g)) again.1 ∙ none) in
     record {
       are_bytes = are_bytes;
       spells = subst (IsFileOf bytes) (sym again.1) is;
-      none =
-          passes (answered format_refused (format_questions bytes)) (file_stages (file_at bytes)) (answered_none format_refused (format_questions bytes) again.0)
-          ∙ (ap (λ g. first_of (file_stages g)) again.1 ∙ none);
+      none = asked;
+      strict = passes (all_questions bytes) (strict_stages (file_at bytes)) asked ∙ (ap (λ g. first_of (strict_stages g)) again.1 ∙ strict);
     }
 
 -- the fragment shader has a texture, then a direct sample
@@ -271,7 +275,7 @@ pub textured_witness : IsWitness textured_bytes
 textured_witness =
     let again = (read_again textured_bytes textured is_file).1 in
     record {
-      accepted = accepted textured_bytes textured text_bytes is_file file_none;
+      accepted = accepted textured_bytes textured text_bytes is_file file_none (strict_none Alone);
       one_job = ap (λ f. length f.jobs) again ∙ one_in;
       has = subst (λ f. HasAll f 0) (sym again) (has_all Alone);
     }
@@ -280,7 +284,7 @@ pub two_clients_witness : IsWitnessOfTwo two_clients_bytes
 two_clients_witness =
     let again = (read_again two_clients_bytes two_clients two_are_file).1 in
     record {
-      accepted = accepted two_clients_bytes two_clients two_text_bytes two_are_file file_none_of_two;
+      accepted = accepted two_clients_bytes two_clients two_text_bytes two_are_file file_none_of_two (strict_none First);
       two_jobs = ap (λ f. length f.jobs) again ∙ two_in;
       two_clients = subst (λ f. (job_of f 0).client ≢ (job_of f 1).client) (sym again) clients_differ;
       first = subst (λ f. HasAll f 0) (sym again) (has_all First);
@@ -288,4 +292,4 @@ two_clients_witness =
     }
 
 pub one_client_accepted : IsAccepted one_client_bytes
-one_client_accepted = accepted one_client_bytes one_client one_text_bytes one_is_file file_none_of_one
+one_client_accepted = accepted one_client_bytes one_client one_text_bytes one_is_file file_none_of_one (strict_none Single)

@@ -21,6 +21,9 @@ fragment_words =
     ∷ 0xd0020867139c09c0  -- alu sig=13 ca=1 wa=33 oa=max rb=0 aa=4 ab=7           r1 is the greater of it and 0
     ∷ 0x1002086712827380  -- alu ca=1 wa=33 oa=min ra=32 aa=1 ab=6                 and at most a uniform
     ∷ 0x10020e270c827380  -- alu ca=1 wa=56 oa=add ra=32 aa=1 ab=6                 the word of the table at r1
+    ∷ 0x200009e7009e7000  -- alu sig=2                                             another switch
+    ∷ 0x100009e7009e7000  -- nop
+    ∷ 0x100009e7009e7000  -- nop
     ∷ 0xa00009e7009e7000  -- alu sig=10                                            r4 is that word
     ∷ 0x10020ba7159e7900  -- alu ca=1 wa=46 oa=or aa=4 ab=4                        the pixel's colour
     ∷ 0x300009e7009e7000  -- alu sig=3                                             the program's end, and two more
@@ -62,7 +65,7 @@ page client place kind content = record { place = place; size = 0x1000; client =
 -- the buffers of a client, from a place on: the two shaders, the frame, and what is read, which is vertices, texels and the table
 abbrev pub buffers : (client place : ℕ) → List Buffer
 buffers client place =
-    page client place Code 112
+    page client place Code 136
     ∷ page client (place + 0x1000) Code 24
     ∷ page client (place + 0x2000) Plain 0
     ∷ page client (place + 0x3000) Plain 0
@@ -72,11 +75,11 @@ buffers client place =
 abbrev pub contents : List (List ℕ)
 contents = code_bytes fragment_words ∷ code_bytes vertex_words ∷ [] ∷ [] ∷ []
 
--- configuration of one tile, start of binning, a shader state of one attribute, three vertices from the first on, increment of the
--- semaphore, flush
+-- configuration of one tile, start of binning, reset of the format of primitives, a shader state of one attribute, three vertices from the
+-- first on, increment of the semaphore, flush
 abbrev pub bin_list : List ℕ
 bin_list =
-    112 ∷ 0 ∷ 0 ∷ 0 ∷ 0 ∷ 0 ∷ 0 ∷ 0 ∷ 0 ∷ 0 ∷ 0 ∷ 0 ∷ 0 ∷ 1 ∷ 1 ∷ 0 ∷ 6 ∷ 64 ∷ 1 ∷ 0 ∷ 0 ∷ 0
+    112 ∷ 0 ∷ 0 ∷ 0 ∷ 0 ∷ 0 ∷ 0 ∷ 0 ∷ 0 ∷ 0 ∷ 0 ∷ 0 ∷ 0 ∷ 1 ∷ 1 ∷ 0 ∷ 6 ∷ 56 ∷ 18 ∷ 64 ∷ 1 ∷ 0 ∷ 0 ∷ 0
     ∷ 33 ∷ 4 ∷ 3 ∷ 0 ∷ 0 ∷ 0 ∷ 0 ∷ 0 ∷ 0 ∷ 0 ∷ 7 ∷ 4 ∷ []
 
 -- the handles of the three shaders and of the attribute's buffer; then the record: its fragment shader is threaded, and its

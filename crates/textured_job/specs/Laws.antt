@@ -2,10 +2,11 @@
 use Rattle.std.specs.Prelude.{◌≡◌, ◌≢◌, ◌<◌, ℕ, true, false, List, length, Some, None}
 use Rattle.field_words.specs.Words.{IsBytes}
 use Rattle.job_format.specs.{File.IsFileOf, Model.FileModel, Reading.file_at, Text.file_text}
+use Rattle.strict_check.specs.Whole.{strict_refusal_of}
 use Rattle.job_check.specs.{Jobs.job_of, Jobs.has_bin, Jobs.input_for, Emit.memory_of, Whole.refusal_of}
 use Rattle.qpu_isa.specs.Shader.{ShaderModel, sample_at}
 use Rattle.shader_records.specs.Sources.{shader_used}
-use Rattle.accepted_law.specs.Neighbours.{jobs_of, AreNeighbourFiles, AlikeTo}
+use Rattle.promises.specs.Apart.{jobs_of, AreNeighbourFiles, AlikeTo}
 use Rattle.textured_job.specs.Job.{textured, two_clients, one_client}
 
 -- The shader switches threads, so that two of it share a processor. It takes a texture, and reads a word directly.
@@ -26,11 +27,12 @@ pub record HasAll (f : FileModel) (j : ℕ) : Type 0 where
   pub drawn : shader_used (input_for f j) 0 0 ≡ Some shader
   pub uses : UsesAll shader
 
--- The bytes are accepted: they spell a file, of which no rule stands.
+-- The bytes are accepted: they spell a file, which breaks no rule, also none of the strict ones.
 pub record IsAccepted (bytes : List ℕ) : Type 0 where
   pub are_bytes : IsBytes bytes
   pub spells : IsFileOf bytes (file_at bytes)
   pub none : refusal_of bytes ≡ None
+  pub strict : strict_refusal_of bytes ≡ None
 
 -- They are, and the file has one job, which has all this.
 pub record IsWitness (bytes : List ℕ) : Type 0 where

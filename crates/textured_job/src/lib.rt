@@ -4,14 +4,15 @@
 
 ghost use Rattle.textured_job.specs.Laws.{IsWitness, IsWitnessOfTwo, AreWitnesses, textured_bytes, two_clients_bytes, one_client_bytes};
 
-/// The law that no rule stands for these 510 bytes, and that they are the file of one job with a binner list whose fragment shader has
-/// two threads, takes a texture and reads directly.
+/// The law that these 536 bytes break no rule, also no strict one, and that they are the file of one job with a binner list whose fragment
+/// shader has two threads, takes a texture and reads directly.
 #[tactic(auto, using(crate::proofs::Witness::textured_witness))]
 pub fn textured_job_is_accepted()
     ensures { IsWitness textured_bytes }
 {}
 
-/// The law that no rule stands for these 984 bytes, and that they are the file of two such jobs of two clients, on one machine.
+/// The law that these 1,036 bytes break no rule, also no strict one, and that they are the file of two such jobs of two clients, on one
+/// machine.
 #[tactic(auto, using(crate::proofs::Witness::two_clients_witness))]
 pub fn two_clients_are_accepted()
     ensures { IsWitnessOfTwo two_clients_bytes }
