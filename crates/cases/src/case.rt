@@ -128,7 +128,13 @@ impl Case {
             },
             "has" => self.parts.push(String::from_str(alloc, rest)?)?,
             "digest" => self.digest = Some(String::from_str(alloc, rest)?),
-            "notice" => self.notice = Some(String::from_str(alloc, rest)?),
+            "notice" => match &mut self.notice {
+                Some(notice) => {
+                    notice.push('\n')?;
+                    notice.push_str(rest)?;
+                }
+                None => self.notice = Some(String::from_str(alloc, rest)?),
+            },
             _ => return Ok(false),
         }
         Ok(true)

@@ -1,6 +1,6 @@
 //! Tries the cases of the files that data/list names: words and input of `vc4check`, and the status, output and notice that it answers.
 //!
-//! docs/CASES.md says what stands in a file. Of each case that differs a line is printed, and last how many there are. The exit status is
+//! CONTRIBUTING.md says what stands in a file. Of each case that differs a line is printed, and last how many there are. The exit status is
 //! 1 where one differs, and 2 where a file can't be read.
 #![tactic(auto)]
 

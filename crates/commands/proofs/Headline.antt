@@ -5,7 +5,7 @@ use Rattle.job_format.specs.{declared.rule.Refusal.Refusal, Reading.file_at}
 use Rattle.field_words.proofs.Nones.{front_none}
 use Rattle.job_check.specs.Whole.{all_questions, refusal_of}
 use Rattle.strict_check.specs.{Stages.strict_stages, Whole.strict_questions, Whole.strict_refusal_of}
-use Rattle.headline.proofs.Uses.{may_run}
+use Rattle.job_safety.proofs.Safety.{may_run}
 use Rattle.commands.specs.{declared.command.Command.Command, declared.command.Command.TheVariants.Check, declared.command.Command.TheVariants.StrictCheck, Headline.IsSafelyAccepted}
 use Rattle.commands.specs.{Verdict.image_of, Verdict.IsVerdict, Answer.IsAnswer, Run.IsAnswered}
 

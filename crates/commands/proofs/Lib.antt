@@ -6,3 +6,5 @@ pub mod Images
 pub mod Versions
 pub mod Again
 pub mod Promised
+pub mod Rules
+pub mod Silent

@@ -1,7 +1,8 @@
 -- Each promise holds.
+use Rattle.accepted_strict.proofs.Files.{strict_bytes_obey_law}
 use Rattle.day_apart.proofs.Apart.{days_apart_law}
 use Rattle.driver_law.proofs.{Driver.drivers_are_safe_law, Ends.submissions_end_law}
-use Rattle.headline.proofs.Uses.{accepted_may_run, accepted_end}
+use Rattle.job_safety.proofs.Safety.{accepted_may_run, accepted_end}
 use Rattle.job_bound.proofs.Holds.{bound_holds_law, end_holds_law}
 use Rattle.job_queue.proofs.Laws.{starts_late}
 use Rattle.job_safety.proofs.Safety.{bytes_apart_law}
@@ -15,6 +16,7 @@ use Rattle.commands.proofs.{Again.makes_again, Versions.upgrade_keeps_all}
 pub promises : Promises
 promises = record {
   law = accepted_may_run;
+  strict = strict_bytes_obey_law;
   apart = bytes_apart_law;
   ends = accepted_end;
   upgrade = upgrade_keeps_all;

@@ -10,7 +10,7 @@ use Rattle.job_check.specs.{Whole.format_refused, Whole.format_stopped, Shaders.
 use Rattle.job_check.specs.Emit.{lengths_of}
 use Rattle.job_format.proofs.Laws.{none_file}
 use Rattle.job_check.proofs.Alike.{file_again, upgrade}
-use Rattle.accepted_law.specs.Holdings.{plain_of, codes_of, lists_of, slot_in, file_rights, fixed_below, fixed_of, file_starts}
+use Rattle.promises.specs.Holdings.{plain_of, codes_of, lists_of, slot_in, file_rights, fixed_below, fixed_of, file_starts}
 use Rattle.commands.specs.Upgrade.{format_rules, UpgradeKeepsAll}
 
 rights_alike : (f : FileModel) → file_rights (upgraded f) ≡ file_rights f

@@ -1,9 +1,10 @@
 -- What a command answers: a status and a text.
 use Rattle.std.specs.Prelude.{◌≡◌, ℕ, List, length}
 use Rattle.job_format.specs.{Model.FileModel, Text.file_text}
-use Rattle.job_check.specs.Emit.{memory_of, lengths_of}
+use Rattle.job_check.specs.{Emit.memory_of, Emit.lengths_of, Whole.refusal_of}
+use Rattle.strict_check.specs.Whole.{strict_refusal_of}
 use Rattle.dumper.specs.Example.{example_text}
-use Rattle.commands.specs.declared.command.Command.TheVariants.{Check, StrictCheck, Runs, Drawn, Upgrade, Bound, Show, FromText, Asm, Disasm, Shader, ShaderText, StrictShader, StrictShaderText, Slots, Queue, Session, Untile, Tile, Level}
+use Rattle.commands.specs.declared.command.Command.TheVariants.{Check, StrictCheck, Runs, Drawn, Upgrade, Bound, Show, StrictShow, FromText, Asm, Disasm, Shader, ShaderText, StrictShader, StrictShaderText, Slots, Queue, Session, Untile, Tile, Level}
 use Rattle.commands.specs.{declared.command.Command.Command, Pictures.IsUntileAnswer, Pictures.IsTileAnswer, Pictures.IsLevelAnswer}
 use Rattle.commands.specs.Verdict.{IsCheckAnswer, IsStrictCheckAnswer, IsTrialAnswer, IsDrawnAnswer, IsBoundAnswer, IsUpgradeAnswer}
 use Rattle.commands.specs.{Scripts.IsSlotsAnswer, Scripts.IsQueueAnswer, Scripts.IsSessionAnswer, Show.IsShowAnswer, Show.IsMakeAnswer}
@@ -19,7 +20,8 @@ IsAnswer (Runs trial) bytes status text = IsTrialAnswer trial bytes status text
 IsAnswer Drawn bytes status text = IsDrawnAnswer bytes status text
 IsAnswer Upgrade bytes status text = IsUpgradeAnswer bytes status text
 IsAnswer Bound bytes status text = IsBoundAnswer bytes status text
-IsAnswer Show bytes status text = IsShowAnswer bytes status text
+IsAnswer Show bytes status text = IsShowAnswer (refusal_of bytes) bytes status text
+IsAnswer StrictShow bytes status text = IsShowAnswer (strict_refusal_of bytes) bytes status text
 IsAnswer FromText bytes status text = IsMakeAnswer bytes status text
 IsAnswer Asm bytes status text = IsAsmAnswer bytes status text
 IsAnswer Disasm bytes status text = IsDisasmAnswer bytes status text

@@ -1,5 +1,5 @@
--- Why a command refuses, as a person is told: a function of the refusal and of what was read.
-use Rattle.std.specs.Prelude.{◌≡◌, ℕ, ◌*◌, ◌%◌, ◌==◌, Bool, true, false, List, ◌++◌, codes, length, nat_le, slice_index, option_map, Option, Some, None, Result, Ok, Err, if◌then◌else◌, decimal}
+-- Why a command refuses, as a person is told, or the notes of a shader that it accepts: a function of the refusal and of what was read.
+use Rattle.std.specs.Prelude.{◌≡◌, ℕ, ◌*◌, ◌%◌, ◌==◌, Bool, true, false, ◌&&◌, ◌||◌, List, ◌++◌, codes, length, nat_le, slice_index, option_map, Option, Some, None, Result, Ok, Err, if◌then◌else◌, decimal}
 use Rattle.field_words.specs.{Questions.first_of, Sizes.most_words}
 use Rattle.job_format.specs.{declared.rule.Refusal.Refusal, declared.rule.Stage.TheVariants.S, declared.rule.Stage.TheVariants.U, declared.rule.Stage.TheVariants.E}
 use Rattle.job_check.specs.{Shaders.code_questions, Shaders.words_of, Whole.refusal_of}
@@ -11,11 +11,13 @@ use Rattle.rule_words.specs.declared.name.Family.TheVariants.{Kind as KindFamily
 use Rattle.rule_words.specs.{declared.line.Line.Line, declared.name.RuleName.RuleName, Line.line_text, Line.IsLineOf}
 use Rattle.rule_words.specs.Names.{name_text, sentence_of}
 use Rattle.commands.specs.declared.answer.Answer.{Answer}
-use Rattle.commands.specs.declared.cause.Cause.TheVariants.{Rule, Kind, Mistake, Shader as ShaderCause, Long, Call, Part, Size, Level as LevelCause, Words}
-use Rattle.commands.specs.declared.command.Command.TheVariants.{StrictCheck, Upgrade, Show, FromText, Asm, Disasm, Shader, ShaderText, StrictShader, StrictShaderText, Slots, Queue, Session, Untile, Tile, Level}
+use Rattle.commands.specs.declared.cause.Cause.TheVariants.{Rule, Kind, Mistake, Shader as ShaderCause, Long, Call, Part, Size, Level as LevelCause, Notes, Words}
+use Rattle.commands.specs.declared.command.Command.TheVariants.{StrictCheck, Upgrade, Show, StrictShow, FromText, Asm, Disasm, Shader, ShaderText, StrictShader, StrictShaderText, Slots, Queue, Session, Untile, Tile, Level}
 use Rattle.commands.specs.{declared.cause.Cause.Cause, declared.command.Command.Command, declared.surfaces.TexturePart.TexturePart}
-use Rattle.commands.specs.{Upgrade.format_rules, WordFault.word_fault_text}
+use Rattle.commands.specs.declared.scripts.Script.TheVariants.{Slots as OfSlots, Queue as OfQueue, Session as OfSession}
+use Rattle.commands.specs.{declared.scripts.Script.Script, Scripts.calls_text, Upgrade.format_rules, WordFault.word_fault_text}
 use Rattle.shader_check.specs.{declared.fault.ShaderFault.ShaderFault, Rules.shader_questions}
+use Rattle.shader_notes.specs.{Notes.notes_of, Text.has_note, Text.notes_text}
 use Rattle.strict_rules.specs.{declared.rule.StrictFault.StrictFault, Least.number_of, Rules.strict_questions}
 use Rattle.strict_check.specs.Whole.{strict_refusal_of}
 use Rattle.job_queue.specs.Calls.{fault_line as queue_fault}
@@ -66,9 +68,9 @@ shader_line name index =
 unfoldable pub long_line : ℕ → List ℕ
 long_line count = codes "vc4check: the shader has " ++ (decimal count ++ codes " instructions, of which it may have 8192")
 
--- "vc4check: line 3: this is no call"
-unfoldable pub call_line : ℕ → List ℕ
-call_line line = codes "vc4check: line " ++ (decimal line ++ codes ": this is no call")
+-- "vc4check: line 3: this is no call, which is take JOB, .."
+unfoldable pub call_line : Script → ℕ → List ℕ
+call_line script line = codes "vc4check: line " ++ (decimal line ++ (codes ": this is no call, which is " ++ calls_text script))
 
 unfoldable pub part_line : ℕ → List ℕ
 part_line n = codes "vc4check: the input has " ++ (decimal n ++ codes " bytes, which are no whole words of 8")
@@ -97,10 +99,11 @@ cause_text (Kind fault place) = kind_line fault place
 cause_text (Mistake fault) = mistake_line fault
 cause_text (ShaderCause name index) = shader_line name index
 cause_text (Long count) = long_line count
-cause_text (Call line) = call_line line
+cause_text (Call script line) = call_line script line
 cause_text (Part n) = part_line n
 cause_text (Size n wanted) = size_line n wanted
 cause_text (LevelCause name) = level_line name
+cause_text (Notes notes) = notes_text notes
 cause_text (Words fault) = word_fault_text fault
 
 -- an answer that refuses, with this text and for this cause
@@ -129,13 +132,27 @@ shader_cause fault = ShaderCause (shader_rule fault) fault.index
 abbrev pub strict_cause : StrictFault → Cause
 strict_cause fault = ShaderCause (strict_rule fault) fault.at
 
--- the first rule that stands of a shader of these words, of which there may be too many
+-- the notes of a shader that no rule refuses, where it gets any
+abbrev pub notes_cause : List ℕ → Option Cause
+notes_cause code = if has_note (notes_of code) then Some (Notes (notes_of code)) else None
+
+-- the first rule that stands of a shader of these words, or its notes
+abbrev pub shader_cause_of : List ℕ → Option ShaderFault → Option Cause
+shader_cause_of code None = notes_cause code
+shader_cause_of code (Some fault) = Some (shader_cause fault)
+
+-- the same of words of which there may be too many
 abbrev pub words_cause : List ℕ → Option Cause
-words_cause code = if nat_le (length code) most_words then option_map shader_cause (first_of (shader_questions code)) else Some (Long (length code))
+words_cause code =
+    if nat_le (length code) most_words then shader_cause_of code (first_of (shader_questions code)) else Some (Long (length code))
 
 -- the same, where the strict rules are asked last
+abbrev pub strict_fault_cause : List ℕ → Option StrictFault → Option Cause
+strict_fault_cause code None = notes_cause code
+strict_fault_cause code (Some fault) = Some (strict_cause fault)
+
 abbrev pub strict_cause_of : List ℕ → Option ShaderFault → Option Cause
-strict_cause_of code None = option_map strict_cause (first_of (strict_questions code))
+strict_cause_of code None = strict_fault_cause code (first_of (strict_questions code))
 strict_cause_of code (Some fault) = Some (shader_cause fault)
 
 abbrev pub strict_words_cause : List ℕ → Option Cause
@@ -163,22 +180,34 @@ abbrev pub level_fault : TexturePart → List ℕ → Option LevelFault
 level_fault part bytes = first_of (level_questions (slice_index part.setup 0) (slice_index part.setup 1) (slice_index part.setup 2)
     (slice_index part.setup 3) (length bytes) part.face part.level)
 
--- Why each command refuses its input; None where it doesn't.
+-- Why each command refuses its input, or the notes of a shader; None where there are neither.
 abbrev pub IsCause : Command → List ℕ → Option Cause → Type 0
 IsCause StrictCheck bytes cause = IsRuleCause bytes (strict_refusal_of bytes) cause
 IsCause Upgrade bytes cause = IsRuleCause bytes (first_of (format_rules bytes)) cause
 IsCause Show bytes cause = cause ≡ None
+IsCause StrictShow bytes cause = cause ≡ None
 IsCause FromText bytes cause = cause ≡ mistake_cause (made bytes)
 IsCause Asm bytes cause = cause ≡ kind_cause bytes (Assembled bytes)
 IsCause Disasm bytes cause = cause ≡ part_cause (length bytes)
-IsCause Shader bytes cause = cause ≡ option_map shader_cause (first_of (code_questions bytes))
+IsCause Shader bytes cause = cause ≡ shader_cause_of (words_of bytes) (first_of (code_questions bytes))
 IsCause ShaderText bytes cause = cause ≡ text_cause bytes (Assembled bytes)
 IsCause StrictShader bytes cause = cause ≡ strict_cause_of (words_of bytes) (first_of (code_questions bytes))
 IsCause StrictShaderText bytes cause = cause ≡ strict_text_cause bytes (Assembled bytes)
-IsCause (Slots slots) bytes cause = cause ≡ option_map Call (slots_fault bytes)
-IsCause (Queue buffers) bytes cause = cause ≡ option_map Call (queue_fault bytes)
-IsCause Session bytes cause = cause ≡ option_map Call (session_fault bytes)
+IsCause (Slots slots) bytes cause = cause ≡ option_map (Call OfSlots) (slots_fault bytes)
+IsCause (Queue buffers) bytes cause = cause ≡ option_map (Call OfQueue) (queue_fault bytes)
+IsCause Session bytes cause = cause ≡ option_map (Call OfSession) (session_fault bytes)
 IsCause (Untile p) bytes cause = cause ≡ size_cause (length bytes) (size_for p.tiling p.width p.height p.cpp)
 IsCause (Tile p) bytes cause = cause ≡ size_cause (length bytes) (p.width * p.height * p.cpp)
 IsCause (Level part) bytes cause = cause ≡ option_map (λ fault. LevelCause (level_rule fault)) (level_fault part bytes)
 IsCause command bytes cause = IsRuleCause bytes (refusal_of bytes) cause
+
+-- A person is told something of a refusal, and of a shader that is accepted.
+abbrev pub gives_notes : Command → Bool
+gives_notes Shader = true
+gives_notes ShaderText = true
+gives_notes StrictShader = true
+gives_notes StrictShaderText = true
+gives_notes command = false
+
+unfoldable pub is_told : Command → ℕ → Bool
+is_told command status = status == 1 || (status == 0 && gives_notes command)

@@ -1,5 +1,6 @@
 pub mod Answer
 pub mod Cause
+pub mod Choice
 pub mod Headline
 pub mod Image
 pub mod Line

@@ -9,11 +9,11 @@ use Rattle.texture_layouts.specs.declared.surface.Tiling.{Tiling}
 use Rattle.commands.specs.declared.help.Verb.{Verb}
 use Rattle.commands.specs.declared.trial.SeedRange.{SeedRange}
 use Rattle.commands.specs.declared.words.Line.{Line as Unread}
-use Rattle.commands.specs.declared.word_fault.Argument.TheVariants.{Seed, Cpp, PictureTiling, Rule, Kind, Favoured, SeedNumbers}
+use Rattle.commands.specs.declared.word_fault.Argument.TheVariants.{Seed, Cpp, PictureTiling, Rule, Kind, Favoured, SeedNumbers, Output}
 use Rattle.commands.specs.declared.word_fault.Values.TheVariants.{Number}
-use Rattle.commands.specs.declared.word_fault.WordFault.TheVariants.{Missing, Wrong, Surplus}
+use Rattle.commands.specs.declared.word_fault.WordFault.TheVariants.{Missing, NoOption, Wrong, Surplus}
 use Rattle.commands.specs.{declared.word_fault.Argument.Argument, declared.word_fault.Values.Values, declared.word_fault.WordFault.WordFault}
-use Rattle.commands.specs.{Pictures.tiling_named, Pictures.pixel_by, Trials.unit_named, Trials.seeds_named, Trials.most_seed, WordFault.values_of}
+use Rattle.commands.specs.{Choice.nearest, Choice.option_letter, Pictures.tiling_named, Pictures.pixel_by, Trials.unit_named, Trials.seeds_named, Trials.most_seed, WordFault.values_of}
 
 abbrev pub texts : List (String Global) → List (List ℕ)
 texts words = map string_bytes words
@@ -38,10 +38,19 @@ begins_with word (first ∷ words) = bytes_eq first word
 abbrev pub begins : List ℕ → Line → Bool
 begins word line = begins_with word line.words
 
+-- A word that may not stand at its place, by its number: where it is meant as an option, the nearest one is told.
+abbrev pub unfit_by : Verb → ℕ → WordFault → Option ℕ → WordFault
+unfit_by verb at fault None = fault
+unfit_by verb at fault (Some letter) = NoOption verb at (nearest verb letter)
+
+unfoldable pub unfit : Verb → ℕ → WordFault → List ℕ → WordFault
+unfit verb at fault word = unfit_by verb at fault (option_letter word)
+
 -- The next word as an argument, which it is where `read` gives a value. Words count from 1.
 abbrev pub given_by : {T : Type 0} → Argument → (List ℕ → Option T) → Verb → ℕ → List (List ℕ) → Result T WordFault
 given_by argument read verb count [] = Err (Missing verb argument)
-given_by argument read verb count (word ∷ words) = ok_or (read word) (Wrong verb (count - length words) argument)
+given_by argument read verb count (word ∷ words) =
+    ok_or (read word) (unfit verb (count - length words) (Wrong verb (count - length words) argument) word)
 
 abbrev pub given : {T : Type 0} → Argument → (List ℕ → Option T) → Line → Result T WordFault
 given argument read line = given_by argument read line.verb line.count line.words
@@ -83,6 +92,10 @@ given_rule line = given Rule rule_named line
 unfoldable pub given_kind : Line → Result RuleName WordFault
 given_kind line = given Kind kind_named line
 
+-- the name of a file may be any word
+unfoldable pub given_output : Line → Result Unit WordFault
+given_output line = given Output (λ word. Some tt) line
+
 -- an argument, and what is read behind it
 module _ {R : Type 0} where
   abbrev pub follow : {T : Type 0} → Result T WordFault → (T → Line → Result R WordFault) → Line → Result R WordFault
@@ -102,7 +115,7 @@ module _ {R : Type 0} where
   -- what the words ask for, where no word is left
   abbrev pub ended_by : R → Verb → ℕ → List (List ℕ) → Result R WordFault
   ended_by asked verb count [] = Ok asked
-  ended_by asked verb count (word ∷ words) = Err (Surplus verb count)
+  ended_by asked verb count (word ∷ words) = Err (unfit verb (count - length words) (Surplus verb count) word)
 
   abbrev pub ended : R → Line → Result R WordFault
   ended asked line = ended_by asked line.verb line.count line.words

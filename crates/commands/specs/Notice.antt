@@ -4,7 +4,7 @@ use Rattle.std.specs.Prelude.{ℕ, ◌==◌, List, codes, Option, Some, None, if
 -- the line that goes with a status
 abbrev pub notice_of : ℕ → Option (List ℕ)
 notice_of status =
-    if status == 2 then Some (codes "usage: vc4check COMMAND [WORDS] [FILE], where COMMAND is check, replay, picture, upgrade, bound, show, make, gen, slots, queue, session, untile, tile, level, asm, disasm, shader or explain; vc4check --help says more")
+    if status == 2 then Some (codes "vc4check: a word is no text, which is UTF-8")
     else (if status == 3 then Some (codes "vc4check: reading the input failed")
     else (if status == 4 then Some (codes "vc4check: writing the answer failed")
     else (if status == 5 then Some (codes "vc4check: memory ran out")

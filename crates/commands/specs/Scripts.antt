@@ -2,7 +2,15 @@
 use Rattle.std.specs.Prelude.{◌≡◌, ◌⊎◌, ℕ, List, ◌++◌, codes, Option, None, Some, decimal}
 use Rattle.overflow_slots.specs.{Text.replies as slots_replies, Calls.fault_line as slots_fault}
 use Rattle.job_queue.specs.{Text.replies as queue_replies, Calls.fault_line as queue_fault}
+use Rattle.commands.specs.declared.scripts.Script.TheVariants.{Slots, Queue, Session}
+use Rattle.commands.specs.declared.scripts.Script.{Script}
 use Rattle.job_session.specs.{Text.replies as session_replies, Calls.fault_line as session_fault}
+
+-- the calls of a script, as a line names them
+unfoldable pub calls_text : Script → List ℕ
+calls_text Slots = codes "begin JOB TILES, take JOB, overflow JOB or end JOB, with a job to 31 and tiles to 65025"
+calls_text Queue = codes "submit READS WRITES, start, bin or render, where READS and WRITES are - or numbers parted by commas"
+calls_text Session = codes "create CLIENT PAGES, code CLIENT HEX, write CLIENT ID AT HEX, read CLIENT ID AT LENGTH, free CLIENT ID or submit CLIENT HEX, with a client to 7"
 
 -- a line for the first line of a script that is no call
 unfoldable pub malformed_text : ℕ → List ℕ

@@ -1,8 +1,7 @@
 -- What `show` and `make` answer to all of their input.
-use Rattle.std.specs.Prelude.{◌≡◌, ◌⊎◌, ℕ, List, [], ◌++◌, Ok, Err, Option, Some, None, codes, decimal}
+use Rattle.std.specs.Prelude.{◌≡◌, ◌⊎◌, ℕ, List, [], Ok, Err, Option, Some, None}
 use Rattle.job_format.specs.declared.rule.Refusal.{Refusal}
-use Rattle.job_check.specs.Whole.{refusal_of}
-use Rattle.job_text.specs.{declared.fault.MakeFault.MakeFault, declared.note.Piece.Piece, Made.made, Sentences.sentence_of, Shown.shown}
+use Rattle.job_text.specs.{declared.fault.MakeFault.MakeFault, declared.note.Piece.Piece, Made.made, Shown.shown}
 use Rattle.rule_words.specs.{declared.line.Line.Line, Line.line_text, Line.IsLineOf}
 
 -- The lines of bytes. Where a rule refuses them, the line of its offset is marked, and the line follows that tells the refusal.
@@ -13,22 +12,17 @@ IsShown bytes (Some refusal) text =
     × ((pieces : List Piece) × (text ≡ shown bytes pieces (Some refusal.offset) (line_text line)))
 
 -- Any bytes are answered with lines, on which all of them stand in order, each once, so that they are the bytes of that text. The mark is
--- that of the first rule that stands.
-abbrev pub IsShowAnswer : List ℕ → ℕ → List ℕ → Type 0
-IsShowAnswer bytes status text = (status ≡ 0) × (made text ≡ Ok bytes) × IsShown bytes (refusal_of bytes) text
+-- that of the first rule that stands, of all rules or of these and the strict ones behind them.
+abbrev pub IsShowAnswer : Option Refusal → List ℕ → ℕ → List ℕ → Type 0
+IsShowAnswer refusal bytes status text = (status ≡ 0) × (made text ≡ Ok bytes) × IsShown bytes refusal text
 
--- a line for the first fault of a text
-unfoldable pub mistake_text : MakeFault → List ℕ
-mistake_text fault =
-    codes "line " ++ (decimal fault.line ++ (codes " column " ++ (decimal fault.column ++ (codes ": " ++ (sentence_of fault.mistake ++ codes "\n")))))
-
--- A text without faults is answered with its bytes, any other with its first fault.
+-- A text without faults is answered with its bytes, any other with nothing, so that no text stands where bytes are expected.
 abbrev pub IsMakeAnswer : List ℕ → ℕ → List ℕ → Type 0
 IsMakeAnswer text status out =
     ((bytes : List ℕ) × (made text ≡ Ok bytes) × (status ≡ 0) × (out ≡ bytes))
-    ⊎ ((fault : MakeFault) × (made text ≡ Err fault) × (status ≡ 1) × (out ≡ mistake_text fault))
+    ⊎ ((fault : MakeFault) × (made text ≡ Err fault) × (status ≡ 1) × (out ≡ []))
 
 -- What `make` answers to a text that `show` wrote is the bytes that `show` read.
 abbrev pub MakesAgain : Type 0
-MakesAgain = (bytes text : List ℕ) (shown_status : ℕ) → IsShowAnswer bytes shown_status text
+MakesAgain = (refusal : Option Refusal) (bytes text : List ℕ) (shown_status : ℕ) → IsShowAnswer refusal bytes shown_status text
     → (out : List ℕ) (status : ℕ) → IsMakeAnswer text status out → (status ≡ 0) × (out ≡ bytes)

@@ -1,9 +1,9 @@
 -- What the program says of itself and of rules.
-use Rattle.std.specs.Prelude.{◌≡◌, ℕ, List, ◌++◌, codes, bytes_eq, Option, Some, None, if◌then◌else◌, flat_map}
-use Rattle.rule_words.specs.Names.{explained}
-use Rattle.commands.specs.declared.help.TheConstants.{CHECK, REPLAY, PICTURE, UPGRADE, BOUND, SHOW, MAKE, GEN, SLOTS, QUEUE, SESSION, UNTILE, TILE, LEVEL, ASM, DISASM, SHADER, EXPLAIN, HEAD, FOOT, VERSION, VERBS}
+use Rattle.std.specs.Prelude.{◌≡◌, ℕ, zero, suc, List, [], ◌++◌, codes, bytes_eq, Option, Some, None, if◌then◌else◌, flat_map}
+use Rattle.rule_words.specs.{declared.name.Family.Family, declared.name.RuleName.RuleName, Names.explained, Names.name_text, Names.words_of}
+use Rattle.commands.specs.declared.help.TheConstants.{CHECK, REPLAY, PICTURE, UPGRADE, BOUND, SHOW, MAKE, GEN, SLOTS, QUEUE, SESSION, UNTILE, TILE, LEVEL, ASM, DISASM, SHADER, EXPLAIN, HEAD, FOOT, VERSION, VERBS, FAMILIES}
 use Rattle.commands.specs.declared.help.Verb.TheVariants.{Check, Replay, Picture, Upgrade, Bound, Show, Make, Gen, Slots, Queue, Session, Untile, Tile, Level, Asm, Disasm, Shader, Explain}
-use Rattle.commands.specs.declared.help.Topic.TheVariants.{Program, Command, Version, Rule}
+use Rattle.commands.specs.declared.help.Topic.TheVariants.{Program, Command, Version, Rule, Rules}
 use Rattle.commands.specs.{declared.help.Verb.Verb, declared.help.Topic.Topic}
 
 -- the command that a word names
@@ -64,11 +64,28 @@ usage_line verb = codes "vc4check " ++ (usage_of verb ++ codes "\n")
 unfoldable pub program_help : List ℕ
 program_help = HEAD.now ++ (flat_map usage_line VERBS ++ FOOT.now)
 
+-- a rule and its sentence, where there is one of this name
+abbrev pub rule_row_by : RuleName → Option (List ℕ × List ℕ) → List ℕ
+rule_row_by name None = []
+rule_row_by name (Some words) = name_text name ++ (codes ": " ++ (words.0 ++ codes "\n"))
+
+unfoldable pub rule_row : RuleName → List ℕ
+rule_row name = rule_row_by name (words_of name)
+
+-- the rules of a family up to this number, and those of all families
+unfoldable pub rows_upto : Family → ℕ → List ℕ
+rows_upto family zero = []
+rows_upto family (suc n) = rows_upto family n ++ rule_row (record { family = family; number = suc n })
+
+unfoldable pub family_rows : Family → List ℕ
+family_rows family = rows_upto family 255
+
 unfoldable pub topic_text : Topic → List ℕ
 topic_text Program = program_help
 topic_text (Command verb) = verb_help verb
 topic_text Version = VERSION.now
 topic_text (Rule name) = explained name
+topic_text Rules = flat_map family_rows FAMILIES
 
 -- what is answered to words that ask for a topic
 abbrev pub IsTopicAnswer : Topic → ℕ → List ℕ → Type 0

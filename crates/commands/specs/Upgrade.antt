@@ -3,7 +3,7 @@ use Rattle.std.specs.Prelude.{◌≡◌, ℕ, List, None}
 use Rattle.field_words.specs.{Words.IsBytes, Questions.Question, Questions.first_of, Questions.answered}
 use Rattle.job_format.specs.{declared.rule.Refusal.Refusal, Faults.format_questions, File.IsFileOf, File.upgraded, Reading.file_at, Text.file_text}
 use Rattle.job_check.specs.{Emit.memory_of, Emit.all_lengths_of, Jobs.layouts_of, Whole.format_refused, Whole.refusal_of}
-use Rattle.accepted_law.specs.Holdings.{plain_of, fixed_of, file_rights, file_starts}
+use Rattle.promises.specs.Holdings.{plain_of, fixed_of, file_rights, file_starts}
 
 -- the rules of the format, as the program names them
 abbrev pub format_rules : List ℕ → List (Question Refusal)

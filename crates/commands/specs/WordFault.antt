@@ -1,10 +1,10 @@
 -- Why words ask for nothing that the program does, as a person is told: which word is wrong, and what it may be.
 use Rattle.std.specs.Prelude.{ℕ, List, ◌++◌, codes, decimal}
 use Rattle.commands.specs.declared.word_fault.TheConstants.{COMMANDS}
-use Rattle.commands.specs.declared.word_fault.Argument.TheVariants.{Steps, Seed, Example, SlotCount, Buffers, PictureTiling, Cpp, Width, Height, P0, P1, P2, P3, Face, LevelNumber, Rule, Kind, Favoured, SeedNumbers}
-use Rattle.commands.specs.declared.word_fault.Values.TheVariants.{Number, SeedNumber, Tiling, Pixel, RuleName, KindNumber, UnitName, Seeds}
-use Rattle.commands.specs.declared.word_fault.WordFault.TheVariants.{Nothing, Unknown, Alone, Wrong, Missing, Surplus}
-use Rattle.commands.specs.{Pictures.most_side, Topics.usage_of, declared.word_fault.Argument.Argument}
+use Rattle.commands.specs.declared.word_fault.Argument.TheVariants.{Steps, Seed, Example, SlotCount, Buffers, PictureTiling, Cpp, Width, Height, P0, P1, P2, P3, Face, LevelNumber, Rule, Kind, Favoured, SeedNumbers, Output}
+use Rattle.commands.specs.declared.word_fault.Values.TheVariants.{Number, SeedNumber, Tiling, Pixel, RuleName, KindNumber, UnitName, Seeds, FileName}
+use Rattle.commands.specs.declared.word_fault.WordFault.TheVariants.{Nothing, Unknown, Alone, NoTopic, NoOption, Wrong, Missing, Surplus}
+use Rattle.commands.specs.{declared.choice.Choice.Choice, Choice.choice_text, Pictures.most_side, Topics.usage_of, declared.word_fault.Argument.Argument}
 use Rattle.commands.specs.{declared.word_fault.Values.Values, declared.word_fault.WordFault.WordFault}
 
 -- the most steps of a run, slots of a pool of tile memory, and buffers that jobs of a queue name
@@ -42,6 +42,7 @@ argument_row Rule = (codes "RULE", RuleName)
 argument_row Kind = (codes "RULE", KindNumber)
 argument_row Favoured = (codes "KIND", UnitName)
 argument_row SeedNumbers = (codes "A..B", Seeds)
+argument_row Output = (codes "OUT", FileName)
 
 abbrev pub values_of : Argument → Values
 values_of argument = (argument_row argument).1
@@ -52,10 +53,12 @@ values_text (Number least most) = codes "a number from " ++ (decimal least ++ (c
 values_text SeedNumber = codes "a number from 0 to 18446744073709551615"
 values_text Tiling = codes "t or lt"
 values_text Pixel = codes "1, 2, 4 or 8"
-values_text RuleName = codes "the name of a rule, such as S24, or kind and a number"
+values_text RuleName =
+    codes "a letter of F, M, S, H, B, A, U, G, X, E, O, Q, J and V and a number, such as S24, or kind and a number, or --list for all"
 values_text KindNumber = codes "the number of a kind of the assembler's faults, from 1 to 5"
 values_text UnitName = codes "qpu, texture, binner or renderer"
 values_text Seeds = codes "seeds from A to before B, 1 to 1000 of them"
+values_text FileName = codes "the name of a file"
 
 unfoldable pub argument_text : Argument → List ℕ
 argument_text argument = (argument_row argument).0 ++ (codes " is " ++ values_text (values_of argument))
@@ -64,11 +67,20 @@ argument_text argument = (argument_row argument).0 ++ (codes " is " ++ values_te
 unfoldable pub surplus_text : ℕ → List ℕ
 surplus_text at = codes "word " ++ (decimal at ++ codes " is one too many")
 
+-- "word 2 is no option that may stand here; the nearest is --strict"
+unfoldable pub strange_option_text : ℕ → Choice → List ℕ
+strange_option_text at choice =
+    codes "word " ++ (decimal at ++ (codes " is no option that may stand here; the nearest is " ++ choice_text choice))
+
 -- the line that a person reads
 unfoldable pub word_fault_text : WordFault → List ℕ
 word_fault_text Nothing = codes "vc4check: a command is missing, which is " ++ COMMANDS.now
-word_fault_text Unknown = codes "vc4check: word 1 is no command, which is " ++ COMMANDS.now
-word_fault_text Alone = codes "vc4check: --help and --version stand alone"
+word_fault_text (Unknown at) = codes "vc4check: word " ++ (decimal at ++ (codes " is no command, which is " ++ COMMANDS.now))
+word_fault_text Alone = codes "vc4check: --version stands alone, and --help with one command at most"
+word_fault_text (NoTopic choice) =
+    codes "vc4check: word 1 is no option of the program; the nearest is " ++ (choice_text choice ++ codes "; usage: vc4check COMMAND [WORDS] [FILE]")
+word_fault_text (NoOption verb at choice) =
+    codes "vc4check: " ++ (strange_option_text at choice ++ (codes "; usage: vc4check " ++ usage_of verb))
 word_fault_text (Wrong verb at argument) =
     codes "vc4check: word " ++ (decimal at ++ (codes " is wrong: " ++ (argument_text argument ++ (codes "; usage: vc4check " ++ usage_of verb))))
 word_fault_text (Missing verb argument) =

@@ -1,5 +1,5 @@
 -- The words after the program's name: what they ask for, or which of them is wrong.
-use Rattle.std.specs.Prelude.{ℕ, ◌≤◌, ◌+◌, ◌-◌, ◌&&◌, not, Bool, true, false, is_ok, take, length, List, [], ◌∷◌, codes, bytes_eq, String, Option, Some, None, Result, Ok, Err, if◌then◌else◌}
+use Rattle.std.specs.Prelude.{ℕ, ◌≤◌, ◌+◌, ◌-◌, ◌==◌, ◌&&◌, not, Bool, true, false, is_ok, is_some, take, drop, length, string_bytes, List, [], ◌∷◌, codes, bytes_eq, String, Option, Some, None, Result, Ok, Err, if◌then◌else◌}
 use Rattle.std.specs.Result.{result_ok}
 use Rattle.std.specs.declared.alloc.Global.{Global}
 use Rattle.field_words.specs.Sizes.{most_code, most_list}
@@ -8,16 +8,16 @@ use Rattle.seeded_runs.specs.declared.told.Look.{Look}
 use Rattle.seeded_runs.specs.declared.told.Look.TheVariants as look
 use Rattle.seeded_runs.specs.Told.{IsTrialWithin}
 use Rattle.rule_words.specs.declared.name.RuleName.{RuleName}
-use Rattle.commands.specs.declared.command.Command.TheVariants.{Check, StrictCheck, Runs, Drawn, Upgrade, Bound, Show, FromText, Asm, Disasm, Shader, ShaderText, StrictShader, StrictShaderText, Slots, Queue, Session, Untile, Tile, Level}
+use Rattle.commands.specs.declared.command.Command.TheVariants.{Check, StrictCheck, Runs, Drawn, Upgrade, Bound, Show, StrictShow, FromText, Asm, Disasm, Shader, ShaderText, StrictShader, StrictShaderText, Slots, Queue, Session, Untile, Tile, Level}
 use Rattle.commands.specs.declared.command.Task.TheVariants.{Read, Make, Tell}
-use Rattle.commands.specs.declared.help.Topic.TheVariants.{Program, Command as CommandTopic, Version, Rule as RuleTopic}
+use Rattle.commands.specs.declared.help.Topic.TheVariants.{Program, Command as CommandTopic, Version, Rule as RuleTopic, Rules}
 use Rattle.commands.specs.declared.help.Verb.TheVariants as verb
 use Rattle.commands.specs.declared.surfaces.Picture.{Picture}
 use Rattle.commands.specs.declared.word_fault.Argument.TheVariants.{Steps, Example, SlotCount, Buffers, Width, Height, P0, P1, P2, P3, Face, LevelNumber}
-use Rattle.commands.specs.declared.word_fault.WordFault.TheVariants.{Nothing, Unknown, Alone}
+use Rattle.commands.specs.declared.word_fault.WordFault.TheVariants.{Nothing, Unknown, Alone, NoTopic}
 use Rattle.commands.specs.{declared.command.Command.Command, declared.command.Task.Task, declared.help.Topic.Topic, declared.help.Verb.Verb, declared.word_fault.WordFault.WordFault}
-use Rattle.commands.specs.Line.{Line, texts, number, given_seed, given_unit, given_seeds, given_tiling, given_cpp, given_rule, given_kind, read, option, ended}
-use Rattle.commands.specs.{Pictures.IsPictureWithin, Topics.verb_named, WordFault.most_slots, WordFault.most_queued}
+use Rattle.commands.specs.Line.{Line, texts, number, given_seed, given_unit, given_seeds, given_tiling, given_cpp, given_rule, given_kind, given_output, read, option, ended}
+use Rattle.commands.specs.{Choice.option_letter, Choice.nearest_topic, Pictures.IsPictureWithin, Topics.verb_named, WordFault.most_slots, WordFault.most_queued}
 
 -- STEPS SEED: a run that is shown in this way, where a kind of unit is favoured or none
 abbrev pub run : Look → Option UnitKind → Line → Result Task WordFault
@@ -71,6 +71,10 @@ queue = number Buffers (λ buffers. ended (Read (Queue buffers)))
 abbrev pub check : Line → Result Task WordFault
 check = option (codes "--strict") (ended (Read StrictCheck)) (ended (Read Check))
 
+-- show [--strict]
+abbrev pub show : Line → Result Task WordFault
+show = option (codes "--strict") (ended (Read StrictShow)) (ended (Read Show))
+
 -- shader [--strict] [--asm]
 abbrev pub strict_shader : Line → Result Task WordFault
 strict_shader = option (codes "--asm") (ended (Read StrictShaderText)) (ended (Read StrictShader))
@@ -78,12 +82,13 @@ strict_shader = option (codes "--asm") (ended (Read StrictShaderText)) (ended (R
 abbrev pub shader : Line → Result Task WordFault
 shader = option (codes "--strict") strict_shader (option (codes "--asm") (ended (Read ShaderText)) (ended (Read Shader)))
 
--- explain RULE, or kind and a number
+-- explain RULE, or kind and a number, or --list
 abbrev pub told_of : RuleName → Line → Result Task WordFault
 told_of name = ended (Tell (RuleTopic name))
 
 abbrev pub explain : Line → Result Task WordFault
-explain = option (codes "kind") (read given_kind told_of) (read given_rule told_of)
+explain =
+    option (codes "--list") (ended (Tell Rules)) (option (codes "kind") (read given_kind told_of) (read given_rule told_of))
 
 -- the arguments of each command
 abbrev pub asked : Verb → Line → Result Task WordFault
@@ -92,7 +97,7 @@ asked verb.Replay = replay
 asked verb.Picture = picture
 asked verb.Upgrade = ended (Read Upgrade)
 asked verb.Bound = ended (Read Bound)
-asked verb.Show = ended (Read Show)
+asked verb.Show = show
 asked verb.Make = ended (Read FromText)
 asked verb.Gen = example
 asked verb.Slots = slots
@@ -106,19 +111,42 @@ asked verb.Disasm = ended (Read Disasm)
 asked verb.Shader = shader
 asked verb.Explain = explain
 
--- or `--help` alone
-abbrev pub task_behind : Line → Result Task WordFault
-task_behind line = option (codes "--help") (ended (Tell (CommandTopic line.verb))) (asked line.verb) line
+-- or `--help` alone; `-o OUT` stands before them
+abbrev pub helped : Verb → Line → Result Task WordFault
+helped verb = ended (Tell (CommandTopic verb))
 
--- a question about the program, which is its only word
-abbrev pub topic_alone : Topic → List (List ℕ) → Result Task WordFault
-topic_alone topic [] = Ok (Tell topic)
-topic_alone topic (word ∷ words) = Err Alone
+abbrev pub put_out : Verb → Line → Result Task WordFault
+put_out verb = option (codes "-o") (read given_output (λ name. asked verb)) (asked verb)
+
+abbrev pub task_behind : Line → Result Task WordFault
+task_behind line = option (codes "--help") (helped line.verb) (option (codes "-h") (helped line.verb) (put_out line.verb)) line
+
+-- what the program does, or a command
+abbrev pub help_by : Option Verb → Result Task WordFault
+help_by None = Err (Unknown 2)
+help_by (Some verb) = Ok (Tell (CommandTopic verb))
+
+abbrev pub help_of : List (List ℕ) → Result Task WordFault
+help_of [] = Ok (Tell Program)
+help_of (word ∷ []) = help_by (verb_named word)
+help_of (word ∷ (other ∷ words)) = Err Alone
+
+abbrev pub version_alone : List (List ℕ) → Result Task WordFault
+version_alone [] = Ok (Tell Version)
+version_alone (word ∷ words) = Err Alone
+
+-- a first word that is no command
+abbrev pub strange_by : Option ℕ → WordFault
+strange_by None = Unknown 1
+strange_by (Some letter) = NoTopic (nearest_topic letter)
 
 abbrev pub topic_named : List ℕ → List (List ℕ) → Result Task WordFault
 topic_named first words =
-    if bytes_eq first (codes "--help") then topic_alone Program words
-    else (if bytes_eq first (codes "--version") then topic_alone Version words else Err Unknown)
+    if bytes_eq first (codes "--help") then help_of words
+    else (if bytes_eq first (codes "-h") then help_of words
+    else (if bytes_eq first (codes "help") then help_of words
+    else (if bytes_eq first (codes "--version") then version_alone words
+    else (if bytes_eq first (codes "-V") then version_alone words else Err (strange_by (option_letter first))))))
 
 abbrev pub task_by : List ℕ → Option Verb → List (List ℕ) → Result Task WordFault
 task_by first None words = topic_named first words
@@ -137,10 +165,24 @@ abbrev pub is_read : Result Task WordFault → Bool
 is_read (Ok (Read command)) = true
 is_read task = false
 
--- Whether the last word is the name of a file to read in place of standard input: all words ask for nothing, and those before it for a
--- command that reads.
+-- Whether the last word is the name of a file to read in place of standard input: it isn't meant as an option, all words ask for nothing,
+-- and those before it for a command that reads.
+abbrev pub is_name : List (String Global) → Bool
+is_name [] = false
+is_name (word ∷ words) = not (is_some (option_letter (string_bytes word)))
+
 abbrev pub names_file : List (String Global) → Bool
-names_file words = not (is_ok (task_or_fault (texts words))) && is_read (task_or_fault (texts (take (length words - 1) words)))
+names_file words =
+    is_name (drop (length words - 1) words)
+    && (not (is_ok (task_or_fault (texts words))) && is_read (task_or_fault (texts (take (length words - 1) words))))
+
+unfoldable pub is_command : List ℕ → Bool
+is_command word = is_some (verb_named word)
+
+-- whether the third word is the name of a file for the output
+abbrev pub names_output : List (List ℕ) → Bool
+names_output (first ∷ (second ∷ (name ∷ words))) = is_command first && bytes_eq second (codes "-o")
+names_output words = false
 
 -- a command whose numbers are within these
 abbrev pub IsWithin : Command → Type 0
@@ -178,3 +220,13 @@ limit_of (Untile picture) = most_picture
 limit_of (Tile picture) = most_picture
 limit_of (Level part) = most_picture
 limit_of command = most_file
+
+-- that more was read than a limit allows
+abbrev pub excess_at : ℕ → List ℕ
+excess_at limit =
+    if limit == most_file then codes "more than 48 MiB" else (if limit == most_picture then codes "more than 24 MiB"
+    else (if limit == most_code then codes "more than 64 KiB" else codes "more than 1 MiB"))
+
+abbrev pub excess_of : Result Task WordFault → List ℕ
+excess_of (Ok (Read command)) = excess_at (limit_of command)
+excess_of task = codes "more than it may have"

@@ -7,7 +7,7 @@ ghost use Rattle.commands.specs.Run.{FailsAt};
 use super::cause::Cause;
 use job_io::{Failed, Sink, write_all};
 
-/// Status 0 or 1, the text that goes with it, and why it is refused, where there is more to say.
+/// Status 0 or 1, the text that goes with it, and what a person is told besides: why it is refused, or the notes of a shader.
 #[derive(Debug, Drop)]
 pub struct Answer {
     pub status: u8,
@@ -24,6 +24,17 @@ impl Answer {
             status: 0,
             text,
             cause: None,
+        }
+    }
+
+    /// The same, and what a person is told besides.
+    pub fn noted(text: Vec<u8>, cause: Option<Cause>) -> Answer
+        ensures { result ≡ record { status = 0; text = text; cause = cause } }
+    {
+        Answer {
+            status: 0,
+            text,
+            cause,
         }
     }
 
@@ -45,8 +56,10 @@ pub fn reply<K: Sink>(sink: &mut K, answer: &Answer) -> u8
     requires { answer.now.status < 2 }
     ensures status { result ≢ 4 → result ≡ answer.now.status }
     ensures failing { result ≤ 4 }
-    ensures written { result ≢ 4 → Appends (K.held sink.old) (K.held sink.new) answer.now.text.items }
-    ensures cut { result ≡ 4 → AppendsFront (K.held sink.old) (K.held sink.new) answer.now.text.items }
+    ensures written { result ≢ 4 → Appends (K.held sink.old) (K.held sink.new)
+        answer.now.text.items }
+    ensures cut { result ≡ 4 → AppendsFront (K.held sink.old) (K.held sink.new)
+        answer.now.text.items }
     ensures write { FailsAt K.held K.faults sink.old sink.new 4 result }
 {
     match write_all(sink, &answer.text) {

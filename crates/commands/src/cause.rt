@@ -1,18 +1,21 @@
-//! Why a command refuses, as a line for a person.
+//! Why a command refuses, as a line for a person; and the notes of a shader.
 ghost use Rattle.std.specs.Prelude.{◌≡◌, Some};
 ghost use Rattle.commands.specs.Cause.{cause_text, is_bare, told_text, kind_of, shader_rule, strict_rule, level_rule, size_line, named_text};
 
+use super::scripts::Script;
 use super::word_fault::WordFault;
 use job_format::Stage;
 use job_text::MakeFault;
 use qpu_asm::{AsmFault, FaultPlace, Opcode, Wanted};
 use rule_words::{Family, Line, RuleName};
 use shader_check::ShaderFault;
+use shader_notes::Notes;
 use std::fmt;
 use strict_rules::StrictFault;
 use tile_convert::LevelFault;
 
-/// Why a command refused its input, or the program its words. It is printed as one line without a line feed, and takes no memory, also to print.
+/// Why a command refused its input, or the program its words; or the notes of a shader that it accepted. It is printed as one line without a
+/// line feed, and notes as a line each, and takes no memory, also to print.
 #[derive(Clone, Copy, Debug)]
 pub enum Cause {
     /// A job file breaks a rule.
@@ -23,10 +26,12 @@ pub enum Cause {
     Mistake(MakeFault),
     /// A shader breaks a rule at the instruction of this index.
     Shader(RuleName, u32),
+    /// A shader that no rule refuses gets these notes.
+    Notes(Notes),
     /// A shader's text has so many instructions, which are too many.
     Long(u64),
-    /// The first line of a script that is no call.
-    Call(u32),
+    /// The first line of a script of such calls that is none.
+    Call(Script, u32),
     /// The input has so many bytes, which are no whole words.
     Part(u64),
     /// The input has so many bytes, and so many are wanted.
@@ -175,7 +180,14 @@ impl fmt::Display for Cause {
                 "vc4check: the shader has {} instructions, of which it may have 8192",
                 count
             ),
-            Cause::Call(line) => write!(f, "vc4check: line {}: this is no call", line),
+            Cause::Call(script, line) => {
+                let calls = script.calls();
+                write!(
+                    f,
+                    "vc4check: line {}: this is no call, which is {}",
+                    line, calls
+                )
+            }
             Cause::Part(length) => write!(
                 f,
                 "vc4check: the input has {} bytes, which are no whole words of 8",
@@ -192,6 +204,7 @@ impl fmt::Display for Cause {
                 let named = Named { name: *name };
                 write!(f, "vc4check: {}; see vc4check explain {}", named, name)
             }
+            Cause::Notes(notes) => write!(f, "{}", notes),
             Cause::Words(fault) => write!(f, "{}", fault),
         }
     }

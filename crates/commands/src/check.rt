@@ -39,7 +39,8 @@ pub struct Accepted<'a> {
 // The rules of a file that was read.
 fn accept_parts<'a>(alloc: Global, file: FileParts<'a>) -> Result<Accepted<'a>, Stop<Refusal>>
     requires { IsWellFormed (parts_view file) }
-    ensures { Answers (file_stages (parts_view file.entry)) (IsAccepted (parts_view file.entry)) result }
+    ensures { Answers (file_stages (parts_view file.entry))
+        (IsAccepted (parts_view file.entry)) result }
 {
     let region = check_parts(alloc, MOST_MEMORY, &file, None)?;
     Ok(Accepted { file, region })
@@ -79,6 +80,18 @@ pub fn refusal_in(alloc: Global, bytes: &[u8]) -> Result<Option<Refusal>, NoMemo
     }
 }
 
+/// The same, with the strict rules last.
+#[tactic(auto, unfolding(strict_check::specs::Whole::strict_refusal_of))]
+pub fn strict_refusal_in(alloc: Global, bytes: &[u8]) -> Result<Option<Refusal>, NoMemory>
+    ensures { IfOk result (λ refusal. refusal ≡ strict_refusal_of bytes.now) }
+{
+    match accept_strict(alloc, bytes) {
+        Ok(_) => Ok(None),
+        Err(Stop::Fault(refusal)) => Ok(Some(refusal)),
+        Err(Stop::NoMemory) => Err(NoMemory),
+    }
+}
+
 // What a file's memory has by ascending place: the contents of its buffers, which stay where they are, and its lists, which begin at
 // this place.
 fn spans_of<'a>(
@@ -107,7 +120,8 @@ fn spans_of<'a>(
 fn image_of<'a>(alloc: Global, accepted: Accepted<'a>) -> Result<Image<'a>, NoMemory>
     requires accepted { IsAccepted (parts_view accepted.file) accepted }
     requires well_formed { IsWellFormed (parts_view accepted.file) }
-    ensures text { IfOk result (λ image. image_text image ≡ image_of (parts_view accepted.entry.file)) }
+    ensures text { IfOk result (λ image. image_text image
+        ≡ image_of (parts_view accepted.entry.file)) }
     ensures ready { IfOk result (λ image. Ascend 0 most_memory (parts_of image.spans.items)) }
 {
     let Accepted { file, region } = accepted;
@@ -145,7 +159,8 @@ pub fn check_answer(alloc: Global, bytes: &[u8]) -> Result<Reply<'_>, NoMemory>
     ensures answers { IfOk result (IsReplyOf (IsCheckAnswer bytes.now)) }
     ensures status { IfOk result (λ a. reply_status a < 2) }
     ensures ready { IfOk result IsReplyReady }
-    ensures cause { IfOk result (λ a. IsRuleCause bytes.now (refusal_of bytes.now) (reply_cause a)) }
+    ensures cause { IfOk result (λ a. IsRuleCause bytes.now (refusal_of bytes.now)
+        (reply_cause a)) }
 {
     match accept(alloc, bytes) {
         Ok(accepted) => Ok(Reply::Image(image_of(alloc, accepted)?)),
@@ -160,7 +175,8 @@ pub fn strict_check_answer(alloc: Global, bytes: &[u8]) -> Result<Reply<'_>, NoM
     ensures answers { IfOk result (IsReplyOf (IsStrictCheckAnswer bytes.now)) }
     ensures status { IfOk result (λ a. reply_status a < 2) }
     ensures ready { IfOk result IsReplyReady }
-    ensures cause { IfOk result (λ a. IsRuleCause bytes.now (strict_refusal_of bytes.now) (reply_cause a)) }
+    ensures cause { IfOk result (λ a. IsRuleCause bytes.now (strict_refusal_of bytes.now)
+        (reply_cause a)) }
 {
     match accept_strict(alloc, bytes) {
         Ok(accepted) => Ok(Reply::Image(image_of(alloc, accepted)?)),

@@ -1,6 +1,7 @@
 //! What the program can do.
 ghost use Rattle.std.specs.Prelude.{◌≡◌, ◌≤◌};
-ghost use Rattle.commands.specs.Words.{most_file, limit_of};
+ghost use Rattle.commands.specs.Cause.{is_told};
+ghost use Rattle.commands.specs.Words.{most_file, limit_of, excess_at};
 
 use super::help::Topic;
 use super::surfaces::{Picture, TexturePart};
@@ -31,6 +32,8 @@ pub enum Command {
     Bound,
     /// `show`: reads any bytes and writes them as lines of text that say what they are, if they are a job file.
     Show,
+    /// `show --strict`: as `show`, and marks a strict rule where no other is broken.
+    StrictShow,
     /// `make`: reads such a text and writes its bytes, or its first fault.
     FromText,
     /// `asm`: reads shader text and writes the instruction words, 8 bytes each, little endian.
@@ -71,6 +74,20 @@ pub enum Task {
 }
 
 impl Command {
+    /// Whether a person is told something of an input with which this status is answered.
+    #[tactic(auto, unfolding(crate::specs::Cause::is_told))]
+    pub fn is_told(self, status: u8) -> bool
+        ensures { result ≡ is_told self status }
+    {
+        match self {
+            Command::Shader
+            | Command::ShaderText
+            | Command::StrictShader
+            | Command::StrictShaderText => status < 2,
+            _ => status == 1,
+        }
+    }
+
     /// The most bytes of input that the command takes.
     pub fn limit(self) -> usize
         ensures value { result ≡ limit_of self }
@@ -87,6 +104,18 @@ impl Command {
             | Command::Queue(_)
             | Command::Session => MOST_LIST as usize,
             _ => MOST_FILE,
+        }
+    }
+
+    /// How much input is more than the command takes.
+    pub fn excess(self) -> &'static str
+        ensures { result.now ≡ excess_at (limit_of self) }
+    {
+        match self.limit() {
+            MOST_FILE => "more than 48 MiB",
+            MOST_PICTURE => "more than 24 MiB",
+            65536 => "more than 64 KiB",
+            _ => "more than 1 MiB",
         }
     }
 }

@@ -13,7 +13,8 @@ use std::alloc::Global;
 
 // The picture of an accepted file's memory.
 fn picture_of(alloc: Global, accepted: &Accepted) -> Result<Vec<u8>, NoMemory>
-    ensures { IfOk result (λ text. text.items ≡ forest_text (picture_of (parts_view accepted.now.file))) }
+    ensures { IfOk result (λ text. text.items
+        ≡ forest_text (picture_of (parts_view accepted.now.file))) }
 {
     let file = &accepted.file;
     memory_picture(alloc, file.mem_size, &file.regions, &file.buffers)

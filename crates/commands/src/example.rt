@@ -37,7 +37,8 @@ fn example_answer(alloc: Global, number: u32) -> Result<Answer, NoMemory>
 pub fn make<K: Sink>(alloc: Global, number: u32, sink: &mut K) -> u8
     ensures statuses { (result ≡ 0) ⊎ ((result ≡ 4) ⊎ (result ≡ 5)) }
     ensures write { FailsAt K.held K.faults sink.old sink.new 4 result }
-    ensures made { result < 2 → IsAnswered (IsExampleAnswer number) result (K.held sink.old) (K.held sink.new) }
+    ensures made { result < 2 → IsAnswered (IsExampleAnswer number) result (K.held sink.old)
+        (K.held sink.new) }
     ensures cut { result ≡ 4 → IsCut (IsExampleAnswer number) (K.held sink.old) (K.held sink.new) }
     ensures nothing { 1 < result → result ≢ 4 → sink.new ≡ sink.old }
 {

@@ -2,12 +2,13 @@
 ghost use Rattle.std.specs.Prelude.{◌≡◌, ◌≢◌, ◌≤◌, ◌<◌, ◌⊎◌, ◌++◌, IfOk, OnOk, codes};
 ghost use Rattle.std.specs.List.{flat_map};
 ghost use Rattle.commands.specs.Run.{IsAnswered, IsCut, FailsAt};
-ghost use Rattle.commands.specs.Topics.{verb_named, usage_row, usage_of, usage_line, verb_help, program_help, topic_text, IsTopicAnswer};
+ghost use Rattle.commands.specs.Topics.{verb_named, usage_row, usage_of, usage_line, verb_help, program_help, rule_row, rows_upto, family_rows, topic_text, IsTopicAnswer};
 
 use super::answer::{Answer, reply};
 use field_words::NoMemory;
+use job_format::Stage;
 use job_io::Sink;
-use rule_words::{RuleName, explain};
+use rule_words::{Family, RuleName, explain};
 use std::alloc::{AllocError, Global};
 
 /// A word that a line of the program begins with.
@@ -36,14 +37,16 @@ pub enum Verb {
 /// What the program is asked about.
 #[derive(Clone, Copy, Debug, PartialEq, Eq)]
 pub enum Topic {
-    /// `--help`: all that it does.
+    /// `--help`, `-h` and `help`: all that it does.
     Program,
-    /// `COMMAND --help`: what a command does.
+    /// The same with a command, and `COMMAND --help`: what a command does.
     Command(Verb),
-    /// `--version`: its version, and that of the toolchain that it is proved with.
+    /// `--version` and `-V`: its version, and that of the toolchain that it is proved with.
     Version,
     /// `explain RULE`: a rule, or a kind of the assembler's faults.
     Rule(RuleName),
+    /// `explain --list`: all rules, each with its sentence.
+    Rules,
 }
 
 /// What a command's line is, behind the program's name, and what the command does.
@@ -84,13 +87,15 @@ where a shader branches back; or the first rule that it breaks.",
 );
 
 const SHOW: Usage = (
-    "show [FILE]",
-    "Reads any bytes, at most 48 MiB, and writes them as text that says what each byte of a job file is.",
+    "show [--strict] [FILE]",
+    "Reads any bytes, at most 48 MiB, and writes them as text that says what each byte of a job file is, and marks the first rule that they
+break. With --strict it asks the strict rules (E) too, last of all. The text is some three times as long, and make reads at most 48 MiB of it
+again.",
 );
 
 const MAKE: Usage = (
     "make [FILE]",
-    "Reads such text, at most 48 MiB, and writes its bytes, or its first mistake.",
+    "Reads such text, at most 48 MiB, and writes its bytes; or nothing where it has a mistake, which standard error tells.",
 );
 
 const GEN: Usage = (
@@ -147,28 +152,29 @@ const SHADER: Usage = (
     "shader [--strict] [--asm] [FILE]",
     "Reads the words of one shader, 8 bytes each, at most 64 KiB, and checks it alone: writes how many uniforms and threads it takes, and its
 samples and address words by the uniforms that they take; or the first rule that it breaks. With --asm it reads shader text, at most 1 MiB.
-With --strict it asks the strict rules (E) too, last of all.",
+With --strict it asks the strict rules (E) too, last of all. On standard error it notes what no real shader does.",
 );
 
 const EXPLAIN: Usage = (
-    "explain RULE",
+    "explain RULE | --list",
     "Writes what a rule says, why it is there, and how a refused file is mended. RULE is a letter and a number, such as S24,
-or, for a kind of the assembler's faults, kind and a number, such as kind 3. It reads nothing.",
+or, for a kind of the assembler's faults, kind and a number, such as kind 3. With --list it writes all rules, each with its sentence. It reads nothing.",
 );
 
 /// What stands before the commands in what `--help` says, and behind them.
 const HEAD: &str = "vc4check checks 3D jobs for the VideoCore IV.\n\n";
 
 const FOOT: &str = "
-A command reads FILE, or standard input where FILE is - or missing, and writes standard output.
-vc4check COMMAND --help says more of a command; vc4check --version says which version this is.
+A command reads FILE, or standard input where FILE is - or missing, and writes standard output. With -o OUT behind COMMAND the output goes
+to the file OUT instead, which is written at status 0 alone. A file whose name begins with - is named ./-NAME.
+vc4check COMMAND --help says more of a command, and vc4check explain --list of all rules; vc4check --version says which version this is.
 
 Exit status: 0 done, 1 refused, 2 wrong words, 3 reading failed, 4 writing failed, 5 out of memory, 6 too much input.
 With 1 to 6 a line on standard error says why.
 ";
 
 const VERSION: &str =
-    "vc4check 0.1.0, for job files of versions 1 and 2\nproved with rattle-kit-13f logic dac8208d650f15bf\n";
+    "vc4check 0.5.0, for job files of versions 1 and 2\nproved with rattle-kit-13f logic dac8208d650f15bf\n";
 
 /// All commands, as `--help` names them.
 const VERBS: [Verb; 18] = [
@@ -256,6 +262,25 @@ impl Verb {
     }
 }
 
+/// All families of rules, as `explain --list` has them.
+const FAMILIES: [Family; 15] = [
+    Family::Check(Stage::F),
+    Family::Check(Stage::M),
+    Family::Check(Stage::S),
+    Family::Check(Stage::H),
+    Family::Check(Stage::B),
+    Family::Check(Stage::A),
+    Family::Check(Stage::U),
+    Family::Check(Stage::G),
+    Family::Check(Stage::X),
+    Family::Check(Stage::E),
+    Family::O,
+    Family::Q,
+    Family::J,
+    Family::V,
+    Family::Kind,
+];
+
 #[tactic(auto, unfolding(crate::specs::Topics::verb_help))]
 fn verb_help(alloc: Global, verb: Verb) -> Result<Vec<u8>, AllocError>
     ensures { IfOk result (λ text. text.items ≡ verb_help verb) }
@@ -298,6 +323,53 @@ fn program_help(alloc: Global) -> Result<Vec<u8>, AllocError>
     Ok(text)
 }
 
+/// Adds the rule and its sentence, where there is one of this name.
+#[tactic(auto, unfolding(crate::specs::Topics::rule_row))]
+fn put_rule(alloc: Global, text: &mut Vec<u8>, name: RuleName) -> Result<(), AllocError>
+    ensures { OnOk result (text.new.items ≡ text.old.items ++ rule_row name) }
+{
+    let Some(words) = name.words() else {
+        return Ok(());
+    };
+    let line = format!(in alloc; "{name}: {}\n", words.sentence)?;
+    text.extend_from_slice(line.as_bytes())?;
+    Ok(())
+}
+
+/// The rules of a family.
+#[tactic(auto, unfolding(crate::specs::Topics::family_rows), using(crate::proofs::Rules::rows_none, crate::proofs::Rules::rows_more))]
+fn family_rows(alloc: Global, family: Family) -> Result<Vec<u8>, AllocError>
+    ensures { IfOk result (λ text. text.items ≡ family_rows family) }
+{
+    let mut text = Vec::new(alloc);
+    let mut number: u8 = 0;
+    while number < 255 {
+        number += 1;
+        put_rule(alloc, &mut text, RuleName::new(family, number))?;
+    }
+    Ok(text)
+}
+
+/// Adds the rules of a family.
+fn put_family(alloc: Global, text: &mut Vec<u8>, family: Family) -> Result<(), AllocError>
+    ensures { OnOk result (text.new.items ≡ text.old.items ++ family_rows family) }
+{
+    let rows = family_rows(alloc, family)?;
+    text.extend_from_slice(&rows)?;
+    Ok(())
+}
+
+/// The rules of these families.
+fn rule_rows(alloc: Global, families: &[Family]) -> Result<Vec<u8>, AllocError>
+    ensures { IfOk result (λ text. text.items ≡ flat_map family_rows families.now) }
+{
+    let mut text = Vec::new(alloc);
+    for family in families {
+        put_family(alloc, &mut text, *family)?;
+    }
+    Ok(text)
+}
+
 /// What the program says of this.
 #[tactic(auto, unfolding(crate::specs::Topics::topic_text))]
 fn topic_text(alloc: Global, topic: Topic) -> Result<Vec<u8>, AllocError>
@@ -308,6 +380,7 @@ fn topic_text(alloc: Global, topic: Topic) -> Result<Vec<u8>, AllocError>
         Topic::Command(verb) => verb_help(alloc, verb),
         Topic::Version => Vec::from_slice(alloc, VERSION.as_bytes()),
         Topic::Rule(name) => explain(alloc, name),
+        Topic::Rules => rule_rows(alloc, &FAMILIES),
     }
 }
 
@@ -316,7 +389,8 @@ fn topic_text(alloc: Global, topic: Topic) -> Result<Vec<u8>, AllocError>
 pub fn tell<K: Sink>(alloc: Global, topic: Topic, sink: &mut K) -> u8
     ensures statuses { (result ≡ 0) ⊎ ((result ≡ 4) ⊎ (result ≡ 5)) }
     ensures write { FailsAt K.held K.faults sink.old sink.new 4 result }
-    ensures told { result < 2 → IsAnswered (IsTopicAnswer topic) result (K.held sink.old) (K.held sink.new) }
+    ensures told { result < 2 → IsAnswered (IsTopicAnswer topic) result (K.held sink.old)
+        (K.held sink.new) }
     ensures cut { result ≡ 4 → IsCut (IsTopicAnswer topic) (K.held sink.old) (K.held sink.new) }
     ensures nothing { 1 < result → result ≢ 4 → sink.new ≡ sink.old }
 {

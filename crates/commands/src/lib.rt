@@ -5,6 +5,7 @@ mod answer;
 mod bounded;
 mod cause;
 mod check;
+mod choice;
 mod command;
 mod drawn;
 mod example;

@@ -1,14 +1,15 @@
 //! The command `shader`: one shader, checked without a job.
-ghost use Rattle.std.specs.Prelude.{◌≡◌, ◌≤◌, ◌<◌, ◌++◌, length, option_map, Some, IfOk, OnOk};
+ghost use Rattle.std.specs.Prelude.{◌≡◌, ◌≤◌, ◌<◌, ◌++◌, length, Some, IfOk, OnOk};
 ghost use Rattle.std.specs.Fmt.{decimal};
 ghost use Rattle.std.specs.List.{flat_map};
 ghost use Rattle.field_words.specs.Questions.{Answers, first_of};
 ghost use Rattle.field_words.specs.Sizes.{most_code, most_list, most_words};
-ghost use Rattle.job_check.specs.Shaders.{code_questions, told_of};
+ghost use Rattle.job_check.specs.Shaders.{words_of, code_questions, told_of};
 ghost use Rattle.qpu_asm.specs.Assembly.{Assembled};
 ghost use Rattle.qpu_isa.specs.Shader.{shader_view};
 ghost use Rattle.shader_check.specs.Rules.{shader_questions};
-ghost use Rattle.commands.specs.Cause.{words_cause, text_cause, shader_cause, IsRefusal};
+ghost use Rattle.shader_flow.specs.Flow.{IsFlow};
+ghost use Rattle.commands.specs.Cause.{notes_cause, shader_cause_of, words_cause, text_cause, IsRefusal};
 ghost use Rattle.commands.specs.declared.cause.Cause.TheVariants.{Shader, Long};
 ghost use Rattle.commands.specs.LoneShader.{position_text, sample_line, address_line, thread_count, head_text, shader_text, shader_refusal, long_text, IsTold, IsShaderAnswer, IsWordsAnswer, IsShaderTextAnswer};
 
@@ -17,11 +18,13 @@ use super::cause::{Cause, shader_rule};
 use super::shader_text::text_refused;
 use field_words::{MOST_WORDS, NoMemory, Stop};
 use itoa::Buffer;
-use job_check::shader_in;
+use job_check::{shader_in, words_of};
 use qpu_asm::assemble;
 use qpu_isa::{Sample, ShaderInfo};
 use rule_words::RuleName;
 use shader_check::{ShaderFault, check_code};
+use shader_flow::{Flow, flow};
+use shader_notes::notes;
 use std::alloc::{AllocError, Global};
 
 fn put_number(out: &mut Vec<u8>, number: u32) -> Result<(), AllocError>
@@ -114,6 +117,49 @@ pub(crate) fn shader_text(alloc: Global, info: &ShaderInfo) -> Result<Vec<u8>, A
     Ok(text)
 }
 
+/// The answer to a shader that no rule refuses: what it takes and reads, with its notes.
+pub(crate) fn accepted(
+    alloc: Global,
+    code: &[u64],
+    flow: &Flow,
+    info: &ShaderInfo,
+) -> Result<Answer, NoMemory>
+    requires flow { IsFlow code.now flow.now }
+    requires told { shader_view info.now ≡ told_of code.now }
+    ensures answers { IfOk result (λ a. IsTold code.now a.status a.text.items) }
+    ensures status { IfOk result (λ a. a.status < 2) }
+    ensures cause { IfOk result (λ a. a.cause ≡ notes_cause code.now) }
+{
+    let notes = notes(code, flow);
+    let cause = if notes.has_note() {
+        Some(Cause::Notes(notes))
+    } else {
+        None
+    };
+    Ok(Answer::noted(shader_text(alloc, info)?, cause))
+}
+
+// The same where the strict rules aren't asked.
+fn told(alloc: Global, code: &[u64], info: &ShaderInfo) -> Result<Answer, NoMemory>
+    requires few { length code.now ≤ most_words }
+    requires told { shader_view info.now ≡ told_of code.now }
+    ensures answers { IfOk result (λ a. IsTold code.now a.status a.text.items) }
+    ensures status { IfOk result (λ a. a.status < 2) }
+    ensures cause { IfOk result (λ a. a.cause ≡ notes_cause code.now) }
+{
+    let flow = flow(alloc, code)?;
+    accepted(alloc, code, &flow, info)
+}
+
+/// The words of a shader's bytes.
+pub(crate) fn code_in(alloc: Global, bytes: &[u8]) -> Result<Vec<u64>, NoMemory>
+    requires { length bytes.now ≤ most_code }
+    ensures words { IfOk result (λ code. code.items ≡ words_of bytes.now) }
+    ensures few { IfOk result (λ code. length code.items ≤ most_words) }
+{
+    Ok(words_of(alloc, bytes)?)
+}
+
 /// The answer where this rule is the first that stands, at this instruction.
 #[tactic(auto, unfolding(crate::specs::LoneShader::shader_refusal))]
 pub(crate) fn shader_refused(alloc: Global, name: RuleName, index: u32) -> Result<Answer, NoMemory>
@@ -138,10 +184,14 @@ pub fn shader_answer(alloc: Global, bytes: &[u8]) -> Result<Answer, NoMemory>
     requires { length bytes.now ≤ most_code }
     ensures answers { IfOk result (λ a. IsShaderAnswer bytes.now a.status a.text.items) }
     ensures status { IfOk result (λ a. a.status < 2) }
-    ensures cause { IfOk result (λ a. a.cause ≡ option_map shader_cause (first_of (code_questions bytes.now))) }
+    ensures cause { IfOk result (λ a. a.cause
+        ≡ shader_cause_of (words_of bytes.now) (first_of (code_questions bytes.now))) }
 {
     match shader_in(alloc, bytes) {
-        Ok(info) => Ok(Answer::done(shader_text(alloc, &info)?)),
+        Ok(info) => {
+            let code = code_in(alloc, bytes)?;
+            told(alloc, &code, &info)
+        }
         Err(Stop::Fault(fault)) => shader_refused(alloc, shader_rule(&fault), fault.index),
         Err(Stop::NoMemory) => Err(NoMemory),
     }
@@ -151,7 +201,8 @@ pub fn shader_answer(alloc: Global, bytes: &[u8]) -> Result<Answer, NoMemory>
 #[tactic(auto, unfolding(job_check::specs::Shaders::told_of))]
 pub(crate) fn checked(alloc: Global, code: &[u64]) -> Result<ShaderInfo, Stop<ShaderFault>>
     requires { length code.now ≤ most_words }
-    ensures { Answers (shader_questions code.now) (λ info. shader_view info ≡ told_of code.now) result }
+    ensures { Answers (shader_questions code.now)
+        (λ info. shader_view info ≡ told_of code.now) result }
 {
     check_code(alloc, code)
 }
@@ -167,7 +218,7 @@ fn words_answer(alloc: Global, code: &[u64]) -> Result<Answer, NoMemory>
         return long_refused(alloc, code.len() as u64);
     }
     match checked(alloc, code) {
-        Ok(info) => Ok(Answer::done(shader_text(alloc, &info)?)),
+        Ok(info) => told(alloc, code, &info),
         Err(Stop::Fault(fault)) => shader_refused(alloc, shader_rule(&fault), fault.index),
         Err(Stop::NoMemory) => Err(NoMemory),
     }

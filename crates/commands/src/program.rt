@@ -4,7 +4,7 @@ ghost use Rattle.commands.specs.Run.{IsRunWithCause, Promises};
 use super::cause::Cause;
 use super::notice::notice_of;
 use super::runs::run_with_cause;
-use super::words::names_file;
+use super::words::{excess_of, names_file, names_output};
 use entry::{Ended, Program};
 use job_io::{Sink, Source};
 use std::alloc::Global;
@@ -25,6 +25,14 @@ impl Program for Checker {
 
     fn names_file(&self, words: &Vec<String>) -> bool {
         names_file(words)
+    }
+
+    fn names_output(&self, words: &Vec<String>) -> bool {
+        names_output(words)
+    }
+
+    fn excess(&self, words: &Vec<String>) -> &'static str {
+        excess_of(words)
     }
 
     fn run<S: Source, K: Sink>(

@@ -52,8 +52,10 @@ fn write_part<K: Sink>(
 ) -> Result<(), Failed>
     requires end { part_end (part_at place bytes.now) < 2 ^ 32 }
     requires room { row_size ≤ length piece.old }
-    ensures written { OnOk result (Appends (K.held sink.old) (K.held sink.new) (part_text (part_at place bytes.now))) }
-    ensures cut { OnErr result (AppendsFront (K.held sink.old) (K.held sink.new) (part_text (part_at place bytes.now))) }
+    ensures written { OnOk result (Appends (K.held sink.old) (K.held sink.new)
+        (part_text (part_at place bytes.now))) }
+    ensures cut { OnErr result (AppendsFront (K.held sink.old) (K.held sink.new)
+        (part_text (part_at place bytes.now))) }
     ensures failed { OnErr result (Rose (K.faults sink.old) (K.faults sink.new)) }
     ensures last { OnErr result (LastCallFailed K.held K.faults sink.old sink.new) }
     ensures steady { OnOk result (K.faults sink.new ≡ K.faults sink.old) }
@@ -73,8 +75,10 @@ fn write_part<K: Sink>(
 #[inline(never)]
 fn write_spans<K: Sink>(sink: &mut K, spans: &[Span]) -> Result<(), Failed>
     requires { Ascend 0 most_memory (parts_of spans.now) }
-    ensures written { OnOk result (Appends (K.held sink.old) (K.held sink.new) (parts_text (parts_of spans.now))) }
-    ensures cut { OnErr result (AppendsFront (K.held sink.old) (K.held sink.new) (parts_text (parts_of spans.now))) }
+    ensures written { OnOk result (Appends (K.held sink.old) (K.held sink.new)
+        (parts_text (parts_of spans.now))) }
+    ensures cut { OnErr result (AppendsFront (K.held sink.old) (K.held sink.new)
+        (parts_text (parts_of spans.now))) }
     ensures failed { OnErr result (Rose (K.faults sink.old) (K.faults sink.new)) }
     ensures last { OnErr result (LastCallFailed K.held K.faults sink.old sink.new) }
     ensures steady { OnOk result (K.faults sink.new ≡ K.faults sink.old) }
@@ -90,8 +94,10 @@ fn write_spans<K: Sink>(sink: &mut K, spans: &[Span]) -> Result<(), Failed>
 #[tactic(auto, unfolding(crate::specs::Reply::rest_text), using(crate::proofs::Appending::both_appended, crate::proofs::Appending::front_of_first, crate::proofs::Appending::front_of_second))]
 fn write_rest<K: Sink>(sink: &mut K, spans: &[Span]) -> Result<(), Failed>
     requires { Ascend 0 most_memory (parts_of spans.now) }
-    ensures written { OnOk result (Appends (K.held sink.old) (K.held sink.new) (rest_text (parts_of spans.now))) }
-    ensures cut { OnErr result (AppendsFront (K.held sink.old) (K.held sink.new) (rest_text (parts_of spans.now))) }
+    ensures written { OnOk result (Appends (K.held sink.old) (K.held sink.new)
+        (rest_text (parts_of spans.now))) }
+    ensures cut { OnErr result (AppendsFront (K.held sink.old) (K.held sink.new)
+        (rest_text (parts_of spans.now))) }
     ensures failed { OnErr result (Rose (K.faults sink.old) (K.faults sink.new)) }
     ensures last { OnErr result (LastCallFailed K.held K.faults sink.old sink.new) }
     ensures steady { OnOk result (K.faults sink.new ≡ K.faults sink.old) }
@@ -104,8 +110,10 @@ fn write_rest<K: Sink>(sink: &mut K, spans: &[Span]) -> Result<(), Failed>
 #[tactic(auto, using(crate::proofs::Appending::both_appended, crate::proofs::Appending::front_of_first, crate::proofs::Appending::front_of_second))]
 fn write_image<K: Sink>(sink: &mut K, head: &[u8], spans: &[Span]) -> Result<(), Failed>
     requires { Ascend 0 most_memory (parts_of spans.now) }
-    ensures written { OnOk result (Appends (K.held sink.old) (K.held sink.new) (head.now ++ rest_text (parts_of spans.now))) }
-    ensures cut { OnErr result (AppendsFront (K.held sink.old) (K.held sink.new) (head.now ++ rest_text (parts_of spans.now))) }
+    ensures written { OnOk result (Appends (K.held sink.old) (K.held sink.new)
+        (head.now ++ rest_text (parts_of spans.now))) }
+    ensures cut { OnErr result (AppendsFront (K.held sink.old) (K.held sink.new)
+        (head.now ++ rest_text (parts_of spans.now))) }
     ensures failed { OnErr result (Rose (K.faults sink.old) (K.faults sink.new)) }
     ensures last { OnErr result (LastCallFailed K.held K.faults sink.old sink.new) }
     ensures steady { OnOk result (K.faults sink.new ≡ K.faults sink.old) }
@@ -121,8 +129,10 @@ pub fn print<K: Sink>(sink: &mut K, given: Reply) -> u8
     requires ready { IsReplyReady given }
     ensures status { result ≢ 4 → result ≡ reply_status given.entry }
     ensures failing { result ≤ 4 }
-    ensures written { result ≢ 4 → Appends (K.held sink.old) (K.held sink.new) (reply_text given.entry) }
-    ensures cut { result ≡ 4 → AppendsFront (K.held sink.old) (K.held sink.new) (reply_text given.entry) }
+    ensures written { result ≢ 4 → Appends (K.held sink.old) (K.held sink.new)
+        (reply_text given.entry) }
+    ensures cut { result ≡ 4 → AppendsFront (K.held sink.old) (K.held sink.new)
+        (reply_text given.entry) }
     ensures write { FailsAt K.held K.faults sink.old sink.new 4 result }
 {
     match given {

@@ -52,7 +52,8 @@ pub fn run<S: Source, K: Sink>(
     source: &mut S,
     sink: &mut K,
 ) -> u8
-    ensures { IsRun words.now.items S.left S.faults source.old source.new K.held K.faults sink.old sink.new result }
+    ensures { IsRun words.now.items S.left S.faults source.old source.new K.held K.faults sink.old
+        sink.new result }
 {
     run_with_cause(alloc, words, source, sink).status
 }

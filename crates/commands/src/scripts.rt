@@ -6,20 +6,49 @@ ghost use Rattle.job_queue.specs.Calls.{fault_line as queue_fault};
 ghost use Rattle.job_session.specs.Calls.{fault_line as session_fault};
 ghost use Rattle.commands.specs.Cause.{IsRefusal};
 ghost use Rattle.commands.specs.declared.cause.Cause.TheVariants.{Call};
-ghost use Rattle.commands.specs.Scripts.{malformed_text, IsSlotsAnswer, IsQueueAnswer, IsSessionAnswer};
+ghost use Rattle.commands.specs.declared.scripts.Script.TheVariants.{Slots, Queue, Session};
+ghost use Rattle.commands.specs.Scripts.{calls_text, malformed_text, IsSlotsAnswer, IsQueueAnswer, IsSessionAnswer};
 
 use super::answer::Answer;
 use super::cause::Cause;
 use field_words::{NoMemory, Stop};
 use std::alloc::Global;
 
+/// Whose calls a script has.
+#[derive(Clone, Copy, Debug, PartialEq, Eq)]
+pub enum Script {
+    Slots,
+    Queue,
+    Session,
+}
+
+impl Script {
+    /// The calls, as a line names them.
+    #[tactic(auto, unfolding(crate::specs::Scripts::calls_text))]
+    pub fn calls(self) -> &'static str
+        ensures { result.now ≡ calls_text self }
+    {
+        match self {
+            Script::Slots => {
+                "begin JOB TILES, take JOB, overflow JOB or end JOB, with a job to 31 and tiles to 65025"
+            }
+            Script::Queue => {
+                "submit READS WRITES, start, bin or render, where READS and WRITES are - or numbers parted by commas"
+            }
+            Script::Session => {
+                "create CLIENT PAGES, code CLIENT HEX, write CLIENT ID AT HEX, read CLIENT ID AT LENGTH, free CLIENT ID or submit CLIENT HEX, with a client to 7"
+            }
+        }
+    }
+}
+
 // The answer to a script of which this line is the first that is no call.
 #[tactic(auto, unfolding(crate::specs::Scripts::malformed_text))]
-fn malformed(alloc: Global, line: u32) -> Result<Answer, NoMemory>
-    ensures { IfOk result (IsRefusal (malformed_text line) (Some (Call line))) }
+fn malformed(alloc: Global, script: Script, line: u32) -> Result<Answer, NoMemory>
+    ensures { IfOk result (IsRefusal (malformed_text line) (Some (Call script line))) }
 {
     let text = format!(in alloc; "line {line} fault 1\n")?.into_bytes();
-    Ok(Answer::refused(text, Some(Cause::Call(line))))
+    Ok(Answer::refused(text, Some(Cause::Call(script, line))))
 }
 
 /// What `slots` answers to a script on so many slots: a line for each call, or its first malformed line.
@@ -29,11 +58,11 @@ pub fn slots_answer(alloc: Global, slots: u32, text: &[u8]) -> Result<Answer, No
     requires small { length text.now ≤ most_list }
     ensures answers { IfOk result (λ a. IsSlotsAnswer slots text.now a.status a.text.items) }
     ensures status { IfOk result (λ a. a.status < 2) }
-    ensures cause { IfOk result (λ a. a.cause ≡ option_map Call (slots_fault text.now)) }
+    ensures cause { IfOk result (λ a. a.cause ≡ option_map (Call Slots) (slots_fault text.now)) }
 {
     match overflow_slots::script(alloc, slots, text) {
         Ok(text) => Ok(Answer::done(text)),
-        Err(Stop::Fault(line)) => malformed(alloc, line),
+        Err(Stop::Fault(line)) => malformed(alloc, Script::Slots, line),
         Err(Stop::NoMemory) => Err(NoMemory),
     }
 }
@@ -44,11 +73,11 @@ pub fn queue_answer(alloc: Global, buffers: u32, text: &[u8]) -> Result<Answer, 
     requires small { length text.now ≤ most_list }
     ensures answers { IfOk result (λ a. IsQueueAnswer buffers text.now a.status a.text.items) }
     ensures status { IfOk result (λ a. a.status < 2) }
-    ensures cause { IfOk result (λ a. a.cause ≡ option_map Call (queue_fault text.now)) }
+    ensures cause { IfOk result (λ a. a.cause ≡ option_map (Call Queue) (queue_fault text.now)) }
 {
     match job_queue::script(alloc, buffers, text) {
         Ok(text) => Ok(Answer::done(text)),
-        Err(Stop::Fault(line)) => malformed(alloc, line),
+        Err(Stop::Fault(line)) => malformed(alloc, Script::Queue, line),
         Err(Stop::NoMemory) => Err(NoMemory),
     }
 }
@@ -58,11 +87,12 @@ pub fn session_answer(alloc: Global, text: &[u8]) -> Result<Answer, NoMemory>
     requires { length text.now ≤ most_list }
     ensures answers { IfOk result (λ a. IsSessionAnswer text.now a.status a.text.items) }
     ensures status { IfOk result (λ a. a.status < 2) }
-    ensures cause { IfOk result (λ a. a.cause ≡ option_map Call (session_fault text.now)) }
+    ensures cause { IfOk result (λ a. a.cause
+        ≡ option_map (Call Session) (session_fault text.now)) }
 {
     match job_session::script(alloc, text) {
         Ok(text) => Ok(Answer::done(text)),
-        Err(Stop::Fault(line)) => malformed(alloc, line),
+        Err(Stop::Fault(line)) => malformed(alloc, Script::Session, line),
         Err(Stop::NoMemory) => Err(NoMemory),
     }
 }

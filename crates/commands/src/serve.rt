@@ -1,10 +1,10 @@
 //! A command from its input to its text in the sink.
-ghost use Rattle.std.specs.Prelude.{◌≡◌, ◌≢◌, ◌≤◌, ◌<◌, ◌⊎◌, ◌↔◌, None, length, IfOk, IfSome};
+ghost use Rattle.std.specs.Prelude.{◌≡◌, ◌≢◌, ◌≤◌, ◌<◌, ◌⊎◌, ◌↔◌, true, false, None, length, IfOk, IfSome};
 ghost use Rattle.std.specs.Io.KnownBytes.{IsAtEnd};
 ghost use Rattle.job_io.specs.Faults.{Rose};
 ghost use Rattle.job_io.specs.Traffic.{count_taken};
 ghost use Rattle.commands.specs.Answer.{IsAnswer};
-ghost use Rattle.commands.specs.Cause.{IsCause};
+ghost use Rattle.commands.specs.Cause.{IsCause, is_told};
 ghost use Rattle.commands.specs.Reply.{reply_status, reply_cause, IsReplyOf, IsReplyReady};
 ghost use Rattle.commands.specs.Run.{IsAnswered, IsCut, FailsAt};
 ghost use Rattle.commands.specs.Words.{limit_of, IsWithin};
@@ -19,7 +19,7 @@ use super::replayed::trial_answer;
 use super::reply::{Reply, print};
 use super::scripts::{queue_answer, session_answer, slots_answer};
 use super::shader_text::{asm_answer, disasm_answer};
-use super::shown::{make_answer, show_answer};
+use super::shown::{make_answer, show_answer, strict_show_answer};
 use super::strict_shader::{strict_shader_answer, strict_text_answer};
 use super::surfaces::{level_answer, tile_answer, untile_answer};
 use super::upgrading::upgrade_answer;
@@ -45,6 +45,7 @@ fn answer_to(alloc: Global, command: Command, bytes: &[u8]) -> Result<Reply<'_>,
         Command::Upgrade => upgrade_answer(alloc, bytes),
         Command::Bound => bound_answer(alloc, bytes),
         Command::Show => show_answer(alloc, bytes),
+        Command::StrictShow => strict_show_answer(alloc, bytes),
         Command::FromText => make_answer(alloc, bytes),
         Command::Asm => asm_answer(alloc, bytes),
         Command::Disasm => disasm_answer(alloc, bytes),
@@ -62,40 +63,43 @@ fn answer_to(alloc: Global, command: Command, bytes: &[u8]) -> Result<Reply<'_>,
     Ok(Reply::Text(answer?))
 }
 
-// The cause goes with status 1 alone.
-fn ended(status: u8, cause: Option<Cause>) -> Ended<Cause>
+// The cause goes with the statuses of which something is told.
+fn ended(command: Command, status: u8, cause: Option<Cause>) -> Ended<Cause>
     ensures status { result.status ≡ status }
-    ensures refused { status ≡ 1 → result.cause ≡ cause }
-    ensures quiet { status ≢ 1 → result.cause ≡ None }
+    ensures told { is_told command status ≡ true → result.cause ≡ cause }
+    ensures quiet { is_told command status ≡ false → result.cause ≡ None }
 {
-    if status == 1 {
+    if command.is_told(status) {
         Ended { status, cause }
     } else {
         Ended::silent(status)
     }
 }
 
-/// Appends the answer to these bytes to the sink, and says why they are refused. All memory is taken before the first byte is written.
+/// Appends the answer to these bytes to the sink, and says what a person is told of them. All memory is taken before the first byte is written.
 fn respond<K: Sink>(alloc: Global, command: Command, bytes: &[u8], sink: &mut K) -> Ended<Cause>
     requires few { length bytes.now ≤ limit_of command }
     requires within { IsWithin command }
     ensures statuses { (result.status < 2) ⊎ ((result.status ≡ 4) ⊎ (result.status ≡ 5)) }
     ensures short { result.status ≢ 6 }
     ensures write { FailsAt K.held K.faults sink.old sink.new 4 result.status }
-    ensures answered { result.status < 2 → IsAnswered (IsAnswer command bytes.now) result.status (K.held sink.old) (K.held sink.new) }
-    ensures cut { result.status ≡ 4 → IsCut (IsAnswer command bytes.now) (K.held sink.old) (K.held sink.new) }
+    ensures answered { result.status < 2
+        → IsAnswered (IsAnswer command bytes.now) result.status (K.held sink.old)
+        (K.held sink.new) }
+    ensures cut { result.status ≡ 4
+        → IsCut (IsAnswer command bytes.now) (K.held sink.old) (K.held sink.new) }
     ensures nothing { 1 < result.status → result.status ≢ 4 → sink.new ≡ sink.old }
-    ensures cause { result.status ≡ 1 → IsCause command bytes.now result.cause }
-    ensures quiet { result.status ≢ 1 → result.cause ≡ None }
+    ensures cause { is_told command result.status ≡ true → IsCause command bytes.now result.cause }
+    ensures quiet { is_told command result.status ≡ false → result.cause ≡ None }
 {
     let Ok(answer) = answer_to(alloc, command, bytes) else {
         return Ended::silent(5);
     };
     let why = answer.cause();
-    ended(print(sink, answer), why)
+    ended(command, print(sink, answer), why)
 }
 
-/// Reads all of the command's input, appends its answer to the sink, and says why the input is refused. All memory is taken before the
+/// Reads all of the command's input, appends its answer to the sink, and says what a person is told of the input. All memory is taken before the
 /// first byte is written.
 ///
 /// Status 0 is done and 1 refused, of which, and of 4, all input was read; 3 and 4 are faults of the source and of the sink, 5 is want of
@@ -114,7 +118,8 @@ pub fn serve<S: Source, K: Sink>(
     ensures all { ((result.status < 2) ⊎ (result.status ≡ 4)) → IsAtEnd (S.left source.new) }
     ensures long { IfSome (S.left source.old) (λ _. (result.status ≡ 6) ↔
         (limit_of command < count_taken (S.left source.old) (S.left source.new))) }
-    ensures within { IfSome (S.left source.old) (λ bytes. length bytes ≤ limit_of command → result.status ≢ 6) }
+    ensures within { IfSome (S.left source.old)
+        (λ bytes. length bytes ≤ limit_of command → result.status ≢ 6) }
     ensures answered { result.status < 2 → IfSome (S.left source.old) (λ bytes.
         IsAnswered (IsAnswer command bytes) result.status (K.held sink.old) (K.held sink.new)) }
     ensures cut { result.status ≡ 4 → IfSome (S.left source.old) (λ bytes.
@@ -122,8 +127,9 @@ pub fn serve<S: Source, K: Sink>(
     ensures complete { (Rose (S.faults source.old) (S.faults source.new) → ⊥) → (Rose (K.faults sink.old) (K.faults sink.new) → ⊥)
         → result.status ≢ 6 → ((result.status < 2) ⊎ (result.status ≡ 5)) }
     ensures nothing { 1 < result.status → result.status ≢ 4 → sink.new ≡ sink.old }
-    ensures cause { result.status ≡ 1 → IfSome (S.left source.old) (λ bytes. IsCause command bytes result.cause) }
-    ensures quiet { result.status ≢ 1 → result.cause ≡ None }
+    ensures cause { is_told command result.status ≡ true
+        → IfSome (S.left source.old) (λ bytes. IsCause command bytes result.cause) }
+    ensures quiet { is_told command result.status ≡ false → result.cause ≡ None }
 {
     match read_all(alloc, source, command.limit()) {
         Err(ReadEnd::ReadFault) => Ended::silent(3),

@@ -18,7 +18,8 @@ use std::alloc::{AllocError, Global};
 #[tactic(auto, unfolding(crate::specs::Shader::fault_text))]
 pub(crate) fn text_refused(alloc: Global, text: &[u8], fault: AsmFault) -> Result<Answer, NoMemory>
     requires { length text.now ≤ most_list }
-    ensures { IfOk result (IsRefusal (fault_text fault) (Some (Kind fault (fault_place text.now fault)))) }
+    ensures { IfOk result (IsRefusal (fault_text fault)
+        (Some (Kind fault (fault_place text.now fault)))) }
 {
     let AsmFault { line, kind } = fault;
     let out = format!(in alloc; "line {line} fault {kind}\n")?.into_bytes();

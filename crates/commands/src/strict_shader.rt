@@ -1,20 +1,20 @@
 //! The command `shader --strict`: one shader, checked without a job, of which the strict rules are asked too.
-ghost use Rattle.std.specs.Prelude.{◌≡◌, ◌≤◌, ◌<◌, length, option_map, IfOk};
+ghost use Rattle.std.specs.Prelude.{◌≡◌, ◌≤◌, ◌<◌, length, IfOk};
 ghost use Rattle.field_words.specs.Questions.{first_of};
 ghost use Rattle.field_words.specs.Sizes.{most_code, most_list, most_words};
 ghost use Rattle.job_check.specs.Shaders.{words_of, code_questions, told_of};
 ghost use Rattle.qpu_asm.specs.Assembly.{Assembled};
 ghost use Rattle.qpu_isa.specs.Shader.{shader_view};
 ghost use Rattle.strict_rules.specs.Rules.{strict_questions};
-ghost use Rattle.commands.specs.Cause.{strict_cause, strict_cause_of, strict_words_cause, strict_text_cause};
+ghost use Rattle.commands.specs.Cause.{strict_fault_cause, strict_cause_of, strict_words_cause, strict_text_cause};
 ghost use Rattle.commands.specs.LoneShader.{IsStrictlyTold, IsWordsAnswer, IsStrictShaderAnswer, IsStrictShaderTextAnswer};
 
 use super::answer::Answer;
 use super::cause::{shader_rule, strict_rule};
-use super::lone_shader::{checked, long_refused, shader_refused, shader_text};
+use super::lone_shader::{accepted, checked, code_in, long_refused, shader_refused};
 use super::shader_text::text_refused;
 use field_words::{MOST_WORDS, NoMemory, Stop};
-use job_check::{shader_in, words_of};
+use job_check::shader_in;
 use qpu_asm::assemble;
 use qpu_isa::ShaderInfo;
 use shader_flow::flow;
@@ -28,11 +28,12 @@ fn strict_told(alloc: Global, code: &[u64], info: &ShaderInfo) -> Result<Answer,
     requires told { shader_view info.now ≡ told_of code.now }
     ensures answers { IfOk result (λ a. IsStrictlyTold code.now a.status a.text.items) }
     ensures status { IfOk result (λ a. a.status < 2) }
-    ensures cause { IfOk result (λ a. a.cause ≡ option_map strict_cause (first_of (strict_questions code.now))) }
+    ensures cause { IfOk result (λ a. a.cause
+        ≡ strict_fault_cause code.now (first_of (strict_questions code.now))) }
 {
     let flow = flow(alloc, code)?;
     match check_strict(code, &flow) {
-        Ok(()) => Ok(Answer::done(shader_text(alloc, info)?)),
+        Ok(()) => accepted(alloc, code, &flow, info),
         Err(fault) => shader_refused(alloc, strict_rule(&fault), fault.at),
     }
 }
@@ -44,11 +45,12 @@ pub fn strict_shader_answer(alloc: Global, bytes: &[u8]) -> Result<Answer, NoMem
     requires { length bytes.now ≤ most_code }
     ensures answers { IfOk result (λ a. IsStrictShaderAnswer bytes.now a.status a.text.items) }
     ensures status { IfOk result (λ a. a.status < 2) }
-    ensures cause { IfOk result (λ a. a.cause ≡ strict_cause_of (words_of bytes.now) (first_of (code_questions bytes.now))) }
+    ensures cause { IfOk result (λ a. a.cause
+        ≡ strict_cause_of (words_of bytes.now) (first_of (code_questions bytes.now))) }
 {
     match shader_in(alloc, bytes) {
         Ok(info) => {
-            let code = words_of(alloc, bytes)?;
+            let code = code_in(alloc, bytes)?;
             strict_told(alloc, &code, &info)
         }
         Err(Stop::Fault(fault)) => shader_refused(alloc, shader_rule(&fault), fault.index),
@@ -59,7 +61,8 @@ pub fn strict_shader_answer(alloc: Global, bytes: &[u8]) -> Result<Answer, NoMem
 // What is answered to a shader of these words.
 #[tactic(auto, using(field_words::proofs::Questions::first_is))]
 fn strict_words_answer(alloc: Global, code: &[u64]) -> Result<Answer, NoMemory>
-    ensures answers { IfOk result (λ a. IsWordsAnswer IsStrictlyTold code.now a.status a.text.items) }
+    ensures answers { IfOk result (λ a. IsWordsAnswer IsStrictlyTold code.now a.status
+        a.text.items) }
     ensures status { IfOk result (λ a. a.status < 2) }
     ensures cause { IfOk result (λ a. a.cause ≡ strict_words_cause code.now) }
 {

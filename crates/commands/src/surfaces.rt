@@ -78,7 +78,8 @@ fn level_refusal(alloc: Global, fault: LevelFault) -> Result<Vec<u8>, AllocError
 
 // The refusal of so many bytes where another number is wanted.
 fn size_refusal(alloc: Global, length: usize, wanted: u64) -> Result<Answer, NoMemory>
-    ensures { IfOk result (IsRefusal (length_wanted_text length wanted) (Some (Size length wanted))) }
+    ensures { IfOk result (IsRefusal (length_wanted_text length wanted)
+        (Some (Size length wanted))) }
 {
     let text = length_wanted_text(alloc, length, wanted)?;
     let cause = Cause::Size(length as u64, wanted);
@@ -90,7 +91,9 @@ pub fn untile_answer(alloc: Global, picture: Picture, bytes: &[u8]) -> Result<An
     requires { IsPictureWithin picture }
     ensures answers { IfOk result (λ a. IsUntileAnswer picture bytes.now a.status a.text.items) }
     ensures status { IfOk result (λ a. a.status < 2) }
-    ensures cause { IfOk result (λ a. a.cause ≡ size_cause (length bytes.now) (size_for picture.tiling picture.width picture.height picture.cpp)) }
+    ensures cause { IfOk result (λ a. a.cause
+        ≡ size_cause (length bytes.now)
+        (size_for picture.tiling picture.width picture.height picture.cpp)) }
 {
     let p = picture;
     match untile(alloc, p.tiling, p.width, p.height, p.cpp, bytes) {
@@ -105,7 +108,8 @@ pub fn tile_answer(alloc: Global, picture: Picture, bytes: &[u8]) -> Result<Answ
     requires { IsPictureWithin picture }
     ensures answers { IfOk result (λ a. IsTileAnswer picture bytes.now a.status a.text.items) }
     ensures status { IfOk result (λ a. a.status < 2) }
-    ensures cause { IfOk result (λ a. a.cause ≡ size_cause (length bytes.now) (picture.width * picture.height * picture.cpp)) }
+    ensures cause { IfOk result (λ a. a.cause
+        ≡ size_cause (length bytes.now) (picture.width * picture.height * picture.cpp)) }
 {
     let p = picture;
     match tile(alloc, p.tiling, p.width, p.height, p.cpp, bytes) {
@@ -120,7 +124,8 @@ pub fn level_answer(alloc: Global, part: TexturePart, bytes: &[u8]) -> Result<An
     requires { length bytes.now < 2 ^ 32 }
     ensures answers { IfOk result (λ a. IsLevelAnswer part bytes.now a.status a.text.items) }
     ensures status { IfOk result (λ a. a.status < 2) }
-    ensures cause { IfOk result (λ a. a.cause ≡ option_map (λ fault. Level (level_rule fault)) (level_fault part bytes.now)) }
+    ensures cause { IfOk result (λ a. a.cause
+        ≡ option_map (λ fault. Level (level_rule fault)) (level_fault part bytes.now)) }
 {
     match extract(alloc, part.setup, bytes, part.face, part.level) {
         Ok(text) => Ok(Answer::done(text)),

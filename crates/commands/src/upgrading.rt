@@ -15,7 +15,8 @@ use std::alloc::Global;
 
 // The same file as version 2.
 fn upgraded(alloc: Global, bytes: &[u8]) -> Result<Vec<u8>, Stop<Refusal>>
-    ensures answers { Answers (format_rules bytes.now) (λ text. text.items ≡ file_text (upgraded (file_at bytes.now))) result }
+    ensures answers { Answers (format_rules bytes.now)
+        (λ text. text.items ≡ file_text (upgraded (file_at bytes.now))) result }
     ensures spelled { IsOk result → IsFileOf bytes.now (file_at bytes.now) }
 {
     match read_job(alloc, bytes) {
@@ -29,7 +30,8 @@ fn upgraded(alloc: Global, bytes: &[u8]) -> Result<Vec<u8>, Stop<Refusal>>
 pub fn upgrade_answer(alloc: Global, bytes: &[u8]) -> Result<Answer, NoMemory>
     ensures answers { IfOk result (λ a. IsUpgradeAnswer bytes.now a.status a.text.items) }
     ensures status { IfOk result (λ a. a.status < 2) }
-    ensures cause { IfOk result (λ a. IsRuleCause bytes.now (first_of (format_rules bytes.now)) a.cause) }
+    ensures cause { IfOk result (λ a. IsRuleCause bytes.now
+        (first_of (format_rules bytes.now)) a.cause) }
 {
     match upgraded(alloc, bytes) {
         Ok(text) => Ok(Answer::done(text)),

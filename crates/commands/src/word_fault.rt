@@ -1,7 +1,8 @@
 //! Which of the words is wrong, where they ask for nothing that the program does.
 ghost use Rattle.std.specs.Prelude.{◌≡◌, ◌≤◌, ◌<◌, ◌+◌, ◌++◌, Some, codes};
-ghost use Rattle.commands.specs.WordFault.{argument_row, values_of, values_text, argument_text, surplus_text, word_fault_text};
+ghost use Rattle.commands.specs.WordFault.{argument_row, values_of, values_text, argument_text, surplus_text, strange_option_text, word_fault_text};
 
+use super::choice::Choice;
 use super::help::Verb;
 use std::fmt;
 
@@ -36,6 +37,8 @@ pub enum Values {
     UnitName,
     /// Seeds from one to before another.
     Seeds,
+    /// The name of a file.
+    FileName,
 }
 
 /// A word that a command takes behind its name.
@@ -60,6 +63,7 @@ pub enum Argument {
     Kind,
     Favoured,
     SeedNumbers,
+    Output,
 }
 
 /// Why words ask for nothing that the program does. It is printed as one line without a line feed, and takes no memory, also to print.
@@ -67,10 +71,14 @@ pub enum Argument {
 pub enum WordFault {
     /// There is no word.
     Nothing,
-    /// The first word is no command.
-    Unknown,
-    /// Words follow `--help` or `--version`.
+    /// The word of this number is no command.
+    Unknown(u64),
+    /// Words follow `--version`, or more than one `--help`.
     Alone,
+    /// The first word is no option of the program, of which this one is the nearest.
+    NoTopic(Choice),
+    /// The word of this number is no option that the command takes there, of which this one is the nearest.
+    NoOption(Verb, u64, Choice),
     /// The word of this number, from 1 on, isn't what the command takes there.
     Wrong(Verb, u64, Argument),
     /// The command takes one more word.
@@ -109,6 +117,7 @@ impl Argument {
             Argument::Kind => ("RULE", Values::KindNumber),
             Argument::Favoured => ("KIND", Values::UnitName),
             Argument::SeedNumbers => ("A..B", Values::Seeds),
+            Argument::Output => ("OUT", Values::FileName),
         }
     }
 
@@ -130,14 +139,15 @@ impl fmt::Display for Values {
             Values::SeedNumber => f.write_str("a number from 0 to 18446744073709551615"),
             Values::Tiling => f.write_str("t or lt"),
             Values::Pixel => f.write_str("1, 2, 4 or 8"),
-            Values::RuleName => {
-                f.write_str("the name of a rule, such as S24, or kind and a number")
-            }
+            Values::RuleName => f.write_str(
+                "a letter of F, M, S, H, B, A, U, G, X, E, O, Q, J and V and a number, such as S24, or kind and a number, or --list for all",
+            ),
             Values::KindNumber => {
                 f.write_str("the number of a kind of the assembler's faults, from 1 to 5")
             }
             Values::UnitName => f.write_str("qpu, texture, binner or renderer"),
             Values::Seeds => f.write_str("seeds from A to before B, 1 to 1000 of them"),
+            Values::FileName => f.write_str("the name of a file"),
         }
     }
 }
@@ -167,6 +177,26 @@ impl fmt::Display for SurplusWord {
     }
 }
 
+/// The word of this number is no option that may stand there, of which this one is the nearest.
+#[derive(Clone, Copy)]
+struct StrangeOption {
+    at: u64,
+    choice: Choice,
+}
+
+impl fmt::Display for StrangeOption {
+    ghost output = { λ word. Some (strange_option_text word.at word.choice) };
+
+    #[tactic(auto, unfolding(crate::specs::WordFault::strange_option_text))]
+    fn fmt<W: fmt::Write>(&self, f: &mut fmt::Formatter<W>) -> fmt::Result {
+        write!(
+            f,
+            "word {} is no option that may stand here; the nearest is {}",
+            self.at, self.choice
+        )
+    }
+}
+
 impl fmt::Display for WordFault {
     ghost output = { λ fault. Some (word_fault_text fault) };
 
@@ -178,12 +208,30 @@ impl fmt::Display for WordFault {
                 "vc4check: a command is missing, which is {}",
                 COMMANDS
             ),
-            WordFault::Unknown => write!(
+            WordFault::Unknown(at) => write!(
                 f,
-                "vc4check: word 1 is no command, which is {}",
-                COMMANDS
+                "vc4check: word {} is no command, which is {}",
+                at, COMMANDS
             ),
-            WordFault::Alone => f.write_str("vc4check: --help and --version stand alone"),
+            WordFault::Alone => {
+                f.write_str("vc4check: --version stands alone, and --help with one command at most")
+            }
+            WordFault::NoTopic(choice) => {
+                let word = choice.word();
+                write!(
+                    f,
+                    "vc4check: word 1 is no option of the program; the nearest is {}; usage: vc4check COMMAND [WORDS] [FILE]",
+                    word
+                )
+            }
+            WordFault::NoOption(verb, at, choice) => {
+                let usage = verb.usage();
+                let word = StrangeOption {
+                    at: *at,
+                    choice: *choice,
+                };
+                write!(f, "vc4check: {}; usage: vc4check {}", word, usage)
+            }
             WordFault::Wrong(verb, at, argument) => {
                 let usage = verb.usage();
                 write!(

@@ -1,14 +1,16 @@
 //! From the program's words to what they ask for, or to the word that is wrong.
 ghost use Rattle.seeded_runs.specs.Told.{IsLookWithin};
-ghost use Rattle.std.specs.Prelude.{ℕ, ◌≡◌, ◌≤◌, ◌<◌, ◌∷◌, ◌-◌, [], length, codes, if◌then◌else◌, IfOk, IfSome, MatchResult, OnOk};
+ghost use Rattle.std.specs.Prelude.{ℕ, ◌≡◌, ◌≤◌, ◌<◌, ◌∷◌, ◌-◌, [], length, codes, drop, is_some, not, if◌then◌else◌, IfOk, IfSome, MatchResult, OnOk};
+ghost use Rattle.commands.specs.Choice.{option_letter};
 ghost use Rattle.commands.specs.declared.word_fault.WordFault.TheVariants.{Missing, Wrong};
-ghost use Rattle.commands.specs.Line.{line_of, texts, number_by, given_number, given_seed, given_unit, given_seeds, given_tiling, given_cpp, given_rule, given_kind, behind, begins, ended, IsNumberOf};
+ghost use Rattle.commands.specs.Line.{line_of, texts, number_by, given_number, given_seed, given_unit, given_seeds, given_tiling, given_cpp, given_rule, given_kind, given_output, behind, begins, ended, unfit, IsNumberOf};
 ghost use Rattle.commands.specs.Pictures.{IsPictureWithin};
 ghost use Rattle.commands.specs.Trials.{IsRangeWithin};
 ghost use Rattle.commands.specs.WordFault.{values_of};
-ghost use Rattle.commands.specs.Words.{run, runs, replay, picture, pictured, level, example, slots, queue, check, shader, strict_shader, explain, asked, task_behind, topic_named, topic_alone, task_or_fault, names_file, is_read, ReadsWithin};
+ghost use Rattle.commands.specs.Words.{run, runs, replay, picture, pictured, level, example, slots, queue, check, show, shader, strict_shader, explain, asked, put_out, task_behind, help_of, version_alone, strange_by, topic_named, task_or_fault, is_name, names_file, is_command, names_output, excess_of, is_read, ReadsWithin};
 ghost use Rattle.texture_layouts.specs.Surface.{IsPixelSize};
 
+use super::choice::{nearest, nearest_topic, option_letter};
 use super::command::{Command, Task};
 use super::help::{Topic, Verb, verb_named};
 use super::surfaces::{Picture, TexturePart, pixel_named, tiling_named};
@@ -57,12 +59,24 @@ impl<'a> Line<'a> {
         Ok(word.as_str())
     }
 
-    /// The word that was read last isn't this argument.
-    fn wrong(&self, argument: Argument) -> WordFault
-        ensures { result ≡ Wrong self.now.verb (self.now.count - length self.now.words.now) argument }
+    /// This word may not stand at the place of this number, for this reason, or as an option.
+    #[tactic(auto, unfolding(crate::specs::Line::unfit))]
+    fn unfit(&self, at: u64, fault: WordFault, word: &str) -> WordFault
+        ensures { result ≡ unfit self.now.verb at fault word.now }
     {
-        let number = self.count.saturating_sub(self.words.len());
-        WordFault::Wrong(self.verb, number as u64, argument)
+        match option_letter(word.as_bytes()) {
+            Some(letter) => WordFault::NoOption(self.verb, at, nearest(self.verb, letter)),
+            None => fault,
+        }
+    }
+
+    /// This word, which was read last, isn't this argument.
+    fn wrong(&self, word: &str, argument: Argument) -> WordFault
+        ensures { result ≡ unfit self.now.verb (self.now.count - length self.now.words.now)
+            (Wrong self.now.verb (self.now.count - length self.now.words.now) argument) word.now }
+    {
+        let at = self.count.saturating_sub(self.words.len()) as u64;
+        self.unfit(at, WordFault::Wrong(self.verb, at, argument), word)
     }
 
     #[tactic(auto, unfolding(crate::specs::Line::given_number))]
@@ -72,7 +86,7 @@ impl<'a> Line<'a> {
         ensures left { OnOk result (line_of self.new ≡ behind (line_of self.old)) }
     {
         let word = self.word(argument)?;
-        number_named(argument, word).ok_or(self.wrong(argument))
+        number_named(argument, word).ok_or(self.wrong(word, argument))
     }
 
     #[tactic(auto, unfolding(crate::specs::Line::given_seed))]
@@ -81,7 +95,7 @@ impl<'a> Line<'a> {
         ensures left { OnOk result (line_of self.new ≡ behind (line_of self.old)) }
     {
         let word = self.word(Argument::Seed)?;
-        read_number(word.as_bytes(), u64::MAX).ok_or(self.wrong(Argument::Seed))
+        read_number(word.as_bytes(), u64::MAX).ok_or(self.wrong(word, Argument::Seed))
     }
 
     #[tactic(auto, unfolding(crate::specs::Line::given_unit))]
@@ -90,7 +104,7 @@ impl<'a> Line<'a> {
         ensures left { OnOk result (line_of self.new ≡ behind (line_of self.old)) }
     {
         let word = self.word(Argument::Favoured)?;
-        unit_named(word).ok_or(self.wrong(Argument::Favoured))
+        unit_named(word).ok_or(self.wrong(word, Argument::Favoured))
     }
 
     #[tactic(auto, unfolding(crate::specs::Line::given_seeds))]
@@ -100,7 +114,7 @@ impl<'a> Line<'a> {
         ensures left { OnOk result (line_of self.new ≡ behind (line_of self.old)) }
     {
         let word = self.word(Argument::SeedNumbers)?;
-        seeds_named(word).ok_or(self.wrong(Argument::SeedNumbers))
+        seeds_named(word).ok_or(self.wrong(word, Argument::SeedNumbers))
     }
 
     #[tactic(auto, unfolding(crate::specs::Line::given_tiling))]
@@ -109,7 +123,7 @@ impl<'a> Line<'a> {
         ensures left { OnOk result (line_of self.new ≡ behind (line_of self.old)) }
     {
         let word = self.word(Argument::PictureTiling)?;
-        tiling_named(word).ok_or(self.wrong(Argument::PictureTiling))
+        tiling_named(word).ok_or(self.wrong(word, Argument::PictureTiling))
     }
 
     #[tactic(auto, unfolding(crate::specs::Line::given_cpp))]
@@ -119,7 +133,7 @@ impl<'a> Line<'a> {
         ensures left { OnOk result (line_of self.new ≡ behind (line_of self.old)) }
     {
         let word = self.word(Argument::Cpp)?;
-        pixel_named(word).ok_or(self.wrong(Argument::Cpp))
+        pixel_named(word).ok_or(self.wrong(word, Argument::Cpp))
     }
 
     #[tactic(auto, unfolding(crate::specs::Line::given_rule))]
@@ -128,7 +142,7 @@ impl<'a> Line<'a> {
         ensures left { OnOk result (line_of self.new ≡ behind (line_of self.old)) }
     {
         let word = self.word(Argument::Rule)?;
-        rule_named(word.as_bytes()).ok_or(self.wrong(Argument::Rule))
+        rule_named(word.as_bytes()).ok_or(self.wrong(word, Argument::Rule))
     }
 
     #[tactic(auto, unfolding(crate::specs::Line::given_kind))]
@@ -137,13 +151,24 @@ impl<'a> Line<'a> {
         ensures left { OnOk result (line_of self.new ≡ behind (line_of self.old)) }
     {
         let word = self.word(Argument::Kind)?;
-        kind_named(word.as_bytes()).ok_or(self.wrong(Argument::Kind))
+        kind_named(word.as_bytes()).ok_or(self.wrong(word, Argument::Kind))
+    }
+
+    /// Reads the name of the output's file.
+    #[tactic(auto, unfolding(crate::specs::Line::given_output))]
+    fn output(&mut self) -> Result<(), WordFault>
+        ensures value { result ≡ given_output (line_of self.old) }
+        ensures left { OnOk result (line_of self.new ≡ behind (line_of self.old)) }
+    {
+        self.word(Argument::Output)?;
+        Ok(())
     }
 
     /// Whether the next word is this one, which is then read.
     fn begins(&mut self, word: &str) -> bool
         ensures value { result ≡ begins word.now (line_of self.old) }
-        ensures left { line_of self.new ≡ (if result then behind (line_of self.old) else line_of self.old) }
+        ensures left { line_of self.new
+            ≡ (if result then behind (line_of self.old) else line_of self.old) }
     {
         match self.words {
             [first, more @ ..] if first.as_str() == word => {
@@ -159,10 +184,14 @@ impl<'a> Line<'a> {
         ensures value { result ≡ ended asked (line_of self.entry) }
         ensures kept { IfOk result (λ given. given ≡ asked) }
     {
-        if self.words.is_empty() {
-            return Ok(asked);
+        match self.words {
+            [] => Ok(asked),
+            [word, more @ ..] => {
+                let at = self.count.saturating_sub(more.len()) as u64;
+                let fault = WordFault::Surplus(self.verb, self.count as u64);
+                Err(self.unfit(at, fault, word.as_str()))
+            }
         }
-        Err(WordFault::Surplus(self.verb, self.count as u64))
     }
 }
 
@@ -266,6 +295,9 @@ fn explain(mut line: Line) -> Result<Task, WordFault>
     ensures value { result ≡ explain (line_of line.entry) }
     ensures within { IfOk result ReadsWithin }
 {
+    if line.begins("--list") {
+        return line.end(Task::Tell(Topic::Rules));
+    }
     if line.begins("kind") {
         let name = line.kind()?;
         return line.end(Task::Tell(Topic::Rule(name)));
@@ -282,6 +314,16 @@ fn check(mut line: Line) -> Result<Task, WordFault>
         return line.end(Task::Read(Command::StrictCheck));
     }
     line.end(Task::Read(Command::Check))
+}
+
+fn show(mut line: Line) -> Result<Task, WordFault>
+    ensures value { result ≡ show (line_of line.entry) }
+    ensures within { IfOk result ReadsWithin }
+{
+    if line.begins("--strict") {
+        return line.end(Task::Read(Command::StrictShow));
+    }
+    line.end(Task::Read(Command::Show))
 }
 
 fn strict_shader(mut line: Line) -> Result<Task, WordFault>
@@ -342,7 +384,7 @@ fn asked(line: Line) -> Result<Task, WordFault>
         Verb::Picture => picture(line),
         Verb::Upgrade => line.end(Task::Read(Command::Upgrade)),
         Verb::Bound => line.end(Task::Read(Command::Bound)),
-        Verb::Show => line.end(Task::Read(Command::Show)),
+        Verb::Show => show(line),
         Verb::Make => line.end(Task::Read(Command::FromText)),
         Verb::Gen => example(line),
         Verb::Slots => slots(line),
@@ -358,7 +400,19 @@ fn asked(line: Line) -> Result<Task, WordFault>
     }
 }
 
-/// What a command and the words behind it ask for: `--help` alone asks what the command does.
+/// The same, where `-o OUT` may stand before them.
+fn put_out(mut line: Line) -> Result<Task, WordFault>
+    ensures value { result ≡ put_out line.entry.verb (line_of line.entry) }
+    ensures within { IfOk result ReadsWithin }
+{
+    if line.begins("-o") {
+        line.output()?;
+        return asked(line);
+    }
+    asked(line)
+}
+
+/// What a command and the words behind it ask for: `--help` alone, or `-h`, asks what the command does.
 fn task_behind(mut line: Line) -> Result<Task, WordFault>
     ensures value { result ≡ task_behind (line_of line.entry) }
     ensures within { IfOk result ReadsWithin }
@@ -366,18 +420,46 @@ fn task_behind(mut line: Line) -> Result<Task, WordFault>
     if line.begins("--help") {
         return line.end(Task::Tell(Topic::Command(line.verb)));
     }
-    asked(line)
+    if line.begins("-h") {
+        return line.end(Task::Tell(Topic::Command(line.verb)));
+    }
+    put_out(line)
 }
 
-/// A question about the program, which is its only word.
-fn topic_alone(topic: Topic, behind: &[String]) -> Result<Task, WordFault>
-    ensures value { result ≡ topic_alone topic (texts behind.now) }
+/// What the program does, or the command that is the only word.
+fn help_of(behind: &[String]) -> Result<Task, WordFault>
+    ensures value { result ≡ help_of (texts behind.now) }
+    ensures within { IfOk result ReadsWithin }
+{
+    match behind {
+        [] => Ok(Task::Tell(Topic::Program)),
+        [word] => match verb_named(word.as_str()) {
+            Some(verb) => Ok(Task::Tell(Topic::Command(verb))),
+            None => Err(WordFault::Unknown(2)),
+        },
+        _ => Err(WordFault::Alone),
+    }
+}
+
+/// The program's version, behind which no word stands.
+fn version_alone(behind: &[String]) -> Result<Task, WordFault>
+    ensures value { result ≡ version_alone (texts behind.now) }
     ensures within { IfOk result ReadsWithin }
 {
     if behind.is_empty() {
-        return Ok(Task::Tell(topic));
+        return Ok(Task::Tell(Topic::Version));
     }
     Err(WordFault::Alone)
+}
+
+/// Why a first word asks for nothing.
+fn strange(first: &str) -> WordFault
+    ensures { result ≡ strange_by (option_letter first.now) }
+{
+    match option_letter(first.as_bytes()) {
+        Some(letter) => WordFault::NoTopic(nearest_topic(letter)),
+        None => WordFault::Unknown(1),
+    }
 }
 
 /// What a first word that is no command asks for, with these words behind it.
@@ -386,9 +468,12 @@ fn topic_named(first: &str, behind: &[String]) -> Result<Task, WordFault>
     ensures within { IfOk result ReadsWithin }
 {
     match first {
-        "--help" => topic_alone(Topic::Program, behind),
-        "--version" => topic_alone(Topic::Version, behind),
-        _ => Err(WordFault::Unknown),
+        "--help" => help_of(behind),
+        "-h" => help_of(behind),
+        "help" => help_of(behind),
+        "--version" => version_alone(behind),
+        "-V" => version_alone(behind),
+        _ => Err(strange(first)),
     }
 }
 
@@ -418,14 +503,52 @@ fn is_read(task: Result<Task, WordFault>) -> bool
     matches!(task, Ok(Task::Read(_)))
 }
 
-/// Whether the last of these words is the name of a file to read: all of them ask for nothing, and the words before it for a command
-/// that reads. It takes no memory.
+/// Whether the last of these words isn't meant as an option.
+fn ends_in_name(words: &[String]) -> bool
+    ensures { result ≡ is_name (drop (length words.now - 1) words.now) }
+{
+    match words {
+        [.., last] => option_letter(last.as_bytes()).is_none(),
+        [] => false,
+    }
+}
+
+/// Whether the last of these words is the name of a file to read: it isn't meant as an option, all of them ask for nothing, and the words
+/// before it for a command that reads. It takes no memory.
 pub fn names_file(words: &[String]) -> bool
     ensures { result ≡ names_file words.now }
 {
     let count = words.len();
-    if count == 0 || task_of(words).is_ok() {
+    if count == 0 || !ends_in_name(words) || task_of(words).is_ok() {
         return false;
     }
     is_read(task_of(&words[..count - 1]))
+}
+
+/// Whether a word names a command.
+#[tactic(auto, unfolding(crate::specs::Words::is_command))]
+fn is_command(word: &str) -> bool
+    ensures { result ≡ is_command word.now }
+{
+    verb_named(word).is_some()
+}
+
+/// Whether the third of these words is the name of a file for the output: a command and `-o` stand before it.
+pub fn names_output(words: &[String]) -> bool
+    ensures { result ≡ names_output (texts words.now) }
+{
+    match words {
+        [first, second, _, ..] => is_command(first.as_str()) && second.as_str() == "-o",
+        _ => false,
+    }
+}
+
+/// How much input is more than is read for these words.
+pub fn excess_of(words: &[String]) -> &'static str
+    ensures { result.now ≡ excess_of (task_or_fault (texts words.now)) }
+{
+    match task_of(words) {
+        Ok(Task::Read(command)) => command.excess(),
+        _ => "more than it may have",
+    }
 }

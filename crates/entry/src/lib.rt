@@ -11,9 +11,14 @@ ghost use Rattle.std.specs.declared.io.ErrorKind.TheVariants.{OutOfMemory};
 use job_io::{ReaderSource, Sink, Source, WriterSink};
 use std::alloc::Global;
 use std::fs::File;
-use std::io::{Eprint, Stdout, Write};
+use std::io::{Eprint, Read, Write};
 use std::process::{ExitCode, Termination};
-use std::{env, fmt, io};
+use std::{env, fmt, fs, io};
+
+/// What the ends of the program are called where no file is named.
+const STDIN: &str = "standard input";
+
+const STDOUT: &str = "standard output";
 
 /// How a run ended: its status, and why, where there is something to say.
 #[derive(Clone, Copy, Debug, Drop)]
@@ -55,6 +60,12 @@ pub trait Program {
     /// Whether the last of these words is the name of a file that is to be read in place of standard input.
     fn names_file(&self, words: &Vec<String>) -> bool;
 
+    /// Whether the third of these words is the name of a file that the output goes to, where the status is 0.
+    fn names_output(&self, words: &Vec<String>) -> bool;
+
+    /// How much input is more than a run with these words takes.
+    fn excess(&self, words: &Vec<String>) -> &'static str;
+
     /// Does what the words ask for, and says how it ended.
     fn run<S: Source, K: Sink>(
         &self,
@@ -73,31 +84,46 @@ pub trait Program {
         ensures { promises };
 }
 
-/// Standard output, of which it is kept whether its reader has gone.
+/// A reader or a writer, of which it is kept how it failed last.
 #[derive(Drop)]
-struct Output {
-    stdout: Stdout,
-    closed: bool,
+struct Watched<T> {
+    inner: T,
+    failure: Option<io::Error>,
 }
 
-impl Output {
-    /// Keeps whether this write or flush found that the reader has gone.
-    fn note<T>(&mut self, done: &io::Result<T>) {
+impl<T> Watched<T> {
+    fn new(inner: T) -> Watched<T> {
+        Watched {
+            inner,
+            failure: None,
+        }
+    }
+
+    /// Keeps the failure of this call, where it failed.
+    fn note<V>(&mut self, done: &io::Result<V>) {
         if let Err(error) = done {
-            self.closed = self.closed || error.kind() == io::ErrorKind::BrokenPipe;
+            self.failure = Some(*error);
         }
     }
 }
 
-impl Write for Output {
+impl<R: Read> Read for Watched<R> {
+    fn read(&mut self, buf: &mut [u8]) -> io::Result<usize> {
+        let done = self.inner.read(buf);
+        self.note(&done);
+        done
+    }
+}
+
+impl<W: Write> Write for Watched<W> {
     fn write(&mut self, bytes: &[u8]) -> io::Result<usize> {
-        let done = self.stdout.write(bytes);
+        let done = self.inner.write(bytes);
         self.note(&done);
         done
     }
 
     fn flush(&mut self) -> io::Result<()> {
-        let done = self.stdout.flush();
+        let done = self.inner.flush();
         self.note(&done);
         done
     }
@@ -108,49 +134,123 @@ fn words(rt: &HostRuntime) -> io::Result<Vec<String>> {
     Ok(env::args(rt)?.skip(1).collect(rt.alloc())?)
 }
 
-/// Says a line of a status on standard error. Where that fails there is nobody to tell.
-fn tell<P: Program>(rt: &HostRuntime, program: &P, status: u8) -> u8
-    ensures { result ≡ status }
-{
+/// Says on standard error what a status means. Where that fails there is nobody to tell.
+fn tell_notice<P: Program>(rt: &HostRuntime, program: &P, status: u8) {
     if let Some(notice) = program.notice(status) {
         let _ = rt.eprintln(notice);
+    }
+}
+
+/// Says what is wrong with the file of this name, or with an end of the program.
+fn tell_of<P: Program, D: fmt::Display + Drop>(
+    rt: &HostRuntime,
+    program: &P,
+    name: &str,
+    reason: D,
+) {
+    let _ = eprintln!(rt; "{}: {name}: {reason}", program.name());
+}
+
+/// Says of the file of this name, or of an end of the program, how it failed; or where that isn't known what the status means.
+fn tell_failure<P: Program>(
+    rt: &HostRuntime,
+    program: &P,
+    name: &str,
+    failure: Option<io::Error>,
+    status: u8,
+) {
+    match failure {
+        Some(error) => tell_of(rt, program, name, error),
+        None => tell_notice(rt, program, status),
+    }
+}
+
+/// Whether the reader of standard output has gone, which is no news to anybody.
+fn is_gone(failure: Option<io::Error>) -> bool {
+    match failure {
+        Some(error) => error.kind() == io::ErrorKind::BrokenPipe,
+        None => false,
+    }
+}
+
+/// Runs the program over the input of this name and a writer, and says what there is to say. A reader of standard output that has enough
+/// is told nothing.
+fn run_between<P: Program, R: Read + Drop, W: Write + Drop>(
+    rt: &HostRuntime,
+    program: &P,
+    words: &Vec<String>,
+    name: &str,
+    reader: R,
+    writer: W,
+) -> u8 {
+    let mut input = Watched::new(reader);
+    let mut output = Watched::new(writer);
+    let mut source = ReaderSource::new(&mut input);
+    let mut sink = WriterSink::new(&mut output);
+    let Ended { status, cause } = program.run(rt.alloc(), words, &mut source, &mut sink);
+    match (cause, status) {
+        (Some(cause), _) => {
+            let _ = rt.eprintln(cause);
+        }
+        (None, _) if is_gone(output.failure) => {}
+        (None, 3) => tell_failure(rt, program, name, input.failure, status),
+        (None, 4) => tell_failure(rt, program, STDOUT, output.failure, status),
+        (None, 6) => tell_of(rt, program, name, program.excess(words)),
+        (None, _) => tell_notice(rt, program, status),
     }
     status
 }
 
-/// Runs the program on a source, with standard output as its sink, and says what there is to say. A reader of standard output that
-/// has enough is told nothing.
-fn run_on<P: Program, S: Source>(
+/// Puts the output of a run into the file of this name where the status is 0, and else on standard output. It says the status, which is 4
+/// where that failed.
+fn deliver<P: Program>(
+    rt: &HostRuntime,
+    program: &P,
+    name: &str,
+    output: &Vec<u8>,
+    status: u8,
+) -> u8 {
+    let (place, done) = if status == 0 {
+        (name, fs::write(rt, name, output.as_slice()))
+    } else {
+        (STDOUT, rt.stdout().write_all(output))
+    };
+    match done {
+        Ok(()) => status,
+        Err(error) => {
+            tell_of(rt, program, place, error);
+            4
+        }
+    }
+}
+
+/// Runs the program over the input of this name, with standard output as its sink, or the file that the words name.
+fn run_on<P: Program, R: Read + Drop>(
     rt: &HostRuntime,
     program: &P,
     words: &Vec<String>,
-    source: &mut S,
+    name: &str,
+    reader: R,
 ) -> u8 {
-    let mut output = Output {
-        stdout: rt.stdout(),
-        closed: false,
-    };
-    let mut sink = WriterSink::new(&mut output);
-    let Ended { status, cause } = program.run(rt.alloc(), words, source, &mut sink);
-    match cause {
-        Some(cause) => {
-            let _ = rt.eprintln(cause);
-            status
+    match words.get(2) {
+        Some(to) if program.names_output(words) => {
+            let mut output = Vec::new(rt.alloc());
+            let status = run_between(rt, program, words, name, reader, &mut output);
+            deliver(rt, program, to, &output, status)
         }
-        None if output.closed => status,
-        None => tell(rt, program, status),
+        _ => run_between(rt, program, words, name, reader, rt.stdout()),
     }
 }
 
 /// Runs the program on the file of this name, or on standard input where it is `-`. A file that can't be opened is status 3.
 fn run_on_file<P: Program>(rt: &HostRuntime, program: &P, words: &Vec<String>, name: &str) -> u8 {
     if name == "-" {
-        return run_on(rt, program, words, &mut ReaderSource::new(rt.stdin()));
+        return run_on(rt, program, words, STDIN, rt.stdin());
     }
     match File::open(rt, name) {
-        Ok(file) => run_on(rt, program, words, &mut ReaderSource::new(file)),
+        Ok(file) => run_on(rt, program, words, name, file),
         Err(error) => {
-            let _ = eprintln!(rt; "{}: {name}: {error}", program.name());
+            tell_of(rt, program, name, error);
             3
         }
     }
@@ -175,10 +275,14 @@ fn run_with<P: Program>(rt: &HostRuntime, program: &P, words: io::Result<Vec<Str
     match words {
         Ok(mut words) if program.names_file(&words) => match words.pop() {
             Some(name) => run_on_file(rt, program, &words, &name),
-            None => tell(rt, program, 2),
+            None => 2,
         },
-        Ok(words) => run_on(rt, program, &words, &mut ReaderSource::new(rt.stdin())),
-        Err(error) => tell(rt, program, wordless(&error)),
+        Ok(words) => run_on(rt, program, &words, STDIN, rt.stdin()),
+        Err(error) => {
+            let status = wordless(&error);
+            tell_notice(rt, program, status);
+            status
+        }
     }
 }
 

@@ -22,6 +22,14 @@ impl Program for Line {
         words.len() == 2
     }
 
+    fn names_output(&self, _words: &Vec<String>) -> bool {
+        false
+    }
+
+    fn excess(&self, _words: &Vec<String>) -> &'static str {
+        "too much"
+    }
+
     fn run<S: Source, K: Sink>(
         &self,
         _alloc: Global,

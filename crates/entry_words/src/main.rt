@@ -45,6 +45,14 @@ impl Program for Words {
         false
     }
 
+    fn names_output(&self, _words: &Vec<String>) -> bool {
+        false
+    }
+
+    fn excess(&self, _words: &Vec<String>) -> &'static str {
+        "more than 1024 bytes"
+    }
+
     fn run<S: Source, K: Sink>(
         &self,
         alloc: Global,

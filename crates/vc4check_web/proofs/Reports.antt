@@ -1,5 +1,5 @@
 -- What a run over memory leaves is a report.
-use Rattle.std.proofs.Common.{◌≡◌, ◌≢◌, ◌≤◌, ◌<◌, ◌⊎◌, ◌↔◌, ◌-◌, inl, inr, ℕ, List, [], ◌++◌, length, None, Some, Ok, Err, IfErr, refl, sym, ap, subst, arith}
+use Rattle.std.proofs.Common.{◌≡◌, ◌≢◌, ◌≤◌, ◌<◌, ◌⊎◌, ◌↔◌, ◌-◌, inl, inr, ℕ, List, [], ◌++◌, length, None, Some, Ok, Err, IfErr, true, false, refl, sym, ap, subst, arith}
 use Rattle.std.proofs.lemmas.Bool.{cases_order}
 use Rattle.std.specs.Prelude.{Option, Result}
 use Rattle.std.specs.Result.{result_ok}
@@ -8,7 +8,7 @@ use Rattle.commands.specs.declared.cause.Cause.TheVariants.{Words}
 use Rattle.commands.specs.declared.command.{Command.Command, Task.Task, Task.TheVariants.Read, Task.TheVariants.Make, Task.TheVariants.Tell}
 use Rattle.commands.specs.declared.help.Topic.{Topic}
 use Rattle.commands.specs.declared.word_fault.WordFault.{WordFault}
-use Rattle.commands.specs.{Answer.IsAnswer, Answer.IsExampleAnswer, Cause.IsCause, Run.IsAnswered, Run.IsServed, Run.IsSaid, Topics.IsTopicAnswer, Words.limit_of}
+use Rattle.commands.specs.{Answer.IsAnswer, Answer.IsExampleAnswer, Cause.IsCause, Cause.is_told, Run.IsAnswered, Run.IsServed, Run.IsSaid, Topics.IsTopicAnswer, Words.limit_of}
 use Rattle.job_io.specs.Faults.{Rose, counted}
 use Rattle.vc4check_web.specs.Call.{IsReply, IsReport}
 
@@ -46,13 +46,14 @@ not_two status (inr six) two = omega (arith, six, two)
 
 reply_by : (command : Command) (input rest before text : List ℕ) (status : ℕ) (cause : Option Cause) → before ≡ [] → (status < 2) ⊎ (status ≡ 6)
     → (1 < status → text ≡ []) → IsServed command (Some input) (Some rest) (Some before) (Some text) status
-    → (status ≡ 1 → IsCause command input cause) → (status ≢ 1 → status ≢ 2 → cause ≡ None) → IsReply command input status text cause
+    → (is_told command status ≡ true → IsCause command input cause) → (is_told command status ≡ false → status ≢ 2 → cause ≡ None)
+    → IsReply command input status text cause
 reply_by command input rest before text status cause empty statuses nothing served why quiet = record {
   statuses = sizes_by command input rest before text status statuses served;
   answered = λ few. answered_by (IsAnswer command input) status before text empty (served.answered few);
   why = why;
   nothing = λ six. nothing (omega (arith, six));
-  quiet = λ done. quiet done (not_two status statuses);
+  quiet = λ silent. quiet silent (not_two status statuses);
 }
 
 done_by : (status : ℕ) → (status ≡ 0) ⊎ ((status ≡ 4) ⊎ (status ≡ 5)) → status ≢ 4 → status ≢ 5 → status ≡ 0
@@ -61,13 +62,23 @@ done_by status (inr (inl is)) four five = absurd (four is)
 done_by status (inr (inr is)) four five = absurd (five is)
 
 said_by : (IsText : ℕ → List ℕ → Type 0) (source source_now before text : List ℕ) (status : ℕ) (cause : Option Cause) → before ≡ [] → status ≢ 4 → status ≢ 5
-    → IsSaid IsText source source_now (Some before) (Some text) status → (status ≢ 1 → status ≢ 2 → cause ≡ None) → IsText status text × (cause ≡ None)
+    → IsSaid IsText source source_now (Some before) (Some text) status → (status ≢ 2 → cause ≡ None) → IsText status text × (cause ≡ None)
 said_by IsText source source_now before text status cause empty four five said quiet =
     let done = done_by status said.statuses four five in
-    (answered_by IsText status before text empty (said.answered (omega (arith, done))), quiet (λ e. omega (arith, e, done)) (λ e. omega (arith, e, done)))
+    (answered_by IsText status before text empty (said.answered (omega (arith, done))), quiet (λ e. omega (arith, e, done)))
 
 asks : (task : Task) (status : ℕ) → ((status ≡ 2) ↔ (Some task ≡ None)) → status ≢ 2
 asks task status words two = let clash : Some task ≡ None = words.0 two in cc
+
+-- tasks that read, and those that don't
+same_command : (one other : Command) → Some (Read one) ≡ Some (Read other) → one ≡ other
+same_command one other same = cc
+
+no_make : (number : ℕ) (command : Command) → Some (Make number) ≡ Some (Read command) → ⊥
+no_make number command same = cc
+
+no_tell : (topic : Topic) (command : Command) → Some (Tell topic) ≡ Some (Read command) → ⊥
+no_tell topic command same = cc
 
 -- a source that never fails is no reason to end
 pub never_failed : (status : ℕ) → (status ≡ 3 → Rose 0 0) → status ≢ 3
@@ -79,13 +90,18 @@ pub reported : (asked : Result Task WordFault) (input rest before text : List �
     → ((command : Command) → result_ok asked ≡ Some (Read command) → IsServed command (Some input) (Some rest) (Some before) (Some text) status)
     → ((number : ℕ) → result_ok asked ≡ Some (Make number) → IsSaid (IsExampleAnswer number) input rest (Some before) (Some text) status)
     → ((topic : Topic) → result_ok asked ≡ Some (Tell topic) → IsSaid (IsTopicAnswer topic) input rest (Some before) (Some text) status)
-    → ((command : Command) → result_ok asked ≡ Some (Read command) → status ≡ 1 → IsCause command input cause)
-    → IfErr asked (λ fault. cause ≡ Some (Words fault)) → (status ≢ 1 → status ≢ 2 → cause ≡ None) → IsReport asked input status text cause
+    → ((command : Command) → result_ok asked ≡ Some (Read command) → is_told command status ≡ true → IsCause command input cause)
+    → IfErr asked (λ fault. cause ≡ Some (Words fault))
+    → (((command : Command) → result_ok asked ≡ Some (Read command) → is_told command status ≡ false) → status ≢ 2 → cause ≡ None)
+    → IsReport asked input status text cause
 reported (Err fault) input rest before text status cause empty most three four five words nothing served made said why wrong quiet =
     let two = words.1 refl in (two, nothing (omega (arith, two)), wrong)
 reported (Ok (Read command)) input rest before text status cause empty most three four five words nothing served made said why wrong quiet =
-    reply_by command input rest before text status cause empty (few_or_six status most (asks (Read command) status words) three four five) nothing (served command refl) (why command refl) quiet
+    reply_by command input rest before text status cause empty (few_or_six status most (asks (Read command) status words) three four five) nothing (served command refl) (why command refl)
+    (λ silent. quiet (λ other same. subst (λ c. is_told c status ≡ false) (same_command command other same) silent))
 reported (Ok (Make number)) input rest before text status cause empty most three four five words nothing served made said why wrong quiet =
-    said_by (IsExampleAnswer number) input rest before text status cause empty four five (made number refl) quiet
+    said_by (IsExampleAnswer number) input rest before text status cause empty four five (made number refl)
+    (quiet (λ command same. absurd (no_make number command same)))
 reported (Ok (Tell topic)) input rest before text status cause empty most three four five words nothing served made said why wrong quiet =
-    said_by (IsTopicAnswer topic) input rest before text status cause empty four five (said topic refl) quiet
+    said_by (IsTopicAnswer topic) input rest before text status cause empty four five (said topic refl)
+    (quiet (λ command same. absurd (no_tell topic command same)))

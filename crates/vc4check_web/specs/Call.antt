@@ -1,11 +1,11 @@
 -- What a page is told: a status, a text, and a line that says why.
-use Rattle.std.specs.Prelude.{◌≡◌, ◌≢◌, ◌≤◌, ◌<◌, ◌⊎◌, ℕ, nat_le, List, [], ◌++◌, length, take, drop, map, Option, Some, None, Result, Ok, Err, if◌then◌else◌}
+use Rattle.std.specs.Prelude.{◌≡◌, ◌≢◌, ◌≤◌, ◌<◌, ◌⊎◌, ℕ, true, false, nat_le, List, [], ◌++◌, length, take, drop, map, Option, Some, None, Result, Ok, Err, if◌then◌else◌}
 use Rattle.std.specs.Str.Lossy.{utf8_lossy}
 use Rattle.commands.specs.declared.cause.Cause.{Cause}
 use Rattle.commands.specs.declared.cause.Cause.TheVariants.{Words}
 use Rattle.commands.specs.declared.command.{Command.Command, Task.Task, Task.TheVariants.Read, Task.TheVariants.Make, Task.TheVariants.Tell}
 use Rattle.commands.specs.declared.word_fault.WordFault.{WordFault}
-use Rattle.commands.specs.{Answer.IsAnswer, Answer.IsExampleAnswer, Cause.cause_text, Cause.IsCause, Topics.IsTopicAnswer, Words.limit_of}
+use Rattle.commands.specs.{Answer.IsAnswer, Answer.IsExampleAnswer, Cause.cause_text, Cause.IsCause, Cause.is_told, Topics.IsTopicAnswer, Words.limit_of}
 use Rattle.vc4check_web.specs.declared.call.Lengths.{Lengths}
 use Rattle.vc4check_web.specs.declared.word.Word.{Word}
 
@@ -20,9 +20,9 @@ words_text words = map word_text words
 pub record IsReply (command : Command) (input : List ℕ) (status : ℕ) (text : List ℕ) (cause : Option Cause) : Type 0 where
   pub statuses : ((length input ≤ limit_of command) × (status < 2)) ⊎ ((limit_of command < length input) × (status ≡ 6))
   pub answered : status < 2 → IsAnswer command input status text
-  pub why : status ≡ 1 → IsCause command input cause
+  pub why : is_told command status ≡ true → IsCause command input cause
   pub nothing : status ≡ 6 → text ≡ []
-  pub quiet : status ≢ 1 → cause ≡ None
+  pub quiet : is_told command status ≡ false → cause ≡ None
 
 -- What is answered to words and this input: which word is wrong, or what the command does.
 abbrev pub IsReport : Result Task WordFault → List ℕ → ℕ → List ℕ → Option Cause → Type 0

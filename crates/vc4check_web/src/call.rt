@@ -4,7 +4,7 @@ ghost use Rattle.commands.specs.declared.command.Command.TheVariants.{Check};
 ghost use Rattle.commands.specs.declared.command.Task.TheVariants.{Read};
 ghost use Rattle.commands.specs.Run.{Promises};
 ghost use Rattle.commands.specs.Words.{task_or_fault, task_of};
-ghost use Rattle.headline.specs.MayRun.{MayRun};
+ghost use Rattle.promises.specs.MayRun.{MayRun};
 ghost use Rattle.vc4check_web.specs.Call.{line_of, words_text, IsReport, IsReported, IsPut};
 
 use crate::kept::KeptSink;
@@ -46,8 +46,10 @@ fn source_of(alloc: Global, input: &[u8]) -> Result<SteadySource, NoMemory>
 
 /// Does what the words ask for with this input.
 fn answer(alloc: Global, words: &[Word], input: &[u8]) -> Result<Report, NoMemory>
-    ensures report { IfOk result (λ r. IsReport (task_or_fault (words_text words.now)) input.now r.status r.text.items r.cause) }
-    ensures safe { task_of (words_text words.now) ≡ Some (Read Check) → IfOk result (λ r. r.status ≡ 0 → MayRun input.now) }
+    ensures report { IfOk result (λ r. IsReport (task_or_fault (words_text words.now)) input.now
+        r.status r.text.items r.cause) }
+    ensures safe { task_of (words_text words.now) ≡ Some (Read Check)
+        → IfOk result (λ r. r.status ≡ 0 → MayRun input.now) }
 {
     let words = words_of(alloc, words)?;
     let mut source = source_of(alloc, input)?;
@@ -81,8 +83,10 @@ fn write(
     text: &mut [u8],
     line: &mut [u8],
 ) -> Result<Lengths, NoMemory>
-    ensures text { IfOk result (λ lengths. IsPut text.old text.new lengths.text report.now.text.items) }
-    ensures line { IfOk result (λ lengths. IsPut line.old line.new lengths.line (line_of report.now.cause)) }
+    ensures text { IfOk result (λ lengths. IsPut text.old text.new lengths.text
+        report.now.text.items) }
+    ensures line { IfOk result (λ lengths. IsPut line.old line.new lengths.line
+        (line_of report.now.cause)) }
     ensures kept { OnErr result ((text.new ≡ text.old) × (line.new ≡ line.old)) }
 {
     let why = line_of(alloc, report.cause)?;
@@ -97,7 +101,7 @@ fn write(
 ///
 /// | Status | Meaning | `text` | `line` |
 /// |---|---|---|---|
-/// | 0 | done | the command's text | |
+/// | 0 | done | the command's text | the notes of a shader, a line each, without a line feed behind the last |
 /// | 1 | refused | the refusal's text | why, where there is more to say |
 /// | 2 | the words ask for nothing that the program does | | which word is wrong |
 /// | 5 | want of memory | as before | as before |
@@ -113,10 +117,13 @@ pub extern "C" fn vc4check_run(
     lengths: &mut Lengths,
 ) -> u32
     // What each command answers to its input, or which word is wrong.
-    ensures report { result ≢ 5 → IsReported (task_or_fault (words_text words.now)) input.now result text.old text.new line.old line.new lengths.new }
-    ensures kept { result ≡ 5 → (text.new ≡ text.old) × (line.new ≡ line.old) × (lengths.new ≡ lengths.old) }
+    ensures report { result ≢ 5 → IsReported (task_or_fault (words_text words.now)) input.now result
+        text.old text.new line.old line.new lengths.new }
+    ensures kept { result ≡ 5 → (text.new ≡ text.old) × (line.new ≡ line.old)
+        × (lengths.new ≡ lengths.old) }
     // Each job of a file that `check` accepts may run from just the memory that is told.
-    ensures safe { task_of (words_text words.now) ≡ Some (Read Check) → result ≡ 0 → MayRun input.now }
+    ensures safe { task_of (words_text words.now) ≡ Some (Read Check) → result ≡ 0
+        → MayRun input.now }
     ensures promises { Promises }
 {
     let Ok(report) = answer(alloc, words, input) else {

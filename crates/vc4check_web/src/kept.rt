@@ -56,7 +56,8 @@ impl Sink for KeptSink {
         ensures counted { self.old.faults ≤ self.new.faults }
 
         ensures count { IfOk result (λ n. n ≡ length part.now) }
-        ensures err { OnErr result (self.new ≡ record self.old { faults = counted self.old.faults }) }
+        ensures err { OnErr result (self.new
+            ≡ record self.old { faults = counted self.old.faults }) }
     {
         match self.bytes.extend_from_slice(part) {
             Ok(()) => Ok(part.len()),
