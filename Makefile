@@ -7,7 +7,7 @@
 PREFIX = /usr/local
 DESTDIR =
 ABI = 2
-VERSION = $(ABI).0.0
+VERSION = $(shell sed -n 's/^\#\# \([0-9.]*\),.*/\1/p' CHANGELOG.md | head -n 1)
 CFLAGS = -O2
 PROGRAM = crates/vc4check/out/vc4check
 PROVED = crates/vc4check_c/out/libvc4check_c.a
@@ -40,7 +40,7 @@ out/vc4check.pc: install/vc4check.pc.in
 
 install: all
 	install -d $(TO)/bin $(TO)/include $(TO)/lib/pkgconfig $(TO)/share/man/man1 $(TO)/share/man/man3 \
-	    $(TO)/share/bash-completion/completions
+	    $(TO)/share/bash-completion/completions $(TO)/share/zsh/site-functions
 	install -m 755 $(PROGRAM) $(TO)/bin
 	install -m 644 examples/c/vc4check.h $(TO)/include
 	install -m 644 out/libvc4check.a $(TO)/lib
@@ -51,6 +51,7 @@ install: all
 	install -m 644 install/vc4check.1 $(TO)/share/man/man1
 	install -m 644 install/vc4check.3 $(TO)/share/man/man3
 	install -m 644 install/vc4check.bash $(TO)/share/bash-completion/completions/vc4check
+	install -m 644 install/vc4check.zsh $(TO)/share/zsh/site-functions/_vc4check
 
 $(PAGE):
 	cd crates/vc4check_web && rt lib

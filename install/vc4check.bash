@@ -1,22 +1,33 @@
-# Completion for bash: commands, and behind them their fixed words and the names of files.
+# Completion for bash, by the kind of word: a command, an option, a kind of unit, a tiling, a rule, or the name of a file. Numbers aren't
+# completed.
 _vc4check() {
-  local word=${COMP_WORDS[COMP_CWORD]} before=${COMP_WORDS[COMP_CWORD - 1]} commands
-  commands="check replay picture upgrade bound show make gen slots queue session shader untile tile level asm disasm explain --help --version"
+  local word=${COMP_WORDS[COMP_CWORD]} before=${COMP_WORDS[COMP_CWORD - 1]} command=${COMP_WORDS[1]} words= files=
+  local commands="check replay picture upgrade bound show make gen slots queue session untile tile level asm disasm shader explain"
   if [ "$COMP_CWORD" = 1 ]; then
-    mapfile -t COMPREPLY < <(compgen -W "$commands" -- "$word")
+    mapfile -t COMPREPLY < <(compgen -W "$commands help --help --version" -- "$word")
     return
   fi
-  case "${COMP_WORDS[1]} $before" in
-    "replay --favour") mapfile -t COMPREPLY < <(compgen -W "qpu texture binner renderer" -- "$word") ;;
-    replay*) mapfile -t COMPREPLY < <(compgen -W "--favour --accesses --seeds" -- "$word"; compgen -f -- "$word") ;;
-    "picture --favour") mapfile -t COMPREPLY < <(compgen -W "qpu texture binner renderer" -- "$word") ;;
-    "picture --run") mapfile -t COMPREPLY < <(compgen -W "--favour" -- "$word") ;;
-    "picture picture") mapfile -t COMPREPLY < <(compgen -W "--run" -- "$word"; compgen -f -- "$word") ;;
-    "check check") mapfile -t COMPREPLY < <(compgen -W "--strict" -- "$word"; compgen -f -- "$word") ;;
-    "shader --strict") mapfile -t COMPREPLY < <(compgen -W "--asm" -- "$word"; compgen -f -- "$word") ;;
-    "shader shader") mapfile -t COMPREPLY < <(compgen -W "--strict --asm" -- "$word"; compgen -f -- "$word") ;;
-    "untile untile" | "tile tile") mapfile -t COMPREPLY < <(compgen -W "t lt" -- "$word") ;;
-    *) mapfile -t COMPREPLY < <(compgen -f -- "$word") ;;
+  case "$command $before" in
+    "help help" | "--help --help" | "-h -h") words=$commands ;;
+    help* | --* | -* | gen*) ;;
+    *" -o") files=1 ;;
+    *" --favour") words="qpu texture binner renderer" ;;
+    *" --seeds") ;;
+    "replay replay") words="--favour --accesses --seeds --help -o" ;;
+    "replay "*) words="--accesses --seeds" files=1 ;;
+    "picture picture") words="--run --help -o" files=1 ;;
+    "picture --run") words="--favour" ;;
+    "check check") words="--strict --help -o" files=1 ;;
+    "shader shader") words="--strict --asm --help -o" files=1 ;;
+    "shader --strict") words="--asm" files=1 ;;
+    "untile untile" | "tile tile") words="t lt --help -o" ;;
+    "untile t" | "untile lt" | "tile t" | "tile lt") words="1 2 4 8" ;;
+    "explain explain") words="--list --help kind $(vc4check explain --list 2> /dev/null | sed -n 's/^\([A-Z][0-9]*\):.*/\1/p')" ;;
+    "explain kind") words="1 2 3 4 5" ;;
+    explain*) ;;
+    "$command $command") words="--help -o" files=1 ;;
+    *) files=1 ;;
   esac
+  mapfile -t COMPREPLY < <([ -z "$words" ] || compgen -W "$words" -- "$word"; [ -z "$files" ] || compgen -f -- "$word")
 }
 complete -o filenames -F _vc4check vc4check

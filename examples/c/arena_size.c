@@ -5,9 +5,10 @@ static size_t rounded(size_t size) {
     return (size + 15) / 16 * 16;
 }
 
-/* The list of a job's shaders: of each Code buffer its samples, of 36 bytes, and its address words; an entry that was kept tells of one. */
+/* The list of a job's shaders: of each Code buffer its samples, of 36 bytes, and its address words; an entry that was kept tells of one. And
+ * what was found of each by the strict check, of at most 16. */
 static size_t for_shaders(const struct vc4check_submission *job) {
-    size_t size = rounded(72 * job->buffer_count);
+    size_t size = rounded(72 * job->buffer_count) + rounded(16 * job->buffer_count);
     for (size_t b = 0; b < job->buffer_count; b++)
         if (job->buffers[b].kind == VC4CHECK_CODE) size += rounded(36 * job->buffers[b].known_count) + 16;
     return size;

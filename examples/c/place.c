@@ -1,7 +1,7 @@
 /* place FILE..: checks each job file, and the same job with all its places moved up to addresses of the bus, as a driver has them. Both
- * have the same answer, and the same lists but for the highest byte of each address. Prints the first file of which that isn't so, or how
- * many files were compared. Files that can't be moved are left out: those whose memory has no byte, or with a number over 64 MiB among memory
- * and places. Status 0: all are the same. */
+ * have the same answer, and the same lists but for the highest byte of each address; but a job that breaks a strict rule, E, is refused only
+ * where it is moved. Prints the first file of which that isn't so, or how many files were compared. Files that can't be moved are left out:
+ * those whose memory has no byte, or with a number over 64 MiB among memory and places. Status 0: all are the same. */
 #include <stdio.h>
 #include <stdlib.h>
 #include "vc4check.h"
@@ -57,12 +57,12 @@ static int same_job(const struct vc4check_job *a, const struct vc4check_job *b) 
 static int compare(uint8_t *bytes, size_t length) {
     struct vc4check_answer below, above;
     uint8_t *block = malloc(MOST), *window = malloc(MOST);
-    uint32_t status = vc4check_check(bytes, length, block, MOST, &below), same;
+    uint32_t status = vc4check_check(bytes, length, block, MOST, &below), placed, same;
     uint32_t region = length < HEADER ? 0 : word_at(bytes + 12);
     if (!move_all(bytes, length)) {
         same = 2;
-    } else if (vc4check_place(bytes, length, window, MOST, &above) != status) {
-        same = 0;
+    } else if ((placed = vc4check_place(bytes, length, window, MOST, &above)) != status) {
+        same = status == VC4CHECK_ACCEPTED && placed == VC4CHECK_REFUSED && above.letter == 'E';
     } else if (status == VC4CHECK_REFUSED) {
         same = above.letter == below.letter && above.number == below.number && above.offset == below.offset;
     } else {

@@ -67,7 +67,8 @@ static bool same_job(const struct vc4check_job *a, const struct vc4check_job *b)
 /* What is told of the file at its own places, its memory, and the lists of the same file at the moved ones. */
 struct wanted {
     uint32_t status;
-    struct vc4check_answer answer;
+    struct vc4check_answer answer, placed;
+    bool breaks_strict; /* a strict rule, E, which the moved one alone is asked */
     uint8_t *memory, *lists;
 };
 
@@ -95,7 +96,11 @@ static bool answers(const struct wanted *wanted, uint8_t *window) {
     const struct vc4check_submission *submission = &filled.submission;
     struct vc4check_verdict verdict;
     memset(window, 0xa5, ROOM);
-    if (vc4check_submit(submission, window, ROOM, &verdict) != wanted->status) return false;
+    uint32_t status = vc4check_submit(submission, window, ROOM, &verdict);
+    if (wanted->breaks_strict)
+        return status == VC4CHECK_REFUSED && verdict.letter == 'E' && verdict.number == wanted->placed.number
+            && place_in_job_file(submission, &verdict) == wanted->placed.offset && window[0] == 0xa5;
+    if (status != wanted->status) return false;
     if (wanted->status == VC4CHECK_REFUSED)
         return verdict.letter == wanted->answer.letter && verdict.number == wanted->answer.number
             && place_in_file(&verdict) == wanted->answer.offset && window[0] == 0xa5;
@@ -112,9 +117,10 @@ static int compare(uint8_t *bytes, size_t length, uint8_t *window) {
     wanted.status = vc4check_check(bytes, length, wanted.memory, MOST, &wanted.answer);
     if (wanted.status == VC4CHECK_REFUSED) refused++;
     size_t moved_length;
-    struct vc4check_answer moved_answer;
     uint8_t *moved = job_file_of_submission(&filled.submission, false, &moved_length);
-    bool same = vc4check_place(moved, moved_length, wanted.lists, MOST, &moved_answer) == wanted.status && answers(&wanted, window);
+    uint32_t placed = vc4check_place(moved, moved_length, wanted.lists, MOST, &wanted.placed);
+    wanted.breaks_strict = wanted.status == VC4CHECK_ACCEPTED && placed == VC4CHECK_REFUSED && wanted.placed.letter == 'E';
+    bool same = (placed == wanted.status || wanted.breaks_strict) && answers(&wanted, window);
     make_shaders(&filled.submission);
     same = same && answers(&wanted, window) && same_bound(bytes, length, wanted.status);
     forget_shaders(&filled.submission);

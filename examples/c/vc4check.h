@@ -3,6 +3,14 @@
  *
  * Each call reads what it is given, writes the values that it is lent, and keeps nothing: no call remembers another, and the
  * caller owns all memory that it hands over. What a call takes for its own work it gives back before it returns.
+ * examples/c/hello_submit.c in the sources is a small program to begin with.
+ *
+ * Three kinds of value say where something is:
+ *  - a pointer, to the caller's own memory;
+ *  - a bus address, of 32 bits, by which the hardware finds it. All those of a call are in one alias: at 0x0.., 0x4.., 0x8.. and 0xC.. the bus
+ *    has one memory, but the checker takes them for four;
+ *  - an offset, which counts bytes from the start of what its comment names.
+ * Sizes and lengths are in bytes; counts, and the rooms of arrays, are in elements.
  *
  * What the caller owes, which nothing checks:
  *  - Each pointer is good for as many elements as its length says, is aligned, and is not null, also where the length is 0.
@@ -25,7 +33,7 @@ extern "C" {
 #endif
 
 /* The version of this header. It is that of the library where vc4check_version() answers the same. */
-#define VC4CHECK_VERSION 4
+#define VC4CHECK_VERSION 5
 
 /* How a call ended. */
 enum {
@@ -40,21 +48,24 @@ enum {
 #define VC4CHECK_MOST_JOBS 8
 
 /*
- * The answer for one accepted job. `lists` and `slot` are addresses: of the bus after vc4check_submit and vc4check_place, in the block after
- * vc4check_check. `bin` to `end` are offsets from `lists`: the binner begins at lists + bin, the renderer at lists + render.
+ * Where the lists of an accepted job are. `lists` and `slot` are bus addresses after vc4check_submit (the submission's own) and vc4check_place,
+ * and offsets in the block after vc4check_check. `bin` to `end` are always offsets behind `lists`, and never addresses. So the hardware runs
+ *
+ *     the binner    from lists + bin to lists + bin + bin_length, where bin_length isn't 0: else the job has no binner list;
+ *     the renderer  from lists + render to lists + end.
  */
 struct vc4check_job {
-    uint32_t lists;           /* address where the job's lists begin */
-    uint32_t slot;            /* address of the job's tile slot, of 524,288 bytes */
-    uint32_t bin;             /* offset of the binner list, */
-    uint32_t records;         /*   of the shader records, */
-    uint32_t uniforms;        /*   of the uniforms, */
-    uint32_t render;          /*   of the renderer list, */
-    uint32_t end;             /*   and of that list's end */
-    uint32_t bin_length;      /* how many bytes of each were written */
-    uint32_t records_length;
-    uint32_t uniforms_length;
-    uint32_t render_length;
+    uint32_t lists;           /* bus address, or offset in the block: where the job's lists begin */
+    uint32_t slot;            /* bus address, or offset in the block: the job's tile slot, of 524,288 bytes */
+    uint32_t bin;             /* offset behind `lists`: the binner list, */
+    uint32_t records;         /*   the shader records, */
+    uint32_t uniforms;        /*   the uniforms, */
+    uint32_t render;          /*   the renderer list, */
+    uint32_t end;             /*   and its end, render + render_length */
+    uint32_t bin_length;      /* bytes that were written of the binner list: at most the source's, and 0 without one, */
+    uint32_t records_length;  /*   of the shader records, */
+    uint32_t uniforms_length; /*   of the uniforms, */
+    uint32_t render_length;   /*   and of the renderer list */
 };
 
 /*
@@ -62,12 +73,12 @@ struct vc4check_job {
  * VC4CHECK_ACCEPTED and VC4CHECK_SHORT those three are 0, and the first `jobs` of `job` are the file's jobs in order; the rest are 0.
  */
 struct vc4check_answer {
-    uint64_t offset; /* of what the rule is about, in bytes from the file's start */
-    uint32_t letter; /* of the rule, in ASCII: 'F' 'M' 'S' 'H' 'B' 'A' 'U' 'G' 'X' */
-    uint32_t number; /* of the rule, from 1 on */
-    uint32_t size;   /* of the memory of all jobs, in bytes */
-    uint32_t jobs;   /* how many there are */
-    struct vc4check_job job[VC4CHECK_MOST_JOBS];
+    uint64_t offset; /* offset in the file of what the rule is about */
+    uint32_t letter; /* the rule's letter, in ASCII: 'F' 'M' 'S' 'H' 'B' 'A' 'U' 'G' 'X', and 'E' from vc4check_place */
+    uint32_t number; /* the rule's number, from 1 on */
+    uint32_t size;   /* bytes: of the jobs' memory after vc4check_check, of the window that their lists take after vc4check_place */
+    uint32_t jobs;   /* how many jobs the file has */
+    struct vc4check_job job[VC4CHECK_MOST_JOBS]; /* where each job's lists are */
 };
 
 /*
@@ -84,15 +95,15 @@ struct vc4check_answer {
  * `offset` is 0 after vc4check_submission_bound, of which there is no file.
  */
 struct vc4check_bound_answer {
-    uint64_t offset;
-    uint64_t steps_low;
-    uint64_t steps_high;
-    uint64_t stay;
-    uint64_t items;
-    uint32_t loops;
-    uint32_t waits;
-    uint32_t letter; /* of the rule, in ASCII */
-    uint32_t number; /* of the rule, from 1 on */
+    uint64_t offset;     /* offset in the file: of what the rule is about, of the branch, or of the instruction that may wait */
+    uint64_t steps_low;  /* N, in steps: its low 64 bits, */
+    uint64_t steps_high; /*   and its high 64 bits */
+    uint64_t stay;       /* W, in steps: how many more for each step in which a renderer stays at an item */
+    uint64_t items;      /* how many items there are at most */
+    uint32_t loops;      /* 1 where a shader branches back, else 0 */
+    uint32_t waits;      /* 1 where a program may wait for a request that isn't there, else 0 */
+    uint32_t letter;     /* the rule's letter, in ASCII */
+    uint32_t number;     /* the rule's number, from 1 on */
 };
 
 /*
@@ -101,10 +112,10 @@ struct vc4check_bound_answer {
  */
 struct vc4check_shader_answer {
     uint32_t number;      /* of the broken rule S, from 1 on */
-    uint32_t index;       /* of the instruction; the number of words for a rule on the whole shader */
-    uint32_t uniforms;    /* how many words of uniforms it takes */
+    uint32_t index;       /* of the instruction, from 0 on; the number of words for a rule on the whole shader */
+    uint32_t uniforms;    /* how many uniforms it takes, words of 4 bytes */
     uint32_t threaded;    /* 1 where it switches threads, else 0 */
-    size_t samples;       /* how many samples it asks for */
+    size_t samples;       /* how many samples it asks for: texture or memory accesses */
     size_t address_words; /* how many of its uniforms are addresses of uniforms */
 };
 
@@ -113,7 +124,7 @@ struct vc4check_shader_answer {
 
 /* One texture or memory access of a shader, in program order. */
 struct vc4check_sample {
-    uint32_t positions[4]; /* which uniforms its set-up words are, from 0 and below `uniforms`; then VC4CHECK_NO_POSITION */
+    uint32_t positions[4]; /* which of the shader's uniforms its set-up words are, by number, from 0 on; then VC4CHECK_NO_POSITION */
     uint32_t direct;       /* 1 where it reads memory at an address that the shader computed (position 0 has the base and
                               position 1 the bound), 0 where it asks a texture */
 };
@@ -122,13 +133,13 @@ struct vc4check_sample {
  * and VC4CHECK_SHORT those two are 0. */
 struct vc4check_made {
     uint32_t number; /* of the broken rule S, from 1 on */
-    uint32_t index;  /* of the instruction; the number of instructions for a rule on the whole shader */
+    uint32_t index;  /* of the instruction, from 0 on; the number of instructions for a rule on the whole shader */
     size_t entries;  /* how many entries the block takes: one, and one for each sample and each address of uniforms */
 };
 
-/* An entry of a shader's block. Its words mean nothing to the caller. */
+/* An entry of a shader's block, of 20 bytes. */
 struct vc4check_known {
-    uint32_t words[5];
+    uint32_t words[5]; /* the library's: they mean nothing to the caller */
 };
 
 /* What a buffer holds. */
@@ -139,58 +150,76 @@ enum {
 
 /* A buffer of a submission. */
 struct vc4check_buffer {
-    uint32_t address;       /* bus address of its first byte; a multiple of 4,096 */
-    uint32_t size;          /* in bytes; a multiple of 4,096 */
-    uint32_t client;        /* who it belongs to: a number of the driver's */
-    uint32_t kind;          /* VC4CHECK_PLAIN or VC4CHECK_CODE */
-    const uint8_t *content; /* of a Code buffer the shader, of which so many bytes are given; of a Plain one nothing that is read */
-    size_t length;
-    const struct vc4check_known *known; /* the block that vc4check_make_shader made of exactly these bytes; or no entry, and vc4check_submit checks them */
-    size_t known_count;
+    uint32_t address;                   /* bus address of its first byte; a multiple of 4,096 */
+    uint32_t size;                      /* bytes; a multiple of 4,096 */
+    uint32_t client;                    /* whose it is: a number of the driver's. A job may name its own client's alone */
+    uint32_t kind;                      /* VC4CHECK_PLAIN or VC4CHECK_CODE */
+    const uint8_t *content;             /* pointer: to the shader in a Code buffer; that of a Plain buffer isn't read */
+    size_t length;                      /* bytes of the shader, 8 for each instruction, at most 65,536; 0 for a Plain buffer */
+    const struct vc4check_known *known; /* pointer: to the block that vc4check_make_shader made of exactly these bytes */
+    size_t known_count;                 /* entries of that block; where a shader has none, vc4check_submit checks all shaders itself */
 };
 
-/* A surface of the frame, as in Linux's struct drm_vc4_submit_rcl_surface. */
+/* A surface of the frame, as in Linux's struct drm_vc4_submit_rcl_surface. docs/RULES.md, "Frame and surfaces", has its bits. */
 struct vc4check_surface {
-    uint32_t handle; /* an index into the submission's handles; all ones where the surface is absent */
-    uint32_t offset; /* in bytes from the buffer's start */
-    uint16_t bits;
-    uint16_t flags;
+    uint32_t handle; /* an index into the submission's `handles`; all ones where the surface is absent */
+    uint32_t offset; /* offset in that handle's buffer: where the surface begins; a multiple of 16 */
+    uint16_t bits;   /* format, tiling and, of color_write, multisampling; 0 in full resolution */
+    uint16_t flags;  /* of color_read and zs_read bit 0: in full resolution; else 0 */
 };
 
-/* The frame: the 96 bytes of Linux's struct drm_vc4_submit_cl from `width` on, of which the last three have to be zero. */
+/* The frame: the 96 bytes of Linux's struct drm_vc4_submit_cl from `width` on. */
 struct vc4check_frame {
-    uint16_t width, height;
-    uint8_t min_x_tile, min_y_tile, max_x_tile, max_y_tile;
-    struct vc4check_surface color_read, color_write, zs_read, zs_write, msaa_color_write, msaa_zs_write;
-    uint32_t clear_color[2];
-    uint32_t clear_z;
-    uint8_t clear_s;
-    uint8_t pad[3];
+    uint16_t width, height;                   /* in pixels */
+    uint8_t min_x_tile, min_y_tile;           /* the first tile that is drawn, and the last: across and down, from 0 on. A tile has a side of */
+    uint8_t max_x_tile, max_y_tile;           /*   64 pixels, or 32 where bit 0 (multisample) of color_write.bits is set */
+    struct vc4check_surface color_read;       /* where a tile's colour is loaded from, */
+    struct vc4check_surface color_write;      /*   and stored to */
+    struct vc4check_surface zs_read;          /* where its depth and stencil are loaded from, */
+    struct vc4check_surface zs_write;         /*   and stored to */
+    struct vc4check_surface msaa_color_write; /* where the colour of each sample is stored, in full resolution, */
+    struct vc4check_surface msaa_zs_write;    /*   and its depth and stencil */
+    uint32_t clear_color[2];                  /* with VC4CHECK_CLEARS what each tile begins with: colour, as the hardware's packet has it, */
+    uint32_t clear_z;                         /*   depth, */
+    uint8_t clear_s;                          /*   and stencil */
+    uint8_t pad[3];                           /* zero */
 };
 
 /*
- * One job with all that it names. Its parts are read where they lie: they have to be copies that no client can reach. Whole memory and
- * all regions and buffers in it are in one alias of the bus.
+ * One job with all that it names. Its parts are read where they lie: they have to be copies that no client can reach.
+ *
+ * In its three lists all numbers are little endian, and a handle is a word of 4 bytes: an index into `handles`. Nothing in them is a bus address.
+ * Where the hardware reads one, the client writes an offset in the buffer that a handle names, and the call writes the bus address into the
+ * window. docs/FORMATS.md, "Binner lists" and "Shader records and uniforms", has each byte; in short:
+ *
+ *  - `bin` has packets, one behind the other. A packet 254 has the handle of the index buffer for the packets 32 behind it, whose addresses are
+ *    offsets in it. In packet 112, the configuration, the call writes the addresses of the tile memory, whatever stands there.
+ *  - `records` has for each shader state (packet 64), in order: the handles of its fragment, vertex and coordinate shader, a handle for each
+ *    attribute's buffer, and the record. That has 36 bytes and 8 for each attribute; an extended one 100 bytes and 4 for each attribute. In it
+ *    the addresses of code are 0, those of uniforms are anything, and that of an attribute is an offset in its buffer.
+ *  - `uniforms` has for each shader state, and there for its fragment, vertex and coordinate shader in this order: a handle for each of the
+ *    shader's samples (the buffer of a texture, or of a direct read), and then the words that the shader takes. The base of a texture or of a
+ *    direct read is an offset in its buffer.
  */
 struct vc4check_submission {
-    const struct vc4check_buffer *buffers; /* each once; no two share a byte */
-    size_t buffer_count;
-    const uint32_t *handles; /* for each handle of the job the number of its buffer, from 0 on; one may be named twice */
-    size_t handle_count;
-    const uint8_t *bin; /* the binner list (docs/FORMATS.md), addresses still to be filled in; of length 0 where the job has none */
-    size_t bin_length;
-    const uint8_t *records; /* for each shader state its handles and then its record (docs/FORMATS.md) */
-    size_t records_length;
-    const uint8_t *uniforms; /* the uniforms of all shaders, state by state, in words of 4 bytes (docs/FORMATS.md) */
-    size_t uniforms_length;
-    uint32_t client;     /* whose job it is */
-    uint32_t flags;      /* VC4CHECK_CLEARS or 0 */
-    uint32_t states;     /* how many shader states the binner list declares */
-    uint32_t end;        /* first bus address behind the memory, at most 0xFF000000: nothing of the job lies past it */
-    uint32_t lists;      /* bus address at which the hardware finds the window */
-    uint32_t lists_size; /* how many bytes of it the lists may take; whole pages */
-    uint32_t slot;       /* bus address of the job's tile slot, of 524,288 bytes */
-    struct vc4check_frame frame;
+    const struct vc4check_buffer *buffers; /* pointer: the buffers, each once; no two share a byte */
+    size_t buffer_count;                   /* at most 1,024 */
+    const uint32_t *handles;               /* pointer: for each handle of the job the index of its buffer in `buffers`; one may be named twice */
+    size_t handle_count;                   /* at most 1,024 */
+    const uint8_t *bin;                    /* pointer: the binner list */
+    size_t bin_length;                     /* bytes, at most 1,048,576; 0 where the job has no binner list */
+    const uint8_t *records;                /* pointer: the shader records */
+    size_t records_length;                 /* bytes, at most 1,048,576 */
+    const uint8_t *uniforms;               /* pointer: the uniforms */
+    size_t uniforms_length;                /* bytes, at most 1,048,576; a multiple of 4 */
+    uint32_t client;                       /* whose job it is: a number of the driver's */
+    uint32_t flags;                        /* VC4CHECK_CLEARS or 0 */
+    uint32_t states;                       /* how many shader states (packets 64) the binner list may have; at most 65,536 */
+    uint32_t end;                          /* first bus address behind the memory, at most 0xFF000000: nothing of the job lies past it */
+    uint32_t lists;                        /* bus address at which the hardware finds the window; a multiple of 4,096 */
+    uint32_t lists_size;                   /* bytes of the window that the lists may take; a multiple of 4,096 */
+    uint32_t slot;                         /* bus address of the job's tile slot, of 524,288 bytes; a multiple of 4,096 */
+    struct vc4check_frame frame;           /* what is drawn to */
 };
 
 /* A flag of a submission: the frame's clear values are used. */
@@ -201,7 +230,7 @@ enum {
     VC4CHECK_OF_MEMORY = 0,   /* at 8 `end`, at 12 `lists` or `lists_size`, at 20 `slot`; at 28 `buffer_count` */
     VC4CHECK_OF_BUFFER = 1,   /* buffer `index`: at 0 itself, at 12 its kind, at 16 its content's length */
     VC4CHECK_OF_JOB = 2,      /* at 4 `flags`, at 8 `handle_count`, at 12, 16 and 24 the lengths of bin, records and uniforms, at 20 `states`;
-                                 from 28 on byte `offset` - 28 of `frame` */
+                                 from 28 on byte `offset` - 28 of `frame`. X1, lists that need more than `lists_size`, is at 12 too */
     VC4CHECK_OF_CONTENT = 3,  /* byte `offset` of the content of buffer `index` */
     VC4CHECK_OF_HANDLES = 4,  /* handle `offset` / 4 */
     VC4CHECK_OF_BIN = 5,      /* byte `offset` of the binner list, */
@@ -214,13 +243,13 @@ enum {
  * VC4CHECK_SHORT those five are 0, and the others are the job's.
  */
 struct vc4check_verdict {
-    uint64_t offset;         /* of what the rule is about, in bytes from its part's start */
-    uint32_t letter;         /* of the rule, in ASCII: 'F' 'M' 'S' 'H' 'B' 'A' 'U' 'G' 'X' */
-    uint32_t number;         /* of the rule, from 1 on */
-    uint32_t part;           /* which part of the submission it is about, */
-    uint32_t index;          /*   and of which buffer, else 0 */
-    uint32_t size;           /* how many bytes of the window the lists take */
-    struct vc4check_job job; /* where they lie, and how long they are */
+    uint64_t offset;         /* offset in `part` of what the rule is about */
+    uint32_t letter;         /* the rule's letter, in ASCII: 'F' 'M' 'S' 'H' 'B' 'A' 'U' 'G' 'X' 'E' */
+    uint32_t number;         /* the rule's number, from 1 on */
+    uint32_t part;           /* which part of the submission it is about: VC4CHECK_OF_MEMORY to VC4CHECK_OF_UNIFORMS, */
+    uint32_t index;          /*   and of which buffer, by its index in `buffers`, else 0 */
+    uint32_t size;           /* bytes of the window that the lists take */
+    struct vc4check_job job; /* where they are */
 };
 
 #if !defined(__cplusplus) && defined(__STDC_VERSION__) && __STDC_VERSION__ >= 201112L
@@ -257,7 +286,8 @@ uint32_t vc4check_check(const uint8_t *bytes, size_t length, uint8_t *block, siz
  * The same of a job file of 1 to 8 jobs whose places are addresses of the bus, for a driver: its memory, whose size the header gives, may
  * end anywhere up to 0xFF000000, and is neither made nor read. Where no rule is broken, the lists of all jobs are put into `window`, from its
  * start on, which stands for the start of the lists' region; the window's other bytes stay. In `answer`, `size` is how many bytes they take,
- * at most the file's size of that region; `lists` and `slot` of each job are addresses.
+ * at most the file's size of that region; `lists` and `slot` of each job are addresses. Last of all the strict rules E1 to E13 are asked, as by
+ * vc4check_submit.
  *
  * VC4CHECK_ACCEPTED   `answer` is filled in, and the lists are in the window.
  * VC4CHECK_REFUSED    `answer` names the first broken rule, and where; the window is as before.
@@ -278,6 +308,7 @@ uint32_t vc4check_bound(const uint8_t *bytes, size_t length, struct vc4check_bou
 /*
  * Checks a shader once, when it is made: `length` bytes. Where no rule is broken, what the check found out about it is put into `block`, for
  * vc4check_submit to read in place of checking the shader again. Keep the block, and the shader itself, where no client can change them.
+ * The strict rules refuse no shader here: what they find is kept in the block too, and refuses the jobs that have the shader.
  *
  * VC4CHECK_ACCEPTED   the first answer->entries entries of the block are written.
  * VC4CHECK_REFUSED    `answer` names the first broken rule S, and where; the block is as before.
@@ -290,6 +321,9 @@ uint32_t vc4check_make_shader(const uint8_t *code, size_t length, struct vc4chec
 /*
  * Checks one job of a driver. No memory of the job is made, and nothing of the submission is written. Where no rule is broken, its lists,
  * relocated, are put into `window`, from its start on, which is what the hardware finds at `lists`; the window's other bytes stay.
+ *
+ * Behind all other rules the strict ones are asked, E1 to E13: what the hardware's guide forbids, and vc4check_check lets through. E12, a
+ * tile slot across a multiple of 256 MiB, is asked by this call and vc4check_place alone, last of all, and named at `slot`.
  *
  * VC4CHECK_ACCEPTED   `answer` is filled in, and the lists are in the window.
  * VC4CHECK_REFUSED    `answer` names the first broken rule, and where; the window is as before.
@@ -308,7 +342,7 @@ uint32_t vc4check_submit(const struct vc4check_submission *submission, uint8_t *
 /*
  * Checks one job of a driver as vc4check_submit does, and answers how long it may run. The numbers bound the steps for this job alone, however
  * other jobs come and go; `waits` is of a run of it by itself. The call takes longer than vc4check_submit: it checks each shader, and reads no
- * `known`.
+ * `known`. It asks no strict rule.
  *
  * VC4CHECK_ACCEPTED   `answer` is filled in.
  * VC4CHECK_REFUSED    `answer` names the first broken rule; vc4check_submit says where.
@@ -317,8 +351,9 @@ uint32_t vc4check_submit(const struct vc4check_submission *submission, uint8_t *
 uint32_t vc4check_submission_bound(const struct vc4check_submission *submission, struct vc4check_bound_answer *answer);
 
 /*
- * The sentence of a rule: what is wrong where it refuses. `letter` is in ASCII. The text is put into `text`, with a zero byte behind it, and
- * cut off where `room` is too small. The result is the whole sentence's length without the zero byte, and 0 where there is no such rule.
+ * The sentence of a rule: what is wrong where it refuses. `letter` is in ASCII. The text is put into `text`, of `room` bytes, with a zero byte
+ * behind it, and cut off where the room is too small. The result is the length in bytes of the whole sentence without the zero byte, and 0 where
+ * there is no such rule.
  */
 size_t vc4check_sentence(uint32_t letter, uint32_t number, char *text, size_t room);
 
