@@ -50,8 +50,10 @@ fn read_packets(
     requires few { given.now.declared ≤ 65536 }
     requires low { IsLow layout.now }
     requires room { layout.now.bin + length list.now ≤ length out.old }
-    ensures answers { Answers (asked given.now (passed list.now)) (λ read. IsRead given.now layout.now list.now read) result }
-    ensures put { OnOk result (out.new ≡ with_bytes out.old layout.now.bin (texts given.now layout.now (passed list.now))) }
+    ensures answers { Answers (asked given.now (passed list.now))
+        (λ read. IsRead given.now layout.now list.now read) result }
+    ensures put { OnOk result (out.new
+        ≡ with_bytes out.old layout.now.bin (texts given.now layout.now (passed list.now))) }
     ensures memory { result ≡ Err OutOfMemory → MeetsState given.now list.now }
 {
     let mut states = States::new(alloc, given.declared);
@@ -137,13 +139,16 @@ pub fn check_bin(
     requires room { layout.now.bin + length list.now ≤ length out.old }
     ensures answers { Answers (bin_questions list.now declared table.now handles.now)
         (λ info. IsInfo list.now declared table.now handles.now layout.now info) result }
-    ensures least { NamesLeast IsUpTo (bin_questions list.now declared table.now handles.now) result }
+    ensures least { NamesLeast IsUpTo (bin_questions list.now declared table.now
+        handles.now) result }
     ensures sound { IfOk result (λ info. IsSoundInfo declared info) }
     ensures put { OnOk result (out.new ≡ with_bytes out.old layout.now.bin
         (bin_text list.now declared table.now handles.now layout.now)) }
-    ensures fits { OnOk result (length (bin_text list.now declared table.now handles.now layout.now) ≤ length list.now) }
+    ensures fits { OnOk result (length (bin_text list.now declared table.now handles.now layout.now)
+        ≤ length list.now) }
     ensures long { length out.new ≡ length out.old }
-    ensures memory { result ≡ Err OutOfMemory → MeetsState (given_of list.now declared table.now handles.now) list.now }
+    ensures memory { result ≡ Err OutOfMemory
+        → MeetsState (given_of list.now declared table.now handles.now) list.now }
 {
     let given = Given {
         size: list.len(),

@@ -108,7 +108,8 @@ fn put_state(layout: &Layout, seen: &Seen, packet: &[u8], out: &mut [u8], at: us
 fn config_bytes(layout: &Layout, packet: &[u8]) -> [u8; 16]
     requires low { IsLow layout.now }
     requires whole { 16 ≤ length packet.now }
-    requires grid { alloc_offset (slice_index packet.now 13 * slice_index packet.now 14) ≤ slot_size }
+    requires grid { alloc_offset (slice_index packet.now 13 * slice_index packet.now 14)
+        ≤ slot_size }
     ensures text { result ≡ config_text layout.now packet.now }
     ensures long { length (config_text layout.now packet.now) ≡ 16 }
 {
@@ -143,7 +144,8 @@ fn config_bytes(layout: &Layout, packet: &[u8]) -> [u8; 16]
 fn put_config(layout: &Layout, packet: &[u8], out: &mut [u8], at: usize) -> usize
     requires low { IsLow layout.now }
     requires whole { 16 ≤ length packet.now }
-    requires grid { alloc_offset (slice_index packet.now 13 * slice_index packet.now 14) ≤ slot_size }
+    requires grid { alloc_offset (slice_index packet.now 13 * slice_index packet.now 14)
+        ≤ slot_size }
     requires room { at + length packet.now ≤ length out.old }
     ensures text { out.new ≡ with_bytes out.old at (config_text layout.now packet.now) }
     ensures end { result ≡ at + length (config_text layout.now packet.now) }
@@ -168,9 +170,11 @@ pub(crate) fn put_packet(
     requires few { given.now.declared ≤ 65536 }
     requires records { seen.now.records ≤ 144 * seen.now.states }
     requires room { at + length packet.now ≤ length out.old }
-    ensures text { out.new ≡ with_bytes out.old at (packet_text given.now layout.now seen.now packet.now) }
+    ensures text { out.new ≡ with_bytes out.old at
+        (packet_text given.now layout.now seen.now packet.now) }
     ensures end { result ≡ at + length (packet_text given.now layout.now seen.now packet.now) }
-    ensures long { length (packet_text given.now layout.now seen.now packet.now) ≤ length packet.now }
+    ensures long { length (packet_text given.now layout.now seen.now packet.now)
+        ≤ length packet.now }
 {
     match opcode(packet) {
         BUFFER_HANDLES => at,

@@ -95,8 +95,10 @@ fn primitive_fault(seen: &Seen) -> Option<BinRule>
 #[inline(always)]
 #[tactic(auto, unfolding(crate::specs::Rules::index_buffer))]
 pub(crate) fn index_buffer(given: &Given, seen: &Seen) -> Option<Buffer>
-    ensures exact { SomeIff result (IsData given.now.table given.now.handles seen.now.index_handle) (index_buffer given.now seen.now) }
-    ensures some { is_some result ≡ is_some (data_of given.now.table given.now.handles seen.now.index_handle) }
+    ensures exact { SomeIff result (IsData given.now.table given.now.handles seen.now.index_handle)
+        (index_buffer given.now seen.now) }
+    ensures some { is_some result
+        ≡ is_some (data_of given.now.table given.now.handles seen.now.index_handle) }
     ensures inside { IfSome result (λ buffer. buffer.place + buffer.size ≤ most_place) }
 {
     let number = use_data(given.table, given.handles, seen.index_handle)?;
@@ -130,7 +132,8 @@ fn indexes_end(packet: &[u8]) -> u64
 fn index_fault(given: &Given, seen: &Seen, packet: &[u8]) -> Option<BinRule>
     requires { 14 ≤ length packet.now }
     ensures first { result ≡ first_of (index_questions given.now seen.now packet.now) }
-    ensures buffer { IfNone result (IsData given.now.table given.now.handles seen.now.index_handle) }
+    ensures buffer { IfNone result (IsData given.now.table given.now.handles
+        seen.now.index_handle) }
     ensures indexes { IfNone result (u32_at packet.now 6 ≤ (index_buffer given.now seen.now).size) }
 {
     let Some(buffer) = index_buffer(given, seen) else {
@@ -176,7 +179,8 @@ fn state_fault(given: &Given, seen: &Seen, packet: &[u8]) -> Option<BinRule>
 fn config_fault(seen: &Seen, packet: &[u8]) -> Option<BinRule>
     requires { 16 ≤ length packet.now }
     ensures first { result ≡ first_of (config_questions seen.now packet.now) }
-    ensures grid { IfNone result (alloc_offset (slice_index packet.now 13 * slice_index packet.now 14) ≤ slot_size) }
+    ensures grid { IfNone result (alloc_offset
+        (slice_index packet.now 13 * slice_index packet.now 14) ≤ slot_size) }
 {
     let across = byte_at(packet, 13);
     let down = byte_at(packet, 14);
@@ -199,8 +203,10 @@ fn config_fault(seen: &Seen, packet: &[u8]) -> Option<BinRule>
 #[tactic(auto, using(field_words::proofs::Questions::passes, field_words::proofs::Questions::stops))]
 fn indexed_primitive_fault(given: &Given, seen: &Seen, packet: &[u8]) -> Option<BinRule>
     requires { 14 ≤ length packet.now }
-    ensures first { result ≡ first_of (primitive_questions seen.now ++ index_questions given.now seen.now packet.now) }
-    ensures buffer { IfNone result (IsData given.now.table given.now.handles seen.now.index_handle) }
+    ensures first { result ≡ first_of (primitive_questions seen.now
+        ++ index_questions given.now seen.now packet.now) }
+    ensures buffer { IfNone result (IsData given.now.table given.now.handles
+        seen.now.index_handle) }
     ensures indexes { IfNone result (u32_at packet.now 6 ≤ (index_buffer given.now seen.now).size) }
 {
     match primitive_fault(seen) {

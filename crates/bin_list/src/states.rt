@@ -29,7 +29,8 @@ const ROOM: u32 = 256;
 fn draws_to(packet: &[u8]) -> u32
     requires some { 1 ≤ length packet.now }
     requires whole { bin_length (opcode packet.now) ≤ length packet.now }
-    requires fits { opcode packet.now ≡ array_primitive_list → u32_at packet.now 6 + u32_at packet.now 2 < 2 ^ 32 }
+    requires fits { opcode packet.now ≡ array_primitive_list
+        → u32_at packet.now 6 + u32_at packet.now 2 < 2 ^ 32 }
     ensures { result ≡ draws_to packet.now }
 {
     match opcode(packet) {
@@ -77,7 +78,8 @@ impl States {
 
     /// Begins a state, which draws nothing yet.
     fn begin(&mut self, word: u32) -> Result<(), AllocError>
-        ensures done { OnOk result (self.new.done.items ≡ self.old.done.items ++ option_to_list self.old.current) }
+        ensures done { OnOk result (self.new.done.items ≡ self.old.done.items
+            ++ option_to_list self.old.current) }
         ensures current { OnOk result (self.new.current ≡ Some (state word 0)) }
         ensures memory { OnErr result (IsSome self.old.current) }
     {
@@ -106,10 +108,12 @@ impl States {
     pub(crate) fn pass(&mut self, packet: &[u8]) -> Result<(), AllocError>
         requires some { 1 ≤ length packet.now }
         requires whole { bin_length (opcode packet.now) ≤ length packet.now }
-        requires fits { opcode packet.now ≡ array_primitive_list → u32_at packet.now 6 + u32_at packet.now 2 < 2 ^ 32 }
+        requires fits { opcode packet.now ≡ array_primitive_list
+            → u32_at packet.now 6 + u32_at packet.now 2 < 2 ^ 32 }
         ensures states { OnOk result ((later : List (List ℕ)) → all_states self.new.done.items self.new.current later
             ≡ all_states self.old.done.items self.old.current (packet.now ∷ later)) }
-        ensures begun { IsSome self.new.current → IsSome self.old.current ⊎ (opcode packet.now ≡ gl_shader_state) }
+        ensures begun { IsSome self.new.current
+            → IsSome self.old.current ⊎ (opcode packet.now ≡ gl_shader_state) }
         ensures memory { OnErr result (IsSome self.old.current) }
     {
         if opcode(packet) == GL_SHADER_STATE {
@@ -121,7 +125,8 @@ impl States {
 
     /// All states, behind the last packet.
     pub(crate) fn finish(self) -> Result<Vec<State>, AllocError>
-        ensures states { IfOk result (λ states. states.items ≡ all_states self.done.items self.current []) }
+        ensures states { IfOk result (λ states. states.items
+            ≡ all_states self.done.items self.current []) }
         ensures memory { OnErr result (IsSome self.current) }
     {
         let States {

@@ -62,7 +62,8 @@ impl<'a> Handles<'a> {
         numbers: &'a [u32],
     ) -> Result<Handles<'a>, Stop<u32>>
         requires few { length numbers.now ≤ 1024 }
-        ensures made { Answers (handles_questions table.now client numbers.now) (λ h. h ≡ numbers.now) result }
+        ensures made { Answers (handles_questions table.now client numbers.now)
+            (λ h. h ≡ numbers.now) result }
         ensures first { NamesFirst (handles_questions table.now client numbers.now) result }
         ensures memory { NeverHidesFault (handles_questions table.now client numbers.now) result }
         ensures numbers { IfOk result (λ h. AreNumbersOf table.now h) }
@@ -80,7 +81,8 @@ impl<'a> Handles<'a> {
 pub fn use_data(table: &Table, handles: &Handles, index: u32) -> Option<usize>
     requires made { AreNumbersOf table.now handles.now }
     ensures value { result ≡ data_of table.now handles.now index }
-    ensures exact { SomeIff result (IsData table.now handles.now index) (slice_index handles.now index) }
+    ensures exact { SomeIff result (IsData table.now handles.now index)
+        (slice_index handles.now index) }
     ensures below { IfSome result (λ number. number < length table.now.buffers) }
 {
     let number = *handles.numbers.get(index as usize)? as usize;
@@ -96,7 +98,8 @@ pub fn use_data(table: &Table, handles: &Handles, index: u32) -> Option<usize>
 pub fn use_code(table: &Table, handles: &Handles, index: u32) -> Option<usize>
     requires made { AreNumbersOf table.now handles.now }
     ensures value { result ≡ code_of table.now handles.now index }
-    ensures exact { SomeIff result (IsCode table.now handles.now index) (slice_index handles.now index) }
+    ensures exact { SomeIff result (IsCode table.now handles.now index)
+        (slice_index handles.now index) }
     ensures below { IfSome result (λ number. number < length table.now.buffers) }
 {
     let number = *handles.numbers.get(index as usize)? as usize;

@@ -121,8 +121,10 @@ fn item_fault(
 ) -> Option<TableFault>
     requires few { length order.now ≤ 1026 }
     requires ordered { IsOrder (items_of regions.now buffers.now) order.now }
-    requires split { IsSplit (items_of regions.now buffers.now) order.now (place_in (items_of regions.now buffers.now) (length order.now)) at }
-    ensures { result ≡ first_of (item_questions mem_size (items_of regions.now buffers.now) (length order.now)) }
+    requires split { IsSplit (items_of regions.now buffers.now) order.now
+        (place_in (items_of regions.now buffers.now) (length order.now)) at }
+    ensures { result ≡ first_of (item_questions mem_size (items_of regions.now buffers.now)
+        (length order.now)) }
 {
     let k = order.len();
     let x = item_at(regions, buffers, k);

@@ -21,7 +21,8 @@ pub fn is_shared(order: &[u16], regions: &Regions, buffers: &[Buffer], at: usize
     requires ordered { IsOrder (items_of regions.now buffers.now) order.now }
     requires split { IsSplit (items_of regions.now buffers.now) order.now x.now.place at }
     requires some { 0 < x.now.size }
-    ensures { result ≡ shares_with_first x.now (items_of regions.now buffers.now) (length order.now) }
+    ensures { result ≡ shares_with_first x.now (items_of regions.now buffers.now)
+        (length order.now) }
 {
     match order.get(at) {
         None => false,

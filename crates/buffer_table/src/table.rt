@@ -57,7 +57,8 @@ impl<'a> Table<'a> {
         ensures made { Answers (table_within limit mem_size regions buffers.now.items)
             (λ t. t ≡ record { memory = mem_size; regions = regions; buffers = buffers.now.items }) result }
         ensures first { NamesFirst (table_within limit mem_size regions buffers.now.items) result }
-        ensures memory { NeverHidesFault (table_within limit mem_size regions buffers.now.items) result }
+        ensures memory { NeverHidesFault (table_within limit mem_size regions
+            buffers.now.items) result }
         ensures sound { IfOk result (λ t. IsSound t.memory t.regions t.buffers) }
         ensures small { IfOk result (λ t. t.memory ≤ limit) }
     {
@@ -82,7 +83,8 @@ impl<'a> Table<'a> {
         ensures made { Answers (table_questions mem_size regions buffers.now.items)
             (λ t. t ≡ record { memory = mem_size; regions = regions; buffers = buffers.now.items }) result }
         ensures first { NamesFirst (table_questions mem_size regions buffers.now.items) result }
-        ensures memory { NeverHidesFault (table_questions mem_size regions buffers.now.items) result }
+        ensures memory { NeverHidesFault (table_questions mem_size regions
+            buffers.now.items) result }
         ensures sound { IfOk result (λ t. IsSound t.memory t.regions t.buffers) }
         ensures small { IfOk result (λ t. t.memory ≤ most_memory) }
     {

@@ -21,7 +21,8 @@ use std::sync::ledger::Ledger;
 fn last_naming(code: &[u64], at: usize, reg: Reg) -> Option<usize>
     requires inside { at < length code.now }
     requires register { IsRegister reg }
-    ensures { MatchOption result ((k : ℕ) → k < at → names (word code.now k) reg ≡ false) (λ j. IsLastNaming code.now j at reg) }
+    ensures { MatchOption result ((k : ℕ) → k < at → names (word code.now k) reg ≡ false)
+        (λ j. IsLastNaming code.now j at reg) }
 {
     let mut j = at;
     while j > 0 {
@@ -212,7 +213,8 @@ pub fn clamp_of<L: Ledger>(
     requires made { IsFlow code.now flow.now }
     requires register { IsRegister reg }
     ensures value { result ≡ clamp_in (fact_at code.now at reg) }
-    ensures found { MatchOption result ((j : ℕ) → clamps code.now j at reg ≡ false) (λ j. clamps code.now j at reg ≡ true) }
+    ensures found { MatchOption result ((j : ℕ) → clamps code.now j at reg ≡ false)
+        (λ j. clamps code.now j at reg ≡ true) }
     ensures only { IfSome result (λ j. (k : ℕ) → clamps code.now k at reg ≡ true → k ≡ j) }
     ensures steps { steps.new ≡ steps.old + at + 1 }
 {

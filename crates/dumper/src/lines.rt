@@ -65,7 +65,8 @@ fn row_in(bytes: &[u8], from: usize) -> [u8; 16]
 #[tactic(auto, using(crate::proofs::Rows::put_front))]
 fn put_row(piece: &mut [u8], at: usize, place: u32, row: &[u8; 16]) -> usize
     requires { at + row_size ≤ length piece.old }
-    ensures text { take result piece.new ≡ take at piece.old ++ (if is_blank row.now then [] else row_line place row.now) }
+    ensures text { take result piece.new ≡ take at piece.old
+        ++ (if is_blank row.now then [] else row_line place row.now) }
     ensures end { result ≤ at + row_size }
     ensures long { length piece.new ≡ length piece.old }
 {
@@ -90,12 +91,14 @@ pub fn put_part(place: u32, bytes: &[u8], row: usize, piece: &mut [u8]) -> Fille
     requires small { part_end (part_at place bytes.now) < 2 ^ 32 }
     requires from { row ≤ part_rows (part_at place bytes.now) }
     requires room { row_size ≤ length piece.old }
-    ensures text { take result.len piece.new ≡ rows_text (alone (part_at place bytes.now)) (place + 16 * row) (result.row - row) }
+    ensures text { take result.len piece.new
+        ≡ rows_text (alone (part_at place bytes.now)) (place + 16 * row) (result.row - row) }
     ensures within { result.len ≤ length piece.new }
     ensures inside { result.row ≤ part_rows (part_at place bytes.now) }
     ensures on { row ≤ result.row }
     ensures more { row < part_rows (part_at place bytes.now) → row < result.row }
-    ensures full { result.row < part_rows (part_at place bytes.now) → length piece.new < result.len + row_size }
+    ensures full { result.row < part_rows (part_at place bytes.now)
+        → length piece.new < result.len + row_size }
     ensures long { length piece.new ≡ length piece.old }
 {
     let rows = bytes.len().div_ceil(16);

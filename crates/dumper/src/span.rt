@@ -28,7 +28,8 @@ fn place_among(spans: &Vec<Span>, place: u32) -> usize
 
 /// Puts a part before the first that begins behind it.
 pub fn insert_span<'a>(spans: &mut Vec<Span<'a>>, span: Span<'a>) -> Result<(), NoMemory>
-    ensures { OnOk result (parts_of spans.new.items ≡ inserted (part_of span.entry) (parts_of spans.old.items)) }
+    ensures { OnOk result (parts_of spans.new.items
+        ≡ inserted (part_of span.entry) (parts_of spans.old.items)) }
 {
     let at = place_among(spans, span.place);
     spans.insert(at, span)?;

@@ -64,7 +64,8 @@ fn push_job(
 ) -> Result<(), AllocError>
     requires layout { job < length layouts.now }
     requires lengths { job < length lengths.now }
-    ensures { OnOk result (out.new.items ≡ out.old.items ++ (job_line job ++ lines_of layouts.now lengths.now job)) }
+    ensures { OnOk result (out.new.items ≡ out.old.items
+        ++ (job_line job ++ lines_of layouts.now lengths.now job)) }
 {
     let line = format!(in alloc; "job {job}\n")?;
     out.extend_from_slice(line.as_bytes())?;
@@ -78,7 +79,8 @@ fn push_jobs(
     lengths: &[Lengths],
 ) -> Result<(), AllocError>
     requires { length lengths.now ≡ length layouts.now }
-    ensures { OnOk result (out.new.items ≡ out.old.items ++ jobs_text layouts.now lengths.now (length layouts.now)) }
+    ensures { OnOk result (out.new.items ≡ out.old.items
+        ++ jobs_text layouts.now lengths.now (length layouts.now)) }
 {
     for job in 0..layouts.len() {
         push_job(alloc, out, layouts, lengths, job)?;
@@ -95,7 +97,8 @@ fn push_layouts(
     lengths: &[Lengths],
 ) -> Result<(), AllocError>
     requires { AreOfVersion version layouts.now lengths.now }
-    ensures { OnOk result (out.new.items ≡ out.old.items ++ layouts_text version layouts.now lengths.now) }
+    ensures { OnOk result (out.new.items ≡ out.old.items
+        ++ layouts_text version layouts.now lengths.now) }
 {
     if version == 1 {
         return push_layout(alloc, out, &layouts[0], &lengths[0]);

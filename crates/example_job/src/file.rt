@@ -78,7 +78,8 @@ fn job(alloc: Global, across: u8, down: u8, count: u32) -> Result<Job, AllocErro
 
 fn buffers(alloc: Global, tiles: u32) -> Result<Vec<Buffer>, AllocError>
     requires { tiles ≤ 510 }
-    ensures { IfOk result (λ buffers. buffers.items ≡ code_buffer ∷ vertex_buffer ∷ frame_buffer tiles ∷ []) }
+    ensures { IfOk result (λ buffers. buffers.items ≡ code_buffer ∷ vertex_buffer
+        ∷ frame_buffer tiles ∷ []) }
 {
     let code = Buffer {
         place: 0x48_0000,
@@ -105,7 +106,8 @@ fn buffers(alloc: Global, tiles: u32) -> Result<Vec<Buffer>, AllocError>
 }
 
 fn contents(alloc: Global, seed: u32) -> Result<Vec<Vec<u8>>, AllocError>
-    ensures { IfOk result (λ contents. map (λ c. c.items) contents.items ≡ shader ∷ noise seed vertex_bytes ∷ [] ∷ []) }
+    ensures { IfOk result (λ contents. map (λ c. c.items) contents.items ≡ shader
+        ∷ noise seed vertex_bytes ∷ [] ∷ []) }
 {
     let mut contents = Vec::new(alloc);
     contents.push(SHADER.to_vec(alloc)?)?;
@@ -152,7 +154,8 @@ pub fn make_job(alloc: Global, number: u32) -> Result<Vec<u8>, NoMemory>
     ensures text { IfOk result (λ bytes. bytes.items ≡ file_text (example number)) }
     // The bytes spell that file, and no rule of the format stands for them.
     ensures spells { IfOk result (λ bytes. IsFileOf bytes.items (example number)) }
-    ensures again { IfOk result (λ bytes. (first_of (format_questions bytes.items) ≡ None) × (file_at bytes.items ≡ example number)) }
+    ensures again { IfOk result (λ bytes. (first_of (format_questions bytes.items) ≡ None)
+        × (file_at bytes.items ≡ example number)) }
 {
     let across = (number % 30 + 1) as u8;
     let down = (number / 30 % 17 + 1) as u8;

@@ -74,7 +74,8 @@ fn with_memory(alloc: Global, parts: &FileParts, region: &Region) -> Result<Chec
 /// The same as `check_job` of the parts of a file; their contents are copied only into the memory.
 pub fn check_read(alloc: Global, parts: &FileParts) -> Result<Checked, Stop<Refusal>>
     requires { IsWellFormed (parts_view parts.now) }
-    ensures answers { Answers (file_stages (parts_view parts.now)) (Emits (parts_view parts.now)) result }
+    ensures answers { Answers (file_stages (parts_view parts.now))
+        (Emits (parts_view parts.now)) result }
     ensures memory { NeverHidesFault (table_stage (parts_view parts.now)) result }
     ensures placed { IfOk result (λ checked. IsPlaced checked.memory checked.layouts.items) }
     ensures sized { IfOk result (λ checked. length checked.memory ≡ parts.now.mem_size) }
@@ -90,7 +91,8 @@ pub fn check_read(alloc: Global, parts: &FileParts) -> Result<Checked, Stop<Refu
 #[tactic(auto, unfolding(crate::specs::Faults::table_stage_within))]
 pub fn check_job(alloc: Global, file: &JobFile) -> Result<Checked, Stop<Refusal>>
     requires { IsWellFormed (file_view file.now) }
-    ensures answers { Answers (file_stages (file_view file.now)) (Emits (file_view file.now)) result }
+    ensures answers { Answers (file_stages (file_view file.now))
+        (Emits (file_view file.now)) result }
     ensures first { NamesFirst (file_stages (file_view file.now)) result }
     ensures memory { NeverHidesFault (table_stage (file_view file.now)) result }
     ensures placed { IfOk result (λ checked. IsPlaced checked.memory checked.layouts.items) }

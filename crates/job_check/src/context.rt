@@ -78,7 +78,8 @@ impl<'a, 'b> Context<'a, 'b> {
         requires place_is { place ≡ lists_begin (parts_view file.now) number }
         requires begins { place ≤ region_end file.now.regions }
         requires table_is { table.now ≡ table_of (parts_view file.now) }
-        requires shaped { AreShaped (table_of (parts_view file.now)) (shaders_view shaders.now.items) }
+        requires shaped { AreShaped (table_of (parts_view file.now))
+            (shaders_view shaders.now.items) }
         requires sound { IsSound file.now.mem_size file.now.regions file.now.buffers.items }
         ensures answers { Answers (handles_stage (parts_view file.now) number)
             (λ c. c ≡ in_view (parts_view file.now) number (shaders_view shaders.now.items)) result }
@@ -109,14 +110,17 @@ impl<'a, 'b> Context<'a, 'b> {
 
     /// Whether the lists end inside their region.
     pub fn fits(&self) -> bool
-        ensures { IsTrue result ↔ (end_of (layout_of self.now.file self.now.number) ≤ region_end self.now.file.regions) }
+        ensures { IsTrue result
+            ↔ (end_of (layout_of self.now.file self.now.number)
+            ≤ region_end self.now.file.regions) }
     {
         is_inside(&self.layout, &self.file.regions)
     }
 
     /// X1: the lists end past their region.
     pub fn layout_refusal(&self) -> Refusal
-        ensures { result ≡ refused StageX 1 (layout_offset (job_offset self.now.file self.now.number)) }
+        ensures { result ≡ refused StageX 1 (layout_offset
+            (job_offset self.now.file self.now.number)) }
     {
         layout_refusal(self.file, self.number)
     }

@@ -10,9 +10,11 @@ use phys_mem::PhysMem;
 #[tactic(auto, unfolding(crate::specs::Emit::content_parts))]
 pub fn put_contents(memory: &mut PhysMem, buffers: &[Buffer], contents: &Vec<&[u8]>)
     requires each { length contents.now.items ≡ length buffers.now }
-    requires fit { ContentsFit (length memory.old) buffers.now (map (λ c. c.now) contents.now.items) }
+    requires fit { ContentsFit (length memory.old) buffers.now
+        (map (λ c. c.now) contents.now.items) }
     ensures long { length memory.new ≡ length memory.old }
-    ensures put { memory.new ≡ placed memory.old (content_parts buffers.now (map (λ c. c.now) contents.now.items)) }
+    ensures put { memory.new ≡ placed memory.old
+        (content_parts buffers.now (map (λ c. c.now) contents.now.items)) }
 {
     for k in 0..buffers.len() {
         put_content(memory, &buffers[k], contents[k]);

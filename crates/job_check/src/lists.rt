@@ -26,9 +26,12 @@ impl<'a, 'b> Context<'a, 'b> {
     fn bin(&self, alloc: Global, out: &mut [u8]) -> Result<BinInfo, Stop<Refusal>>
         requires some { has_bin self.now.file self.now.number ≡ true }
         requires room { (layout_in self.now).end ≤ length out.old }
-        ensures answers { Answers (bin_stage self.now.file self.now.number) (IsBinOf self.now.file self.now.number) result }
-        ensures written { IfOk result (λ _. out.new ≡ with_bytes out.old (layout_in self.now).bin (bin_list_in self.now)) }
-        ensures fits { IfOk result (λ _. length (bin_list_in self.now) ≤ length (job_in self.now).bin) }
+        ensures answers { Answers (bin_stage self.now.file self.now.number)
+            (IsBinOf self.now.file self.now.number) result }
+        ensures written { IfOk result (λ _. out.new
+            ≡ with_bytes out.old (layout_in self.now).bin (bin_list_in self.now)) }
+        ensures fits { IfOk result (λ _. length (bin_list_in self.now)
+            ≤ length (job_in self.now).bin) }
         ensures memory { result ≡ Err OutOfMemory → HasStateFirst self.now.file self.now.number }
     {
         let job = self.job;
@@ -73,7 +76,8 @@ impl<'a, 'b> Context<'a, 'b> {
         requires places { setup.now.places ≡ places_in self.now.file self.now.number }
         requires setup { IsSetupFor (job_in self.now).frame setup.now.places }
         ensures value { result ≡ length (render_list_in self.now) }
-        ensures written { out.new ≡ with_bytes out.old (layout_in self.now).render (render_list_in self.now) }
+        ensures written { out.new ≡ with_bytes out.old (layout_in self.now).render
+            (render_list_in self.now) }
         ensures fits { (layout_in self.now).render + result ≡ (layout_in self.now).end }
     {
         build(&self.job.frame, setup, tiles, &self.layout, out);
@@ -84,9 +88,12 @@ impl<'a, 'b> Context<'a, 'b> {
     fn draw(&self, tiles: Option<(u8, u8)>, out: &mut [u8]) -> Result<u32, Stop<Refusal>>
         requires tiles_are { tiles ≡ grid_of self.now.file self.now.number }
         requires room { (layout_in self.now).end ≤ length out.old }
-        ensures answers { Answers (surfaces_stage self.now.file self.now.number) (λ n. n ≡ length (render_list_in self.now)) result }
-        ensures written { IfOk result (λ _. out.new ≡ with_bytes out.old (layout_in self.now).render (render_list_in self.now)) }
-        ensures fits { IfOk result (λ n. (layout_in self.now).render + n ≡ (layout_in self.now).end) }
+        ensures answers { Answers (surfaces_stage self.now.file self.now.number)
+            (λ n. n ≡ length (render_list_in self.now)) result }
+        ensures written { IfOk result (λ _. out.new
+            ≡ with_bytes out.old (layout_in self.now).render (render_list_in self.now)) }
+        ensures fits { IfOk result (λ n. (layout_in self.now).render + n
+            ≡ (layout_in self.now).end) }
         ensures takes_no_memory { result ≢ Err OutOfMemory }
     {
         let setup = self.surfaces(tiles)?;
@@ -109,8 +116,10 @@ impl<'a, 'b> Context<'a, 'b> {
             Answers (records_stage self.now.file self.now.number) (AreRecordsOf self.now.file self.now.number) result }
         ensures written { IsTold self.now → IfOk result (λ _. out.new ≡ with_bytes
             (with_bytes out.old (layout_in self.now).records (records_in self.now)) (layout_in self.now).uniforms (streams_in self.now)) }
-        ensures records_fit { IsTold self.now → IfOk result (λ _. length (records_in self.now) ≤ length (job_in self.now).records) }
-        ensures streams_fit { IsTold self.now → IfOk result (λ _. length (streams_in self.now) ≤ length (job_in self.now).uniforms) }
+        ensures records_fit { IsTold self.now
+            → IfOk result (λ _. length (records_in self.now) ≤ length (job_in self.now).records) }
+        ensures streams_fit { IsTold self.now
+            → IfOk result (λ _. length (streams_in self.now) ≤ length (job_in self.now).uniforms) }
         ensures takes_no_memory { result ≢ Err OutOfMemory }
     {
         let job = self.job;
@@ -143,12 +152,15 @@ impl<'a, 'b> Context<'a, 'b> {
         out: &mut [u8],
     ) -> Result<Lengths, Stop<Refusal>>
         requires bin { IsBinOf self.now.file self.now.number bin.now }
-        requires records { IsTold self.now → AreRecordsOf self.now.file self.now.number records.now }
+        requires records { IsTold self.now
+            → AreRecordsOf self.now.file self.now.number records.now }
         requires room { (layout_in self.now).end ≤ length out.old }
         ensures answers { IsTold self.now →
             Answers (surfaces_stage self.now.file self.now.number) (λ lengths. lengths ≡ lengths_in self.now) result }
-        ensures written { IfOk result (λ _. out.new ≡ with_bytes out.old (layout_in self.now).render (render_list_in self.now)) }
-        ensures fits { IfOk result (λ _. (layout_in self.now).render + length (render_list_in self.now) ≡ (layout_in self.now).end) }
+        ensures written { IfOk result (λ _. out.new
+            ≡ with_bytes out.old (layout_in self.now).render (render_list_in self.now)) }
+        ensures fits { IfOk result (λ _. (layout_in self.now).render
+            + length (render_list_in self.now) ≡ (layout_in self.now).end) }
         ensures takes_no_memory { result ≢ Err OutOfMemory }
     {
         let render = self.draw(Some((bin.tiles_x, bin.tiles_y)), out)?;
@@ -173,8 +185,12 @@ impl<'a, 'b> Context<'a, 'b> {
         requires bin_fits { length (bin_list_in self.now) ≤ length (job_in self.now).bin }
         ensures answers { IsTold self.now → Answers (records_stage self.now.file self.now.number ++ surfaces_stage self.now.file self.now.number)
             (λ lengths. lengths ≡ lengths_in self.now) result }
-        ensures written { IsTold self.now → IfOk result (λ _. out.new ≡ placed out.old (later_parts self.now.file self.now.number)) }
-        ensures fit { IsTold self.now → IfOk result (λ _. PartsFit (layout_in self.now).end (list_parts self.now.file self.now.number)) }
+        ensures written { IsTold self.now
+            → IfOk result (λ _. out.new
+            ≡ placed out.old (later_parts self.now.file self.now.number)) }
+        ensures fit { IsTold self.now
+            → IfOk result (λ _. PartsFit (layout_in self.now).end
+            (list_parts self.now.file self.now.number)) }
         ensures takes_no_memory { result ≢ Err OutOfMemory }
     {
         let records = self.records(alloc, &bin.states, out)?;
@@ -188,8 +204,12 @@ impl<'a, 'b> Context<'a, 'b> {
         requires room { (layout_in self.now).end ≤ length out.old }
         ensures answers { IsTold self.now →
             Answers (lists_stages self.now.file self.now.number) (λ lengths. lengths ≡ lengths_in self.now) result }
-        ensures written { IsTold self.now → IfOk result (λ _. out.new ≡ placed out.old (list_parts self.now.file self.now.number)) }
-        ensures fit { IsTold self.now → IfOk result (λ _. PartsFit (layout_in self.now).end (list_parts self.now.file self.now.number)) }
+        ensures written { IsTold self.now
+            → IfOk result (λ _. out.new
+            ≡ placed out.old (list_parts self.now.file self.now.number)) }
+        ensures fit { IsTold self.now
+            → IfOk result (λ _. PartsFit (layout_in self.now).end
+            (list_parts self.now.file self.now.number)) }
         ensures memory { result ≡ Err OutOfMemory → HasStateFirst self.now.file self.now.number }
     {
         let bin = self.bin(alloc, out)?;
@@ -202,9 +222,12 @@ impl<'a, 'b> Context<'a, 'b> {
     fn unbinned(&self, out: &mut [u8]) -> Result<Lengths, Stop<Refusal>>
         requires none { has_bin self.now.file self.now.number ≡ false }
         requires room { (layout_in self.now).end ≤ length out.old }
-        ensures answers { Answers (lists_stages self.now.file self.now.number) (λ lengths. lengths ≡ lengths_in self.now) result }
-        ensures written { IfOk result (λ _. out.new ≡ placed out.old (list_parts self.now.file self.now.number)) }
-        ensures fit { IfOk result (λ _. PartsFit (layout_in self.now).end (list_parts self.now.file self.now.number)) }
+        ensures answers { Answers (lists_stages self.now.file self.now.number)
+            (λ lengths. lengths ≡ lengths_in self.now) result }
+        ensures written { IfOk result (λ _. out.new
+            ≡ placed out.old (list_parts self.now.file self.now.number)) }
+        ensures fit { IfOk result (λ _. PartsFit (layout_in self.now).end
+            (list_parts self.now.file self.now.number)) }
         ensures takes_no_memory { result ≢ Err OutOfMemory }
     {
         let render = self.draw(None, out)?;
@@ -230,8 +253,12 @@ impl<'a, 'b> Context<'a, 'b> {
         requires { (layout_in self.now).end ≤ length out.old }
         ensures answers { IsTold self.now →
             Answers (lists_stages self.now.file self.now.number) (λ lengths. lengths ≡ lengths_in self.now) result }
-        ensures written { IsTold self.now → IfOk result (λ _. out.new ≡ placed out.old (list_parts self.now.file self.now.number)) }
-        ensures fit { IsTold self.now → IfOk result (λ _. PartsFit (layout_in self.now).end (list_parts self.now.file self.now.number)) }
+        ensures written { IsTold self.now
+            → IfOk result (λ _. out.new
+            ≡ placed out.old (list_parts self.now.file self.now.number)) }
+        ensures fit { IsTold self.now
+            → IfOk result (λ _. PartsFit (layout_in self.now).end
+            (list_parts self.now.file self.now.number)) }
         ensures memory { result ≡ Err OutOfMemory → HasStateFirst self.now.file self.now.number }
     {
         if self.has_bin() {

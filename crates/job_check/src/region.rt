@@ -47,7 +47,8 @@ pub struct Lists {
 #[tactic(auto, unfolding(field_words::specs::Writes::zeros))]
 fn extend_region(region: &mut Vec<u8>, size: usize) -> Result<(), AllocError>
     requires { length region.old.items ≤ size }
-    ensures { IfOk result (λ _. region.new.items ≡ region.old.items ++ zeros (size - length region.old.items)) }
+    ensures { IfOk result (λ _. region.new.items ≡ region.old.items
+        ++ zeros (size - length region.old.items)) }
 {
     region.resize(size, 0)
 }
@@ -62,8 +63,12 @@ fn write_at(
     requires { from + (layout_of job.now.file job.now.number).end ≡ length region.old }
     ensures answers { IsTold job.now → Answers (lists_stages job.now.file job.now.number)
         (λ lengths. lengths ≡ lengths_of job.now.file job.now.number) result }
-    ensures written { IsTold job.now → IfOk result (λ _. region.new ≡ placed region.old (moved from (list_parts job.now.file job.now.number))) }
-    ensures fit { IsTold job.now → IfOk result (λ _. PartsFit (layout_of job.now.file job.now.number).end (list_parts job.now.file job.now.number)) }
+    ensures written { IsTold job.now
+        → IfOk result (λ _. region.new
+        ≡ placed region.old (moved from (list_parts job.now.file job.now.number))) }
+    ensures fit { IsTold job.now
+        → IfOk result (λ _. PartsFit (layout_of job.now.file job.now.number).end
+        (list_parts job.now.file job.now.number)) }
 {
     job.write_lists(alloc, &mut region[from..])
 }
@@ -76,13 +81,16 @@ fn write_region(
     region: &mut Vec<u8>,
 ) -> Result<Lengths, Stop<Refusal>>
     requires { length region.old.items ≡ region_size job.now.file job.now.number }
-    ensures size { IfOk result (λ _. length region.new.items ≡ region_size job.now.file (job.now.number + 1)) }
+    ensures size { IfOk result (λ _. length region.new.items
+        ≡ region_size job.now.file (job.now.number + 1)) }
     ensures answers { IsTold job.now → Answers (lists_stages job.now.file job.now.number)
         (λ lengths. lengths ≡ lengths_of job.now.file job.now.number) result }
     ensures written { IsTold job.now → IfOk result (λ _. region.new.items ≡
         placed (region.old.items ++ zeros (region_size job.now.file (job.now.number + 1) - length region.old.items))
         (region_parts job.now.file job.now.number)) }
-    ensures fit { IsTold job.now → IfOk result (λ _. PartsFit (layout_of job.now.file job.now.number).end (list_parts job.now.file job.now.number)) }
+    ensures fit { IsTold job.now
+        → IfOk result (λ _. PartsFit (layout_of job.now.file job.now.number).end
+        (list_parts job.now.file job.now.number)) }
 {
     let from = job.place_in_region() as usize;
     extend_region(region, from + job.layout.end as usize)?;
@@ -92,14 +100,17 @@ fn write_region(
 /// The rules of a job in view, and its lists in the region. The rule that its lists fit is asked last.
 fn place_lists(alloc: Global, job: &Context, region: &mut Vec<u8>) -> Result<Lists, Stop<Refusal>>
     requires { length region.old.items ≡ region_size job.now.file job.now.number }
-    ensures size { IfOk result (λ _. length region.new.items ≡ region_size job.now.file (job.now.number + 1)) }
+    ensures size { IfOk result (λ _. length region.new.items
+        ≡ region_size job.now.file (job.now.number + 1)) }
     ensures layout { IfOk result (λ lists. lists.layout ≡ layout_of job.now.file job.now.number) }
     ensures answers { IsTold job.now →
         Answers (laid_stages job.now.file job.now.number) (ArePlaced job.now.file job.now.number) result }
     ensures written { IsTold job.now → IfOk result (λ _. region.new.items ≡
         placed (region.old.items ++ zeros (region_size job.now.file (job.now.number + 1) - length region.old.items))
         (region_parts job.now.file job.now.number)) }
-    ensures fit { IsTold job.now → IfOk result (λ _. PartsFit (layout_of job.now.file job.now.number).end (list_parts job.now.file job.now.number)) }
+    ensures fit { IsTold job.now
+        → IfOk result (λ _. PartsFit (layout_of job.now.file job.now.number).end
+        (list_parts job.now.file job.now.number)) }
     ensures fits { IfOk result (λ lists. end_of lists.layout ≤ region_end job.now.file.regions) }
 {
     let layout = job.layout;
@@ -129,7 +140,8 @@ fn check_one(
     requires shaped { AreShaped (table_of (parts_view file.now)) (shaders_view shaders.now.items) }
     requires sound { IsSound file.now.mem_size file.now.regions file.now.buffers.items }
     requires size { length region.old.items ≡ region_size (parts_view file.now) number }
-    ensures size { IfOk result (λ _. length region.new.items ≡ region_size (parts_view file.now) (number + 1)) }
+    ensures size { IfOk result (λ _. length region.new.items
+        ≡ region_size (parts_view file.now) (number + 1)) }
     ensures layout { IfOk result (λ lists. lists.layout ≡ layout_of (parts_view file.now) number) }
     ensures answers { shaders_view shaders.now.items ≡ shaders_of (parts_view file.now) →
         Answers (job_stages (parts_view file.now) number) (ArePlaced (parts_view file.now) number) result }
@@ -204,8 +216,10 @@ fn told_shaders(
     told: Option<Vec<Option<ShaderInfo>>>,
 ) -> Result<Vec<Option<ShaderInfo>>, Stop<Refusal>>
     requires well_formed { IsWellFormed (parts_view file.now) }
-    requires shaped { IfSome told (λ shaders. AreShaped (table_of (parts_view file.now)) (shaders_view shaders.items)) }
-    ensures shaped { IfOk result (λ shaders. AreShaped (table_of (parts_view file.now)) (shaders_view shaders.items)) }
+    requires shaped { IfSome told (λ shaders. AreShaped (table_of (parts_view file.now))
+        (shaders_view shaders.items)) }
+    ensures shaped { IfOk result (λ shaders. AreShaped (table_of (parts_view file.now))
+        (shaders_view shaders.items)) }
     ensures answers { IfSome told (λ shaders. AreChecked (parts_view file.now) (shaders_view shaders.items)) →
         Answers (shaders_stage (parts_view file.now)) (λ shaders. shaders_view shaders.items ≡ shaders_of (parts_view file.now)) result }
 {
@@ -225,7 +239,8 @@ fn check_told(
 ) -> Result<(), Stop<Refusal>>
     requires well_formed { IsWellFormed (parts_view file.now) }
     requires table_is { table.now ≡ table_of (parts_view file.now) }
-    requires shaped { IfSome told (λ shaders. AreShaped (table_of (parts_view file.now)) (shaders_view shaders.items)) }
+    requires shaped { IfSome told (λ shaders. AreShaped (table_of (parts_view file.now))
+        (shaders_view shaders.items)) }
     requires sound { IsSound file.now.mem_size file.now.regions file.now.buffers.items }
     requires no_bytes { region.old.bytes.items ≡ [] }
     requires no_layouts { region.old.layouts.items ≡ [] }
@@ -256,14 +271,16 @@ pub fn check_parts(
 ) -> Result<Region, Stop<Refusal>>
     requires limit { limit ≤ most_place }
     requires well_formed { IsWellFormed (parts_view parts.now) }
-    requires shaped { IfSome told (λ shaders. AreShaped (table_of (parts_view parts.now)) (shaders_view shaders.items)) }
+    requires shaped { IfSome told (λ shaders. AreShaped (table_of (parts_view parts.now))
+        (shaders_view shaders.items)) }
     ensures laid { IfOk result (IsLaid (parts_view parts.now)) }
     ensures answers { Under told (λ shaders. AreChecked (parts_view parts.now) (shaders_view shaders.items))
         (Answers (stages_within limit (parts_view parts.now)) (IsRegion (parts_view parts.now)) result) }
     ensures first { Under told (λ shaders. AreChecked (parts_view parts.now) (shaders_view shaders.items))
         (NamesFirst (stages_within limit (parts_view parts.now)) result) }
     ensures memory { NeverHidesFault (table_stage_within limit (parts_view parts.now)) result }
-    ensures sound { IsOk result → IsSound parts.now.mem_size parts.now.regions parts.now.buffers.items }
+    ensures sound { IsOk result → IsSound parts.now.mem_size parts.now.regions
+        parts.now.buffers.items }
     ensures small { IsOk result → parts.now.mem_size ≤ limit }
 {
     let table = table_stage(limit, parts.mem_size, parts.regions, &parts.buffers)?;

@@ -49,7 +49,8 @@ pub fn words_of(alloc: Global, bytes: &[u8]) -> Result<Vec<u64>, AllocError>
 #[tactic(auto, unfolding(crate::specs::Shaders::code_questions, crate::specs::Shaders::told_of))]
 pub fn shader_in(alloc: Global, bytes: &[u8]) -> Result<ShaderInfo, Stop<ShaderFault>>
     requires { length bytes.now ≤ most_code }
-    ensures answers { Answers (code_questions bytes.now) (λ info. shader_view info ≡ told_of (words_of bytes.now)) result }
+    ensures answers { Answers (code_questions bytes.now)
+        (λ info. shader_view info ≡ told_of (words_of bytes.now)) result }
     ensures memory { NeverHidesFault (whole_questions_in CodeKind bytes.now) result }
     ensures sound { IfOk result (λ info. IsSoundShader (shader_view info)) }
 {
@@ -77,7 +78,8 @@ pub fn content_at<'a>(file: &FileParts<'a>, b: usize) -> &'a [u8]
     requires well_formed { IsWellFormed (parts_view file.now) }
     requires inside { b < length file.now.buffers.items }
     ensures value { result.now ≡ content_of (parts_view file.now) b }
-    ensures few { (buffer_at file.now.buffers.items b).kind ≡ CodeKind → length result.now ≤ most_code }
+    ensures few { (buffer_at file.now.buffers.items b).kind ≡ CodeKind
+        → length result.now ≤ most_code }
 {
     file.contents[b]
 }

@@ -23,7 +23,8 @@ pub fn table_stage<'a>(
     requires few { length buffers.now.items ≤ most_buffers }
     ensures answers { Answers (answered table_refused (table_within limit mem_size regions buffers.now.items))
         (λ table. table ≡ record { memory = mem_size; regions = regions; buffers = buffers.now.items }) result }
-    ensures memory { NeverHidesFault (answered table_refused (table_within limit mem_size regions buffers.now.items)) result }
+    ensures memory { NeverHidesFault (answered table_refused
+        (table_within limit mem_size regions buffers.now.items)) result }
     ensures sound { IsOk result → IsSound mem_size regions buffers.now.items }
     ensures small { IsOk result → mem_size ≤ limit }
 {

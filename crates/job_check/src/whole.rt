@@ -58,7 +58,8 @@ pub fn check_bytes(alloc: Global, bytes: &[u8]) -> Result<Checked, Stop<Refusal>
 #[tactic(auto, unfolding(crate::specs::Whole::questions_within))]
 pub fn check_places(alloc: Global, limit: u32, bytes: &[u8]) -> Result<Region, Stop<Refusal>>
     requires { limit ≤ most_place }
-    ensures answers { Answers (questions_within limit bytes.now) (IsRegion (file_at bytes.now)) result }
+    ensures answers { Answers (questions_within limit bytes.now)
+        (IsRegion (file_at bytes.now)) result }
     ensures format { NeverHidesFault (answered format_refused (format_questions bytes.now)) result }
     ensures spelled { IsOk result → IsFileOf bytes.now (file_at bytes.now) }
 {

@@ -235,7 +235,8 @@ fn parts_of<'a>(alloc: Global, bytes: &'a [u8]) -> Result<FileParts<'a>, AllocEr
 
 /// The parts, or the first fault.
 fn found_parts<'a>(alloc: Global, bytes: &'a [u8]) -> Result<FileParts<'a>, Stop<FormatFault>>
-    ensures answers { Answers (format_questions bytes.now) (λ f. parts_view f ≡ file_at bytes.now) result }
+    ensures answers { Answers (format_questions bytes.now)
+        (λ f. parts_view f ≡ file_at bytes.now) result }
     ensures memory { NeverHidesFault (format_questions bytes.now) result }
 {
     match format_fault(bytes) {
@@ -248,13 +249,15 @@ fn found_parts<'a>(alloc: Global, bytes: &'a [u8]) -> Result<FileParts<'a>, Stop
 /// in a part by field. Finding it takes no memory.
 pub fn read_parts<'a>(alloc: Global, bytes: &'a [u8]) -> Result<FileParts<'a>, Stop<FormatFault>>
     // Which fault it is, and the fields of the file.
-    ensures read { Answers (format_questions bytes.now) (λ f. parts_view f ≡ file_at bytes.now) result }
+    ensures read { Answers (format_questions bytes.now)
+        (λ f. parts_view f ≡ file_at bytes.now) result }
     ensures first { NamesFirst (format_questions bytes.now) result }
     ensures memory { NeverHidesFault (format_questions bytes.now) result }
     // The file that is read is the one that the bytes spell.
     ensures found { IfOk result (λ f. IsFileOf bytes.now (parts_view f)) }
     // No rule stands exactly where a file belongs to the bytes.
-    ensures exact { (first_of (format_questions bytes.now) ≡ None) ↔ ((f : FileModel) × IsFileOf bytes.now f) }
+    ensures exact { (first_of (format_questions bytes.now) ≡ None)
+        ↔ ((f : FileModel) × IsFileOf bytes.now f) }
     // Bytes that spell a file are read, unless memory runs out.
     ensures only { (f : FileModel) → IsFileOf bytes.now f → Reads parts_view f result }
 {
@@ -263,7 +266,8 @@ pub fn read_parts<'a>(alloc: Global, bytes: &'a [u8]) -> Result<FileParts<'a>, S
 
 /// The file that was read, or its first fault.
 fn file(alloc: Global, bytes: &[u8]) -> Result<JobFile, Stop<FormatFault>>
-    ensures answers { Answers (format_questions bytes.now) (λ f. file_view f ≡ file_at bytes.now) result }
+    ensures answers { Answers (format_questions bytes.now)
+        (λ f. file_view f ≡ file_at bytes.now) result }
     ensures memory { NeverHidesFault (format_questions bytes.now) result }
 {
     let parts = found_parts(alloc, bytes)?;
@@ -272,11 +276,13 @@ fn file(alloc: Global, bytes: &[u8]) -> Result<JobFile, Stop<FormatFault>>
 
 /// The same, with contents and lists of its own.
 pub fn read_job(alloc: Global, bytes: &[u8]) -> Result<JobFile, Stop<FormatFault>>
-    ensures read { Answers (format_questions bytes.now) (λ f. file_view f ≡ file_at bytes.now) result }
+    ensures read { Answers (format_questions bytes.now)
+        (λ f. file_view f ≡ file_at bytes.now) result }
     ensures first { NamesFirst (format_questions bytes.now) result }
     ensures memory { NeverHidesFault (format_questions bytes.now) result }
     ensures found { IfOk result (λ f. IsFileOf bytes.now (file_view f)) }
-    ensures exact { (first_of (format_questions bytes.now) ≡ None) ↔ ((f : FileModel) × IsFileOf bytes.now f) }
+    ensures exact { (first_of (format_questions bytes.now) ≡ None)
+        ↔ ((f : FileModel) × IsFileOf bytes.now f) }
     ensures only { (f : FileModel) → IsFileOf bytes.now f → Reads file_view f result }
 {
     file(alloc, bytes)

@@ -104,7 +104,8 @@ fn put_surface(out: &mut Vec<u8>, surface: &Surface) -> Result<(), AllocError>
 }
 
 fn put_surfaces(out: &mut Vec<u8>, surfaces: &[Surface]) -> Result<(), AllocError>
-    ensures text { OnOk result (out.new.items ≡ out.old.items ++ flat_map surface_text surfaces.now) }
+    ensures text { OnOk result (out.new.items ≡ out.old.items
+        ++ flat_map surface_text surfaces.now) }
     ensures fits { OnOk result (AllByRecursion SurfaceFits surfaces.now) }
 {
     for surface in surfaces {
@@ -114,7 +115,8 @@ fn put_surfaces(out: &mut Vec<u8>, surfaces: &[Surface]) -> Result<(), AllocErro
 }
 
 fn put_six(out: &mut Vec<u8>, surfaces: &[Surface; 6]) -> Result<(), AllocError>
-    ensures text { OnOk result (out.new.items ≡ out.old.items ++ flat_map surface_text surfaces.now) }
+    ensures text { OnOk result (out.new.items ≡ out.old.items
+        ++ flat_map surface_text surfaces.now) }
     ensures fits { OnOk result (AllByRecursion SurfaceFits surfaces.now) }
     ensures six { length surfaces.now ≡ 6 }
 {
@@ -188,7 +190,8 @@ fn put_buffers(out: &mut Vec<u8>, buffers: &[Buffer]) -> Result<(), AllocError>
 
 fn put_jobs(out: &mut Vec<u8>, jobs: &[Job]) -> Result<(), AllocError>
     requires { AllByRecursion IsJobWellFormed (map job_view jobs.now) }
-    ensures text { OnOk result (out.new.items ≡ out.old.items ++ flat_map job_text (map job_view jobs.now)) }
+    ensures text { OnOk result (out.new.items ≡ out.old.items
+        ++ flat_map job_text (map job_view jobs.now)) }
     ensures fits { OnOk result (AllByRecursion JobEntryFits (map job_view jobs.now)) }
 {
     for job in jobs {
@@ -198,7 +201,8 @@ fn put_jobs(out: &mut Vec<u8>, jobs: &[Job]) -> Result<(), AllocError>
 }
 
 fn put_contents(out: &mut Vec<u8>, contents: &[Vec<u8>]) -> Result<(), AllocError>
-    ensures text { OnOk result (out.new.items ≡ out.old.items ++ joined (map (λ c. c.items) contents.now)) }
+    ensures text { OnOk result (out.new.items ≡ out.old.items
+        ++ joined (map (λ c. c.items) contents.now)) }
     ensures fits { OnOk result (AllByRecursion IsBytes (map (λ c. c.items) contents.now)) }
 {
     for content in contents {
@@ -208,7 +212,8 @@ fn put_contents(out: &mut Vec<u8>, contents: &[Vec<u8>]) -> Result<(), AllocErro
 }
 
 fn put_all_parts(out: &mut Vec<u8>, jobs: &[Job]) -> Result<(), AllocError>
-    ensures text { OnOk result (out.new.items ≡ out.old.items ++ flat_map parts_text (map job_view jobs.now)) }
+    ensures text { OnOk result (out.new.items ≡ out.old.items
+        ++ flat_map parts_text (map job_view jobs.now)) }
     ensures fits { OnOk result (AllByRecursion JobPartsFit (map job_view jobs.now)) }
 {
     for job in jobs {
@@ -239,7 +244,8 @@ pub fn write_job(alloc: Global, file: &JobFile) -> Result<Vec<u8>, NoMemory>
     // The bytes spell the file,
     ensures spells { IfOk result (λ v. IsFileOf v.items (file_view file.now)) }
     // so reading them gives the file again.
-    ensures again { IfOk result (λ v. (first_of (format_questions v.items) ≡ None) × (file_at v.items ≡ file_view file.now)) }
+    ensures again { IfOk result (λ v. (first_of (format_questions v.items) ≡ None)
+        × (file_at v.items ≡ file_view file.now)) }
 {
     Ok(text(alloc, file)?)
 }

@@ -41,7 +41,8 @@ impl<R: Read> Source for ReaderSource<R> {
     /// One `read` of the reader. It takes no memory.
     fn read(&mut self, buf: &mut [u8]) -> Result<usize, Failed>
         ensures within { IfOk result (λ n. n ≤ length buf.new) }
-        ensures bytes { ReadConsumes (R.remaining self.old.inner) (R.remaining self.new.inner) result buf.new }
+        ensures bytes { ReadConsumes (R.remaining self.old.inner) (R.remaining self.new.inner)
+            result buf.new }
         ensures failed { OnErr result (Rose self.old.faults self.new.faults) }
         ensures steady { OnOk result (self.new.faults ≡ self.old.faults) }
         ensures counted { self.old.faults ≤ self.new.faults }
@@ -93,7 +94,8 @@ impl<W: Write> Sink for WriterSink<W> {
     fn write(&mut self, part: &[u8]) -> Result<usize, Failed>
         ensures within { IfOk result (λ n. n ≤ length part.now) }
         ensures some { IfOk result (λ n. 0 < length part.now → 0 < n) }
-        ensures bytes { Writes (held_of W.contents self.old) (held_of W.contents self.new) result part.now }
+        ensures bytes { Writes (held_of W.contents self.old) (held_of W.contents self.new)
+            result part.now }
         ensures failed { OnErr result (Rose self.old.faults self.new.faults) }
         ensures steady { OnOk result (self.new.faults ≡ self.old.faults) }
         ensures counted { self.old.faults ≤ self.new.faults }

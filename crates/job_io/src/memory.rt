@@ -43,7 +43,14 @@ impl MemSource {
     /// the calls whose numbers, from 0, are listed. It takes no memory.
     pub fn new(bytes: Vec<u8>, piece: usize, failing: Vec<u64>) -> MemSource
         requires { 1 ≤ piece }
-        ensures { result ≡ record { left = bytes.items; piece = piece; call = 0; failing = failing.items; faults = 0 } }
+        ensures { result ≡ record {
+          left = bytes.items;
+          piece = piece;
+          call = 0;
+          failing
+              = failing.items;
+          faults = 0;
+        } }
     {
         MemSource {
             bytes,
@@ -70,9 +77,12 @@ impl Source for MemSource {
         ensures counted { self.old.faults ≤ self.new.faults }
 
         ensures fails { IsErr result ↔ Contains self.old.failing self.old.call }
-        ensures count { IfOk result (λ n. n ≡ min self.old.piece (min (length buf.new) (length self.old.left))) }
-        ensures err { OnErr result (self.new ≡ record self.old { call = counted self.old.call; faults = counted self.old.faults }) }
-        ensures ok { IfOk result (λ n. self.new ≡ record self.old { call = counted self.old.call; left = drop n self.old.left }) }
+        ensures count { IfOk result (λ n. n
+            ≡ min self.old.piece (min (length buf.new) (length self.old.left))) }
+        ensures err { OnErr result (self.new
+            ≡ record self.old { call = counted self.old.call; faults = counted self.old.faults }) }
+        ensures ok { IfOk result (λ n. self.new
+            ≡ record self.old { call = counted self.old.call; left = drop n self.old.left }) }
     {
         let failed = self.failing.contains(&self.call);
         self.call = self.call.saturating_add(1);
@@ -126,7 +136,15 @@ impl MemSink {
         failing: Vec<u64>,
     ) -> Result<MemSink, NoMemory>
         requires { 1 ≤ piece }
-        ensures { IfOk result (λ s. s ≡ record { held = []; room = room; piece = piece; call = 0; failing = failing.items; faults = 0 }) }
+        ensures { IfOk result (λ s. s
+            ≡ record {
+              held = [];
+              room = room;
+              piece = piece;
+              call = 0;
+              failing = failing.items;
+              faults = 0;
+            }) }
     {
         let bytes = Vec::with_capacity(alloc, room)?;
         Ok(MemSink {
@@ -161,11 +179,20 @@ impl Sink for MemSink {
         ensures steady { OnOk result (self.new.faults ≡ self.old.faults) }
         ensures counted { self.old.faults ≤ self.new.faults }
 
-        ensures fails { IsErr result ↔ (Contains self.old.failing self.old.call ⊎ (self.old.room < min self.old.piece (length part.now))) }
+        ensures fails { IsErr result
+            ↔ (Contains self.old.failing self.old.call
+            ⊎ (self.old.room < min self.old.piece (length part.now))) }
         ensures count { IfOk result (λ n. n ≡ min self.old.piece (length part.now)) }
-        ensures err { OnErr result (self.new ≡ record self.old { call = counted self.old.call; faults = counted self.old.faults }) }
+        ensures err { OnErr result (self.new
+            ≡ record self.old { call = counted self.old.call; faults = counted self.old.faults }) }
         ensures room { IfOk result (λ n. self.new.room ≡ self.old.room - n) }
-        ensures ok { OnOk result (self.new ≡ record self.old { call = counted self.old.call; held = self.new.held; room = self.new.room }) }
+        ensures ok { OnOk result (self.new
+            ≡ record self.old {
+              call = counted self.old.call;
+              held = self.new.held;
+              room
+                  = self.new.room;
+            }) }
     {
         let listed = self.failing.contains(&self.call);
         let count = self.piece.min(part.len());

@@ -54,8 +54,10 @@ pub fn read_all<S: Source>(alloc: Global, source: &mut S, limit: usize) -> Resul
     ensures end { OnOk result (IsAtEnd (S.left source.new)) }
     ensures within { IfOk result (λ bytes. vec_len bytes ≤ limit) }
 
-    ensures fault { IsErrOf result ReadEnd.ReadFault → Rose (S.faults source.old) (S.faults source.new) }
-    ensures last { IsErrOf result ReadEnd.ReadFault → LastCallFailed S.left S.faults source.old source.new }
+    ensures fault { IsErrOf result ReadEnd.ReadFault
+        → Rose (S.faults source.old) (S.faults source.new) }
+    ensures last { IsErrOf result ReadEnd.ReadFault
+        → LastCallFailed S.left S.faults source.old source.new }
     ensures steady { result ≢ Err Fault → S.faults source.new ≡ S.faults source.old }
     ensures long { IfSome (S.left source.old) (λ _. IsErrOf result ReadEnd.TooLong ↔
         (limit < count_taken (S.left source.old) (S.left source.new))) }

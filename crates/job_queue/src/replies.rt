@@ -51,8 +51,10 @@ fn put_submit(
     line: &[u8],
 ) -> Result<(), AllocError>
     requires { queue.old.submitted < 2 ^ 63 }
-    ensures line { (past : Past) → Agrees past queue.old → OnOk result (Adds out.old out.new (submit_reply past line.now)) }
-    ensures kept { (past : Past) → Agrees past queue.old → OnOk result (Agrees (after_submit_line past line.now) queue.new) }
+    ensures line { (past : Past) → Agrees past queue.old
+        → OnOk result (Adds out.old out.new (submit_reply past line.now)) }
+    ensures kept { (past : Past) → Agrees past queue.old
+        → OnOk result (Agrees (after_submit_line past line.now) queue.new) }
 {
     let buffers = cut_at(cut_at(line, b' ').rest, b' ');
     let mut reads = Vec::new(alloc);
@@ -71,8 +73,10 @@ fn put_line(
     line: &[u8],
 ) -> Result<(), AllocError>
     requires { queue.old.submitted < 2 ^ 63 }
-    ensures line { (past : Past) → Agrees past queue.old → OnOk result (Adds out.old out.new (line_reply past line.now)) }
-    ensures kept { (past : Past) → Agrees past queue.old → OnOk result (Agrees (after_line past line.now) queue.new) }
+    ensures line { (past : Past) → Agrees past queue.old
+        → OnOk result (Adds out.old out.new (line_reply past line.now)) }
+    ensures kept { (past : Past) → Agrees past queue.old
+        → OnOk result (Agrees (after_line past line.now) queue.new) }
 {
     match read_call(line) {
         Some(Call::Submit) => put_submit(alloc, out, queue, line),
@@ -119,7 +123,8 @@ impl Clerk for Queue {
 pub fn script(alloc: Global, buffers: u32, text: &[u8]) -> Result<Vec<u8>, Stop<u32>>
     requires few { buffers ≤ 1024 }
     requires length { length text.now < 2 ^ 32 }
-    ensures answers { IfOk result (λ bytes. (fault_line text.now ≡ None) × (bytes.items ≡ replies buffers text.now)) }
+    ensures answers { IfOk result (λ bytes. (fault_line text.now ≡ None)
+        × (bytes.items ≡ replies buffers text.now)) }
     ensures fault { IfErr result (IsScriptFault (fault_line text.now)) }
 {
     let mut queue = Queue::new(alloc, buffers)?;

@@ -102,7 +102,8 @@ fn put_job(
     file: &mut Vec<u8>,
 ) -> Result<(), NoMemory>
     requires { client < 8 }
-    ensures { OnOk result (file.new.items ≡ file.old.items ++ job_bytes (all_contents (held_in session.now client)) parts.now) }
+    ensures { OnOk result (file.new.items ≡ file.old.items
+        ++ job_bytes (all_contents (held_in session.now client)) parts.now) }
 {
     if parts.len() < JOB_SIZE {
         file.extend_from_slice(parts)?;
@@ -123,7 +124,8 @@ pub fn job_file(
     parts: &[u8],
 ) -> Result<Vec<u8>, NoMemory>
     requires { client < 8 }
-    ensures { IfOk result (λ file. file.items ≡ file_of client (held_in session.now client) parts.now) }
+    ensures { IfOk result (λ file. file.items
+        ≡ file_of client (held_in session.now client) parts.now) }
 {
     let parts = with_client(alloc, client, parts)?;
     let buffers = session.packed(alloc, client)?;

@@ -107,8 +107,10 @@ fn put_code(
 ) -> Result<(), AllocError>
     requires client { client < 8 }
     requires few { length (hex_bytes hex.now) ≤ most_code }
-    ensures line { OnOk result (Adds out.old out.new (answer_line session.old client (Make (hex_bytes hex.now)))) }
-    ensures left { OnOk result (session.new ≡ command_after session.old client (Make (hex_bytes hex.now))) }
+    ensures line { OnOk result (Adds out.old out.new
+        (answer_line session.old client (Make (hex_bytes hex.now)))) }
+    ensures left { OnOk result (session.new
+        ≡ command_after session.old client (Make (hex_bytes hex.now))) }
 {
     let bytes = decoded(alloc, hex)?;
     match session.code(alloc, client, &bytes) {
@@ -149,7 +151,8 @@ fn put_submit(
     hex: &[u8],
 ) -> Result<(), AllocError>
     requires { client < 8 }
-    ensures { OnOk result (Adds out.old out.new (answer_line session.now client (Submit (hex_bytes hex.now)))) }
+    ensures { OnOk result (Adds out.old out.new
+        (answer_line session.now client (Submit (hex_bytes hex.now)))) }
 {
     let parts = decoded(alloc, hex)?;
     match session.submit(alloc, client, &parts) {
@@ -170,8 +173,10 @@ fn put_answer(
 ) -> Result<(), AllocError>
     requires client { client < 8 }
     requires fits { Fits request }
-    ensures line { OnOk result (Adds out.old out.new (answer_line session.old client (command_of request.entry))) }
-    ensures left { OnOk result (session.new ≡ command_after session.old client (command_of request.entry)) }
+    ensures line { OnOk result (Adds out.old out.new
+        (answer_line session.old client (command_of request.entry))) }
+    ensures left { OnOk result (session.new
+        ≡ command_after session.old client (command_of request.entry)) }
 {
     match request {
         Request::Create { pages } => put_created(out, session.create(client, pages)),
@@ -225,7 +230,8 @@ impl Clerk for Session {
 #[tactic(auto, unfolding(crate::specs::Calls::fault_line, crate::specs::Text::replies))]
 pub fn script(alloc: Global, text: &[u8]) -> Result<Vec<u8>, Stop<u32>>
     requires { length text.now < 2 ^ 32 }
-    ensures answers { IfOk result (λ bytes. (fault_line text.now ≡ None) × (bytes.items ≡ replies text.now)) }
+    ensures answers { IfOk result (λ bytes. (fault_line text.now ≡ None)
+        × (bytes.items ≡ replies text.now)) }
     ensures fault { IfErr result (IsScriptFault (fault_line text.now)) }
 {
     let mut session = Session::new(alloc)?;

@@ -86,7 +86,8 @@ fn free_id(counts: &[u32; 512], client: u8) -> Option<u32>
 
 // How many bytes a buffer of so many gives to the contents of a job's file.
 fn content_size(kind: Kind, size: u32) -> u32
-    ensures content { (bytes : List ℕ) → length bytes ≡ size → result ≡ length (content_of kind bytes) }
+    ensures content { (bytes : List ℕ) → length bytes ≡ size
+        → result ≡ length (content_of kind bytes) }
 {
     match kind {
         Kind::Plain => 0,
@@ -213,8 +214,10 @@ impl Session {
         len: u32,
     ) -> Result<Vec<u8>, Stop<u8>>
         requires { client < 8 }
-        ensures read { IfOk result (λ bytes. read_answer self.now client id at len ≡ Ok bytes.items) }
-        ensures refused { IfErr result (λ stop. IsStop stop (read_answer self.now client id at len)) }
+        ensures read { IfOk result (λ bytes. read_answer self.now client id at len
+            ≡ Ok bytes.items) }
+        ensures refused { IfErr result (λ stop. IsStop stop
+            (read_answer self.now client id at len)) }
     {
         if id >= MOST_BUFFERS || self.counts[slot(client, id)] == 0 {
             return Err(Stop::Fault(1));
@@ -271,7 +274,8 @@ impl Session {
     /// A client's live buffers as the file of a job lists them, each directly behind the one before.
     pub(crate) fn packed(&self, alloc: Global, client: u8) -> Result<Vec<Buffer>, NoMemory>
         requires { client < 8 }
-        ensures all { IfOk result (λ buffers. buffers.items ≡ packed client (held_in self.now client) 0 most_buffers first_place) }
+        ensures all { IfOk result (λ buffers. buffers.items
+            ≡ packed client (held_in self.now client) 0 most_buffers first_place) }
         ensures few { IfOk result (λ buffers. length buffers.items ≤ most_buffers) }
     {
         let mut buffers = Vec::new(alloc);
@@ -295,7 +299,8 @@ impl Session {
     ) -> Result<(), NoMemory>
         requires client { client < 8 }
         requires id { id < 64 }
-        ensures { OnOk result (file.new.items ≡ file.old.items ++ contents_at (held_in self.now client id)) }
+        ensures { OnOk result (file.new.items ≡ file.old.items
+            ++ contents_at (held_in self.now client id)) }
     {
         let slot = slot(client, id);
         if self.counts[slot] == 0 {
@@ -317,7 +322,8 @@ impl Session {
         file: &mut Vec<u8>,
     ) -> Result<(), NoMemory>
         requires { client < 8 }
-        ensures { OnOk result (file.new.items ≡ file.old.items ++ all_contents (held_in self.now client)) }
+        ensures { OnOk result (file.new.items ≡ file.old.items
+            ++ all_contents (held_in self.now client)) }
     {
         for id in 0..MOST_BUFFERS {
             self.put_content(alloc, client, id, file)?;

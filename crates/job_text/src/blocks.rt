@@ -80,7 +80,8 @@ fn block_text(alloc: Global, line: usize, lines: &[u8]) -> Result<Vec<u8>, Stop<
 
 // Appends instruction words, of each the lowest byte first.
 fn put_words(out: &mut Vec<u8>, words: &[u64]) -> Result<(), AllocError>
-    ensures { IfOk result (λ _. out.new.items ≡ out.old.items ++ flat_map (to_le_bytes w64) words.now) }
+    ensures { IfOk result (λ _. out.new.items ≡ out.old.items
+        ++ flat_map (to_le_bytes w64) words.now) }
 {
     for word in words {
         out.extend_from_slice(&word.to_le_bytes())?;
@@ -116,7 +117,8 @@ fn put_assembled(
     text: &[u8],
 ) -> Result<(), Stop<MakeFault>>
     requires { line ≤ 2 ^ 63 }
-    ensures bytes { IfOk result (λ _. both (Ok out.old.items) (assembled line text.now) ≡ Ok out.new.items) }
+    ensures bytes { IfOk result (λ _. both (Ok out.old.items) (assembled line text.now)
+        ≡ Ok out.new.items) }
     ensures fault { IfErr result (IsFaultOf (assembled line text.now)) }
 {
     if text.len() >= 4_294_967_295 {
@@ -144,7 +146,8 @@ pub(crate) fn put_block(
     lines: &[u8],
 ) -> Result<(), Stop<MakeFault>>
     requires { line ≤ 2 ^ 63 }
-    ensures bytes { IfOk result (λ _. both (Ok out.old.items) (block_read line (lines_of lines.now)) ≡ Ok out.new.items) }
+    ensures bytes { IfOk result (λ _. both (Ok out.old.items) (block_read line (lines_of lines.now))
+        ≡ Ok out.new.items) }
     ensures fault { IfErr result (IsFaultOf (block_read line (lines_of lines.now))) }
 {
     match block_text(alloc, line, lines) {

@@ -116,7 +116,8 @@ pub(crate) fn put_if(out: &mut Vec<u8>, is: bool, text: &[u8]) -> Result<(), All
 }
 
 fn put_mode(out: &mut Vec<u8>, number: u32, end: &str) -> Result<(), AllocError>
-    ensures { OnOk result (out.new.items ≡ out.old.items ++ (codes " (" ++ (mode_name (number % 16) ++ end.now))) }
+    ensures { OnOk result (out.new.items ≡ out.old.items
+        ++ (codes " (" ++ (mode_name (number % 16) ++ end.now))) }
 {
     out.extend_from_slice(b" (")?;
     out.extend_from_slice(mode_name(number % 16).as_bytes())?;
@@ -232,7 +233,8 @@ fn put_configuration(out: &mut Vec<u8>, number: u32) -> Result<(), AllocError>
 }
 
 fn put_word(out: &mut Vec<u8>, number: u32) -> Result<(), AllocError>
-    ensures { OnOk result (out.new.items ≡ out.old.items ++ (codes " (" ++ (hex_text number ++ codes ")"))) }
+    ensures { OnOk result (out.new.items ≡ out.old.items
+        ++ (codes " (" ++ (hex_text number ++ codes ")"))) }
 {
     out.extend_from_slice(b" (")?;
     put_hex(out, number)?;

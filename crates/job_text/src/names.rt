@@ -111,7 +111,8 @@ pub(crate) fn put_of_job(out: &mut Vec<u8>, job: u32, text: &[u8]) -> Result<(),
 // Appends a job's number, that of a record of it, and what is said of a part of it.
 #[tactic(auto, unfolding(crate::specs::Names::of_job))]
 fn put_of_record(out: &mut Vec<u8>, job: u32, index: usize, text: &[u8]) -> Result<(), AllocError>
-    ensures { OnOk result (out.new.items ≡ out.old.items ++ of_job job (codes "record " ++ (decimal index ++ text.now))) }
+    ensures { OnOk result (out.new.items ≡ out.old.items
+        ++ of_job job (codes "record " ++ (decimal index ++ text.now))) }
 {
     put_of_job(out, job, b"record ")?;
     put_number(out, index)?;
@@ -121,7 +122,8 @@ fn put_of_record(out: &mut Vec<u8>, job: u32, index: usize, text: &[u8]) -> Resu
 // Appends the name of a record's shader.
 #[tactic(auto, unfolding(crate::specs::Names::of_job))]
 fn put_stage(out: &mut Vec<u8>, job: u32, index: usize, stage: Stage) -> Result<(), AllocError>
-    ensures { OnOk result (out.new.items ≡ out.old.items ++ part_text (Part.Shader job index stage)) }
+    ensures { OnOk result (out.new.items ≡ out.old.items
+        ++ part_text (Part.Shader job index stage)) }
 {
     put_of_record(out, job, index, b" ")?;
     out.extend_from_slice(stage_name(stage).as_bytes())
@@ -135,7 +137,8 @@ fn put_attribute(
     index: usize,
     attribute: usize,
 ) -> Result<(), AllocError>
-    ensures { OnOk result (out.new.items ≡ out.old.items ++ part_text (Part.Attribute job index attribute)) }
+    ensures { OnOk result (out.new.items ≡ out.old.items
+        ++ part_text (Part.Attribute job index attribute)) }
 {
     put_of_record(out, job, index, b" attribute ")?;
     put_number(out, attribute)

@@ -30,7 +30,8 @@ fn put_counted(
     what: &[u8],
     bytes: &[u8],
 ) -> Result<(), AllocError>
-    ensures { OnOk result (out.new.items ≡ out.old.items ++ counted job name.now count what.now bytes.now) }
+    ensures { OnOk result (out.new.items ≡ out.old.items
+        ++ counted job name.now count what.now bytes.now) }
 {
     put_of_job(out, job, name)?;
     put_number(out, count)?;

@@ -51,7 +51,8 @@ fn put_digits(
     word: &[u8],
 ) -> Result<(), Stop<MakeFault>>
     requires { column + length word.now < 2 ^ 64 }
-    ensures bytes { IfOk result (λ _. both (Ok out.old.items) (digits_read line column word.now) ≡ Ok out.new.items) }
+    ensures bytes { IfOk result (λ _. both (Ok out.old.items) (digits_read line column word.now)
+        ≡ Ok out.new.items) }
     ensures fault { IfErr result (IsFaultOf (digits_read line column word.now)) }
 {
     let mut rest = word;
@@ -77,8 +78,10 @@ fn put_number(
     text: &[u8],
 ) -> Result<(), Stop<MakeFault>>
     requires { size ≤ 4 }
-    ensures bytes { IfOk result (λ _. both (Ok out.old.items) (number_read line column size (number_named text.now)) ≡ Ok out.new.items) }
-    ensures fault { IfErr result (IsFaultOf (number_read line column size (number_named text.now))) }
+    ensures bytes { IfOk result (λ _. both (Ok out.old.items)
+        (number_read line column size (number_named text.now)) ≡ Ok out.new.items) }
+    ensures fault { IfErr result (IsFaultOf (number_read line column size
+        (number_named text.now))) }
 {
     if let Some(number) = number_named(text) {
         if number <= most_of(size) {
@@ -98,7 +101,8 @@ fn put_word(
     word: &[u8],
 ) -> Result<(), Stop<MakeFault>>
     requires { column + length word.now < 2 ^ 64 }
-    ensures bytes { IfOk result (λ _. both (Ok out.old.items) (word_read line column word.now) ≡ Ok out.new.items) }
+    ensures bytes { IfOk result (λ _. both (Ok out.old.items) (word_read line column word.now)
+        ≡ Ok out.new.items) }
     ensures fault { IfErr result (IsFaultOf (word_read line column word.now)) }
 {
     let cut = cut_at(word, b':');
@@ -109,7 +113,8 @@ fn put_word(
 }
 
 fn put_line(out: &mut Vec<u8>, line: usize, text: &[u8]) -> Result<(), Stop<MakeFault>>
-    ensures bytes { IfOk result (λ _. both (Ok out.old.items) (line_read line text.now) ≡ Ok out.new.items) }
+    ensures bytes { IfOk result (λ _. both (Ok out.old.items) (line_read line text.now)
+        ≡ Ok out.new.items) }
     ensures fault { IfErr result (IsFaultOf (line_read line text.now)) }
 {
     let mut rest = cut_at(text, b'#').first;
@@ -134,7 +139,8 @@ fn put_part(
     lines: &[u8],
 ) -> Result<(), Stop<MakeFault>>
     requires { line ≤ 2 ^ 63 }
-    ensures bytes { IfOk result (λ _. both (Ok out.old.items) (part_read line inside text.now (lines_of lines.now)) ≡ Ok out.new.items) }
+    ensures bytes { IfOk result (λ _. both (Ok out.old.items)
+        (part_read line inside text.now (lines_of lines.now)) ≡ Ok out.new.items) }
     ensures fault { IfErr result (IsFaultOf (part_read line inside text.now (lines_of lines.now))) }
 {
     if inside {

@@ -90,7 +90,8 @@ fn put_line(
     refused: Option<u64>,
     why: &[u8],
 ) -> Result<(), NoMemory>
-    ensures { OnOk result (out.new.items ≡ out.old.items ++ line_text at bytes.now note refused why.now) }
+    ensures { OnOk result (out.new.items ≡ out.old.items
+        ++ line_text at bytes.now note refused why.now) }
 {
     if bytes.is_empty() {
         return Ok(());
@@ -188,7 +189,8 @@ pub fn show(
     refused: Option<u64>,
     why: &[u8],
 ) -> Result<Vec<u8>, NoMemory>
-    ensures text { IfOk result (λ text. (pieces : List PieceModel) × (text.items ≡ shown bytes.now pieces refused why.now)) }
+    ensures text { IfOk result (λ text. (pieces : List PieceModel)
+        × (text.items ≡ shown bytes.now pieces refused why.now)) }
     ensures again { IfOk result (λ text. made text.items ≡ Ok bytes.now) }
 {
     let cuts = cuts_of(alloc, bytes)?;

@@ -30,7 +30,8 @@ use phys_mem::PhysMem;
 // The primitive of a packet that draws: an indexed one, or one whose vertices have the indexes from the first on.
 #[tactic(auto, unfolding(crate::proofs::Opened::binner, packets::specs::Length::bin_taken, packets::specs::Length::bin_length))]
 fn primitive_of(packet: &[u8]) -> Primitive
-    requires draws { (slice_index packet.now 0 ≡ indexed_primitive_list) ⊎ (slice_index packet.now 0 ≡ array_primitive_list) }
+    requires draws { (slice_index packet.now 0 ≡ indexed_primitive_list)
+        ⊎ (slice_index packet.now 0 ≡ array_primitive_list) }
     requires length { length packet.now ≡ bin_taken (slice_index packet.now 0) }
     ensures { result ≡ primitive_of packet.now }
 {
@@ -139,7 +140,8 @@ impl JobLists {
         accesses: &mut Accesses,
     )
         requires { array_vec_len accesses.old < 272 }
-        ensures shows { Carries who (clear_plan self.old config.now) memory.old memory.new accesses.old accesses.new (Some self.new) }
+        ensures shows { Carries who (clear_plan self.old config.now) memory.old memory.new
+            accesses.old accesses.new (Some self.new) }
         ensures len { array_vec_len accesses.new ≡ array_vec_len accesses.old + 1 }
     {
         write_zeros(
@@ -172,10 +174,12 @@ impl JobLists {
     // Opcodes 32 and 33 bring a primitive into work. False comes exactly where no state word is kept or
     // binning isn't started; then it is wild.
     fn draw(&mut self, packet: &[u8], who: Who, memory: &PhysMem, accesses: &mut Accesses) -> bool
-        requires draws { (slice_index packet.now 0 ≡ indexed_primitive_list) ⊎ (slice_index packet.now 0 ≡ array_primitive_list) }
+        requires draws { (slice_index packet.now 0 ≡ indexed_primitive_list)
+            ⊎ (slice_index packet.now 0 ≡ array_primitive_list) }
         requires length { length packet.now ≡ bin_taken (slice_index packet.now 0) }
         requires room { array_vec_len accesses.old < 272 }
-        ensures shows { CarriesOver who (draw_plan self.old packet.now) memory.now accesses.old accesses.new (if_tame result self.new) }
+        ensures shows { CarriesOver who (draw_plan self.old packet.now) memory.now accesses.old
+            accesses.new (if_tame result self.new) }
         ensures wild { result ≡ false → self.new ≡ self.old }
     {
         let kept = self.binner().kept;
@@ -233,7 +237,8 @@ impl JobLists {
     fn step_packet(&mut self, who: Who, memory: &mut PhysMem, accesses: &mut Accesses) -> bool
         requires below { self.old.binner.place < self.old.binner.end }
         requires room { array_vec_len accesses.old < 270 }
-        ensures shows { Carries who (read_plan self.old) memory.old memory.new accesses.old accesses.new (if_tame result self.new) }
+        ensures shows { Carries who (read_plan self.old) memory.old memory.new accesses.old
+            accesses.new (if_tame result self.new) }
         ensures wild { result ≡ false → self.new ≡ binner_ended self.old }
     {
         let place = self.binner().place;
@@ -269,7 +274,8 @@ impl JobLists {
     fn fetch_next(&mut self, work: &Work, who: Who, memory: &PhysMem, accesses: &mut Accesses)
         requires more { work.now.done < work.now.primitive.length }
         requires room { array_vec_len accesses.old < 240 }
-        ensures shows { CarriesOver who (next_plan self.old work.now) memory.now accesses.old accesses.new (Some (quiet self.new)) }
+        ensures shows { CarriesOver who (next_plan self.old work.now) memory.now accesses.old
+            accesses.new (Some (quiet self.new)) }
     {
         fetch_vertex(&work.primitive, work.word, work.done, who, memory, accesses);
         self.set_work(Some(one_done(work)));

@@ -44,7 +44,8 @@ fn read_index(
 ) -> u32
     requires indexed { primitive.now.indexed ≡ true }
     requires room { array_vec_len accesses.old < 240 }
-    ensures shows { CarriesOver who (index_plan primitive.now k) memory.now accesses.old accesses.new (Some result) }
+    ensures shows { CarriesOver who (index_plan primitive.now k) memory.now accesses.old
+        accesses.new (Some result) }
     ensures len { array_vec_len accesses.new ≡ array_vec_len accesses.old + 1 }
 {
     let size = index_size(primitive);
@@ -62,7 +63,8 @@ fn index_of(
     accesses: &mut Accesses,
 ) -> u32
     requires { array_vec_len accesses.old < 240 }
-    ensures shows { CarriesOver who (index_plan primitive.now k) memory.now accesses.old accesses.new (Some result) }
+    ensures shows { CarriesOver who (index_plan primitive.now k) memory.now accesses.old
+        accesses.new (Some result) }
     ensures len { array_vec_len accesses.new ≤ array_vec_len accesses.old + 1 }
 {
     if primitive.indexed {
@@ -149,7 +151,8 @@ fn fetch_data(
 )
     requires length { length attribute.now ≡ 8 }
     requires room { array_vec_len accesses.old < 272 }
-    ensures shows { CarriesOver who (data_plan attribute.now extension index) memory.now accesses.old accesses.new (Some index) }
+    ensures shows { CarriesOver who (data_plan attribute.now extension index) memory.now
+        accesses.old accesses.new (Some index) }
     ensures len { array_vec_len accesses.new ≡ array_vec_len accesses.old + 1 }
 {
     let place = data_place(attribute, extension, index);
@@ -169,7 +172,8 @@ fn fetch_extended(
     requires number { t < 8 }
     requires length { length attribute.now ≡ 8 }
     requires room { array_vec_len accesses.old ≤ 270 }
-    ensures shows { CarriesOver who (extended_plan word index t attribute.now) memory.now accesses.old accesses.new (Some index) }
+    ensures shows { CarriesOver who (extended_plan word index t attribute.now) memory.now
+        accesses.old accesses.new (Some index) }
     ensures len { array_vec_len accesses.new ≤ array_vec_len accesses.old + 2 }
 {
     if is_extended(word) {
@@ -191,7 +195,8 @@ fn fetch_attribute(
 )
     requires number { t < 8 }
     requires room { array_vec_len accesses.old < 269 }
-    ensures shows { CarriesOver who (attribute_plan word index t) memory.now accesses.old accesses.new (Some index) }
+    ensures shows { CarriesOver who (attribute_plan word index t) memory.now accesses.old
+        accesses.new (Some index) }
     ensures len { array_vec_len accesses.new ≤ array_vec_len accesses.old + 3 }
 {
     let attribute = read_listed(attribute_place(word, t), 8, who, memory, accesses);
@@ -202,7 +207,8 @@ fn fetch_attribute(
 #[tactic(auto, using(crate::proofs::Fetching::attributes_begin, crate::proofs::Fetching::attributes_more, crate::proofs::Fetching::attributes_end))]
 fn fetch_attributes(word: u32, index: u32, who: Who, memory: &PhysMem, accesses: &mut Accesses)
     requires { array_vec_len accesses.old < 241 }
-    ensures shows { CarriesOver who (all_attributes_plan word index) memory.now accesses.old accesses.new (Some index) }
+    ensures shows { CarriesOver who (all_attributes_plan word index) memory.now accesses.old
+        accesses.new (Some index) }
     ensures len { array_vec_len accesses.new ≤ array_vec_len accesses.old + 24 }
 {
     for t in 0..attribute_count(word) {
@@ -220,7 +226,8 @@ fn fetch_indexed(
     accesses: &mut Accesses,
 )
     requires { array_vec_len accesses.old < 241 }
-    ensures shows { CarriesOver who (indexed_plan primitive.now word index) memory.now accesses.old accesses.new (Some index) }
+    ensures shows { CarriesOver who (indexed_plan primitive.now word index) memory.now accesses.old
+        accesses.new (Some index) }
     ensures len { array_vec_len accesses.new ≤ array_vec_len accesses.old + 24 }
 {
     if !draws_nothing(primitive, index) {
@@ -240,7 +247,8 @@ pub(crate) fn fetch_vertex(
     accesses: &mut Accesses,
 ) -> u32
     requires { array_vec_len accesses.old < 240 }
-    ensures shows { CarriesOver who (fetch_plan primitive.now word k) memory.now accesses.old accesses.new (Some result) }
+    ensures shows { CarriesOver who (fetch_plan primitive.now word k) memory.now accesses.old
+        accesses.new (Some result) }
     ensures len { array_vec_len accesses.new ≤ array_vec_len accesses.old + 25 }
 {
     let index = index_of(primitive, k, who, memory, accesses);

@@ -39,7 +39,8 @@ fn fetch_item<C: Choices>(
     accesses: &mut Accesses,
 )
     requires { array_vec_len accesses.old ≤ 8 }
-    ensures { (s : Lists) → CarriesOver who (vertex_plan s item.now (C.listed words.now)) memory.now accesses.old accesses.new (Some (quiet s)) }
+    ensures { (s : Lists) → CarriesOver who (vertex_plan s item.now (C.listed words.now)) memory.now
+        accesses.old accesses.new (Some (quiet s)) }
 {
     let length = item.primitive.length;
     if length != 0 {

@@ -57,7 +57,8 @@ impl JobLists {
         render_place: u32,
         render_len: u32,
     ) -> Result<JobLists, NoMemory>
-        ensures { IfOk result (λ lists. lists ≡ lists_start bin_place bin_len render_place render_len) }
+        ensures { IfOk result (λ lists. lists
+            ≡ lists_start bin_place bin_len render_place render_len) }
     {
         let items = Vec::with_capacity(alloc, MOST_ITEMS)?;
         let spots = vec![in alloc; NO_SPOT; MOST_TILES]?;

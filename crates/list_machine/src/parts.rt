@@ -67,7 +67,8 @@ fn write_parts<C: Choices>(
 )
     requires small { IsSmall cover.now }
     requires room { array_vec_len accesses.old ≤ 8 }
-    ensures { Stores who (parts_written cover.now (C.listed words.now) 0 (part_count cover.now)) memory.old memory.new accesses.old accesses.new true }
+    ensures { Stores who (parts_written cover.now (C.listed words.now) 0 (part_count cover.now))
+        memory.old memory.new accesses.old accesses.new true }
 {
     for i in 0..part_count(cover) {
         let place = part_place(cover, i);
@@ -80,7 +81,8 @@ fn write_parts<C: Choices>(
 fn read_parts(cover: &Cover, who: Who, accesses: &mut Accesses)
     requires small { IsSmall cover.now }
     requires room { array_vec_len accesses.old ≤ 8 }
-    ensures { Loads who (parts_read cover.now 0 (part_count cover.now)) accesses.old accesses.new true }
+    ensures { Loads who (parts_read cover.now 0 (part_count cover.now)) accesses.old
+        accesses.new true }
 {
     for i in 0..part_count(cover) {
         list_access(who, Way::Read, part_place(cover, i), cover.size, accesses);
@@ -97,7 +99,8 @@ fn write_cover<C: Choices>(
 ) -> bool
     requires small { IfSome cover IsSmall }
     requires room { array_vec_len accesses.old ≤ 8 }
-    ensures { Stores who (cover_written cover (C.listed words.now)) memory.old memory.new accesses.old accesses.new result }
+    ensures { Stores who (cover_written cover (C.listed words.now)) memory.old memory.new
+        accesses.old accesses.new result }
 {
     match cover {
         Some(cover) => {
@@ -162,7 +165,8 @@ pub(crate) fn store_general<C: Choices>(
 /// Loads tile (x, y) by general bits. False comes exactly where that is wild.
 fn load_general(bits: u16, address: u32, tile: Tile, who: Who, accesses: &mut Accesses) -> bool
     requires { array_vec_len accesses.old ≤ 8 }
-    ensures { Loads who (general_read bits address tile.frame tile.x tile.y) accesses.old accesses.new result }
+    ensures { Loads who (general_read bits address tile.frame tile.x tile.y) accesses.old
+        accesses.new result }
 {
     if names_none(bits) {
         return true;
@@ -181,7 +185,8 @@ pub(crate) fn store_frame<C: Choices>(
     accesses: &mut Accesses,
 ) -> bool
     requires { array_vec_len accesses.old ≤ 8 }
-    ensures { Stores who (frame_written tile.frame tile.x tile.y (C.listed words.now)) memory.old memory.new accesses.old accesses.new result }
+    ensures { Stores who (frame_written tile.frame tile.x tile.y (C.listed words.now)) memory.old
+        memory.new accesses.old accesses.new result }
 {
     match tile.frame {
         None => end_wild(who, accesses),
@@ -203,7 +208,8 @@ pub(crate) fn store_whole<C: Choices>(
     accesses: &mut Accesses,
 )
     requires { array_vec_len accesses.old ≤ 8 }
-    ensures { Stores who (whole_written address (C.listed words.now)) memory.old memory.new accesses.old accesses.new true }
+    ensures { Stores who (whole_written address (C.listed words.now)) memory.old memory.new
+        accesses.old accesses.new true }
 {
     let place = aligned(address) as u64;
     store_chosen(memory, place, words, 0, WHOLE_SIZE);
@@ -218,7 +224,8 @@ pub(crate) fn load_waiting(
     accesses: &mut Accesses,
 ) -> bool
     requires { array_vec_len accesses.old ≤ 8 }
-    ensures { Loads who (waiting_read waiting tile.frame tile.x tile.y) accesses.old accesses.new result }
+    ensures { Loads who (waiting_read waiting tile.frame tile.x tile.y) accesses.old
+        accesses.new result }
 {
     match waiting {
         None => true,

@@ -75,7 +75,8 @@ impl JobLists {
     /// Goes into the list of this tile. False comes exactly where there is none, which is wild.
     fn enter(&mut self, tile: Option<u32>, who: Who, accesses: &mut Accesses) -> bool
         requires { array_vec_len accesses.old ≤ 8 }
-        ensures shows { CarriesAnywhere who (enter_plan self.old tile) accesses.old accesses.new (if_tame result self.new) }
+        ensures shows { CarriesAnywhere who (enter_plan self.old tile) accesses.old accesses.new
+            (if_tame result self.new) }
         ensures same { result ≡ false → self.new ≡ self.old }
     {
         match tile {
@@ -102,7 +103,8 @@ impl JobLists {
     #[tactic(auto, unfolding(crate::specs::Renderer::branch_plan))]
     fn branch(&mut self, address: u32, who: Who, accesses: &mut Accesses) -> bool
         requires { array_vec_len accesses.old ≤ 8 }
-        ensures shows { CarriesAnywhere who (branch_plan self.old address) accesses.old accesses.new (if_tame result self.new) }
+        ensures shows { CarriesAnywhere who (branch_plan self.old address) accesses.old accesses.new
+            (if_tame result self.new) }
         ensures same { result ≡ false → self.new ≡ self.old }
     {
         if !self.is_closed() {
@@ -130,7 +132,8 @@ impl JobLists {
     #[tactic(auto, unfolding(crate::specs::Renderer::tile_plan))]
     fn name_tile(&mut self, x: u8, y: u8, who: Who, accesses: &mut Accesses) -> bool
         requires { array_vec_len accesses.old ≤ 8 }
-        ensures shows { CarriesAnywhere who (tile_plan self.old x y) accesses.old accesses.new (if_tame result self.new) }
+        ensures shows { CarriesAnywhere who (tile_plan self.old x y) accesses.old accesses.new
+            (if_tame result self.new) }
         ensures same { result ≡ false → self.new ≡ self.old }
     {
         let kept = self.renderer();

@@ -44,7 +44,8 @@ fn read_launch(
     accesses: &mut Accesses,
 ) -> Launch
     requires { array_vec_len accesses.old < 260 }
-    ensures shows { CarriesOver who (launch_plan program threaded word) memory.now accesses.old accesses.new (Some (Some result)) }
+    ensures shows { CarriesOver who (launch_plan program threaded word) memory.now accesses.old
+        accesses.new (Some (Some result)) }
     ensures len { array_vec_len accesses.new ≡ array_vec_len accesses.old + 3 }
 {
     let base = record_place(word);
@@ -71,7 +72,8 @@ fn start_as(
     accesses: &mut Accesses,
 ) -> Option<Launch>
     requires { array_vec_len accesses.old < 260 }
-    ensures shows { CarriesOver who (start_as program threaded free.now word) memory.now accesses.old accesses.new (Some result) }
+    ensures shows { CarriesOver who (start_as program threaded free.now word) memory.now
+        accesses.old accesses.new (Some result) }
     ensures len { array_vec_len accesses.new ≤ array_vec_len accesses.old + 3 }
 {
     if !can_start(threaded, free) {
@@ -101,7 +103,8 @@ pub(crate) fn start_program(
     accesses: &mut Accesses,
 ) -> Option<Launch>
     requires { array_vec_len accesses.old < 260 }
-    ensures shows { CarriesOver who (start_plan program free.now word) memory.now accesses.old accesses.new (Some result) }
+    ensures shows { CarriesOver who (start_plan program free.now word) memory.now accesses.old
+        accesses.new (Some result) }
     ensures len { array_vec_len accesses.new ≤ array_vec_len accesses.old + 3 }
 {
     match program {

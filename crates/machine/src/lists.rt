@@ -39,7 +39,8 @@ impl Machine {
 
     /// Whether the binner may step.
     pub(crate) fn binner_may(&self) -> bool
-        ensures { result ≡ glanced (binner_may self.now.units (binner_job self.now.units)) self.now.memory }
+        ensures { result ≡ glanced (binner_may self.now.units (binner_job self.now.units))
+            self.now.memory }
     {
         match self.binner_job() {
             None => false,
@@ -62,8 +63,10 @@ impl Machine {
     /// The binner's turn, for its job; without one it does nothing.
     pub(crate) fn take_binner_turn<C: Choices>(&mut self, words: &C, accesses: &mut Accesses)
         requires empty { accesses.old.items ≡ [] }
-        requires may { IsTrue (glanced (binner_may self.old.units (binner_job self.old.units)) self.old.memory) }
-        ensures { Moves (turned self.old (binner_turn self.old.units (binner_job self.old.units) (C.listed words.now))) accesses.new.items self.new }
+        requires may { IsTrue (glanced (binner_may self.old.units (binner_job self.old.units))
+            self.old.memory) }
+        ensures { Moves (turned self.old (binner_turn self.old.units (binner_job self.old.units)
+            (C.listed words.now))) accesses.new.items self.new }
     {
         if let Some(job) = self.binner_job() {
             self.bin(job, words, accesses);
@@ -74,7 +77,8 @@ impl Machine {
     fn bin<C: Choices>(&mut self, job: usize, words: &C, accesses: &mut Accesses)
         requires empty { accesses.old.items ≡ [] }
         requires within { job < length self.old.units.jobs }
-        requires ready { IsTrue (glanced (binner_ready (job_at self.old.units.jobs job) (free_in self.old.units.qpus)) self.old.memory) }
+        requires ready { IsTrue (glanced (binner_ready (job_at self.old.units.jobs job)
+            (free_in self.old.units.qpus)) self.old.memory) }
         ensures { let picked = Some (picked_in self.old.units.jobs job) in
             Moves (turned self.old (binner_turn self.old.units picked (C.listed words.now))) accesses.new.items self.new }
     {
@@ -92,8 +96,10 @@ impl Machine {
     /// The renderer's turn, for its job; without one it does nothing.
     pub(crate) fn take_renderer_turn<C: Choices>(&mut self, words: &C, accesses: &mut Accesses)
         requires empty { accesses.old.items ≡ [] }
-        requires may { IsTrue (glanced (renderer_may (renderer_job self.old.units)) self.old.memory) }
-        ensures { Moves (turned self.old (renderer_turn self.old.units (renderer_job self.old.units) (C.listed words.now))) accesses.new.items self.new }
+        requires may { IsTrue (glanced (renderer_may (renderer_job self.old.units))
+            self.old.memory) }
+        ensures { Moves (turned self.old (renderer_turn self.old.units (renderer_job self.old.units)
+            (C.listed words.now))) accesses.new.items self.new }
     {
         if let Some(job) = self.renderer_job() {
             self.render(job, words, accesses);
@@ -104,7 +110,8 @@ impl Machine {
     fn render<C: Choices>(&mut self, job: usize, words: &C, accesses: &mut Accesses)
         requires empty { accesses.old.items ≡ [] }
         requires within { job < length self.old.units.jobs }
-        requires ready { IsTrue (glanced (renderer_ready (job_at self.old.units.jobs job)) self.old.memory) }
+        requires ready { IsTrue (glanced (renderer_ready (job_at self.old.units.jobs job))
+            self.old.memory) }
         ensures { let picked = Some (picked_in self.old.units.jobs job) in
             Moves (turned self.old (renderer_turn self.old.units picked (C.listed words.now))) accesses.new.items self.new }
     {

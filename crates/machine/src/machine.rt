@@ -72,7 +72,8 @@ impl Machine {
 
     /// The job for which the binner steps: the least one with work left for it.
     pub(crate) fn binner_job(&self) -> Option<usize>
-        ensures value { binner_job self.now.units ≡ option_map (picked_in self.now.units.jobs) result }
+        ensures value { binner_job self.now.units
+            ≡ option_map (picked_in self.now.units.jobs) result }
         ensures within { IfSome result (λ job. (job < length self.now.units.jobs) × (job < 8)) }
     {
         self.binner_place()
@@ -88,7 +89,8 @@ impl Machine {
 
     /// The job for which the renderer steps: the least one with work left for it.
     pub(crate) fn renderer_job(&self) -> Option<usize>
-        ensures value { renderer_job self.now.units ≡ option_map (picked_in self.now.units.jobs) result }
+        ensures value { renderer_job self.now.units
+            ≡ option_map (picked_in self.now.units.jobs) result }
         ensures within { IfSome result (λ job. (job < length self.now.units.jobs) × (job < 8)) }
     {
         self.renderer_place()
@@ -139,7 +141,9 @@ impl Machine {
         ensures refused { enabled self.old unit ≡ false → result ≡ Stepped.NotEnabled }
         ensures same { result ≡ Stepped.NotEnabled → self.new ≡ self.old }
         ensures emptied { result ≡ Stepped.NotEnabled → accesses.new.items ≡ [] }
-        ensures moved { result ≡ Stepped.Done → Moves (step self.old (record { unit = unit; words = words.now })) accesses.new.items self.new }
+        ensures moved { result ≡ Stepped.Done
+            → Moves (step self.old (record { unit = unit; words = words.now }))
+            accesses.new.items self.new }
     {
         self.step_by(unit, &words, accesses)
     }
@@ -156,7 +160,9 @@ impl Machine {
         ensures refused { enabled self.old unit ≡ false → result ≡ Stepped.NotEnabled }
         ensures same { result ≡ Stepped.NotEnabled → self.new ≡ self.old }
         ensures emptied { result ≡ Stepped.NotEnabled → accesses.new.items ≡ [] }
-        ensures moved { result ≡ Stepped.Done → Moves (step self.old (record { unit = unit; words = C.listed words.now })) accesses.new.items self.new }
+        ensures moved { result ≡ Stepped.Done
+            → Moves (step self.old (record { unit = unit; words = C.listed words.now }))
+            accesses.new.items self.new }
     {
         accesses.clear();
         if !self.enabled(unit) {
@@ -171,7 +177,8 @@ impl Machine {
     fn take_turn<C: Choices>(&mut self, unit: Actor, words: &C, accesses: &mut Accesses)
         requires empty { accesses.old.items ≡ [] }
         requires may { IsTrue (enabled self.old unit) }
-        ensures { Moves (step self.old (record { unit = unit; words = C.listed words.now })) accesses.new.items self.new }
+        ensures { Moves (step self.old (record { unit = unit; words = C.listed words.now }))
+            accesses.new.items self.new }
     {
         match unit {
             Actor::Binner => self.take_binner_turn(words, accesses),

@@ -63,7 +63,8 @@ impl Machine {
     pub(crate) fn take_qpu_turn<C: Choices>(&mut self, k: u8, words: &C, accesses: &mut Accesses)
         requires empty { accesses.old.items ≡ [] }
         requires may { IsTrue (glanced (qpu_may (item_at self.old.units.qpus k)) self.old.memory) }
-        ensures { Moves (turned self.old (qpu_turn self.old.units k (item_at self.old.units.qpus k) (C.listed words.now))) accesses.new.items self.new }
+        ensures { Moves (turned self.old (qpu_turn self.old.units k (item_at self.old.units.qpus k)
+            (C.listed words.now))) accesses.new.items self.new }
     {
         let who = Who {
             unit: Actor::Qpu(k),
@@ -87,8 +88,10 @@ impl Machine {
         accesses: &mut Accesses,
     )
         requires empty { accesses.old.items ≡ [] }
-        requires may { IsTrue (glanced (tmu_may (item_at self.old.units.qpus k) n) self.old.memory) }
-        ensures { Moves (turned self.old (tmu_turn self.old.units k n (item_at self.old.units.qpus k) (C.listed words.now))) accesses.new.items self.new }
+        requires may { IsTrue (glanced (tmu_may (item_at self.old.units.qpus k) n)
+            self.old.memory) }
+        ensures { Moves (turned self.old (tmu_turn self.old.units k n
+            (item_at self.old.units.qpus k) (C.listed words.now))) accesses.new.items self.new }
     {
         let who = Who {
             unit: Actor::Tmu(k, n),

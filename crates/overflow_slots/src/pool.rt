@@ -94,7 +94,8 @@ impl Pool {
     pub fn begin(&mut self, job: u8, tiles: u32) -> Result<u32, u8>
         requires job { job < 32 }
         requires tiles { tiles ≤ 65025 }
-        ensures answers { Answers (λ run. begin_answer run job tiles) (Begin job tiles) result self.old self.new }
+        ensures answers { Answers (λ run. begin_answer run job tiles) (Begin job tiles) result
+            self.old self.new }
         ensures same { IsErr result → self.new ≡ self.old }
     {
         if self.newest[job as usize] != 0 {
@@ -136,7 +137,8 @@ impl Pool {
     /// nothing.
     pub fn overflow(&mut self, job: u8) -> Result<u32, u8>
         requires { job < 32 }
-        ensures answers { Answers (λ run. overflow_answer run job) (Overflow job) result self.old self.new }
+        ensures answers { Answers (λ run. overflow_answer run job) (Overflow job) result
+            self.old self.new }
         ensures same { IsErr result → self.new ≡ self.old }
     {
         if self.newest[job as usize] == 0 {

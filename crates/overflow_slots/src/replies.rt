@@ -50,7 +50,8 @@ fn put_block(out: &mut String, answer: Result<Block, u8>) -> Result<(), AllocErr
 #[tactic(auto, unfolding(crate::specs::Text::line_of))]
 fn put_answer(out: &mut String, pool: &mut Pool, call: Call) -> Result<(), AllocError>
     requires { IsInRange call }
-    ensures line { (run : Run) → Agrees run pool.old → OnOk result (Adds out.old out.new (line_of run call)) }
+    ensures line { (run : Run) → Agrees run pool.old
+        → OnOk result (Adds out.old out.new (line_of run call)) }
     ensures kept { (run : Run) → Agrees run pool.old → Agrees (after run call) pool.new }
 {
     match call {
@@ -100,7 +101,8 @@ pub fn script(alloc: Global, slots: u32, text: &[u8]) -> Result<Vec<u8>, Stop<u3
     requires some { 1 ≤ slots }
     requires few { slots ≤ 32 }
     requires length { length text.now < 2 ^ 32 }
-    ensures answers { IfOk result (λ bytes. (fault_line text.now ≡ None) × (bytes.items ≡ replies slots text.now)) }
+    ensures answers { IfOk result (λ bytes. (fault_line text.now ≡ None)
+        × (bytes.items ≡ replies slots text.now)) }
     ensures fault { IfErr result (IsScriptFault (fault_line text.now)) }
 {
     let mut pool = Pool::new(slots);

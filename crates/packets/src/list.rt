@@ -57,7 +57,8 @@ fn put_rendering_mode(
     bits: u16,
 ) -> usize
     requires room { at + 11 ≤ length out.old }
-    ensures text { out.new ≡ with_bytes out.old at (tile_rendering_mode ∷ (word address ++ (half width ++ (half height ++ half bits)))) }
+    ensures text { out.new ≡ with_bytes out.old at
+        (tile_rendering_mode ∷ (word address ++ (half width ++ (half height ++ half bits)))) }
     ensures end { result ≡ at + 11 }
 {
     let [a0, a1, a2, a3] = address.to_le_bytes();
@@ -81,7 +82,8 @@ fn put_clear_colors(
     stencil: u8,
 ) -> usize
     requires room { at + 14 ≤ length out.old }
-    ensures text { out.new ≡ with_bytes out.old at (clear_colors ∷ (word first ++ (word second ++ (word z ++ (stencil ∷ []))))) }
+    ensures text { out.new ≡ with_bytes out.old at
+        (clear_colors ∷ (word first ++ (word second ++ (word z ++ (stencil ∷ []))))) }
     ensures end { result ≡ at + 14 }
 {
     let [f0, f1, f2, f3] = first.to_le_bytes();

@@ -115,7 +115,8 @@ fn packet_of(bytes: &[u8]) -> Option<Packet>
 pub fn decode(bytes: &[u8]) -> Option<Packet>
     requires { length bytes.now ≡ render_taken (slice_index bytes.now 0) }
     ensures value { result ≡ decoded bytes.now }
-    ensures again { (packet : Packet) → Fits packet → bytes.now ≡ packet_text packet → result ≡ Some packet }
+    ensures again { (packet : Packet) → Fits packet → bytes.now ≡ packet_text packet
+        → result ≡ Some packet }
 {
     packet_of(bytes)
 }

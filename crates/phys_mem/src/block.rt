@@ -17,7 +17,8 @@ pub(crate) fn take<A: Allocator>(
     size: usize,
 ) -> Result<(Vec<u8, Lodged>, Deed<A>), AllocError>
     requires { size < 2 ^ 63 }
-    ensures { IfOk result (λ r. (r.0.items ≡ []) × (r.0.cap ≡ size) × (r.1.ptr ≡ r.0.ptr) × (r.1.size ≡ size) × (r.1.alloc ≡ alloc.now)) }
+    ensures { IfOk result (λ r. (r.0.items ≡ []) × (r.0.cap ≡ size) × (r.1.ptr ≡ r.0.ptr)
+        × (r.1.size ≡ size) × (r.1.alloc ≡ alloc.now)) }
 {
     match alloc.allocate(size, 1) {
         Ok(ptr) => Ok((unsafe { lodge(ptr, 0, size) }, Deed { by: PhantomData })),
@@ -28,7 +29,8 @@ pub(crate) fn take<A: Allocator>(
 /// Writes zeros over the whole room, once.
 pub(crate) fn fill(bytes: &mut Vec<u8, Lodged>, size: usize)
     requires { (bytes.old.items ≡ []) × (bytes.old.cap ≡ size) }
-    ensures { (bytes.new.items ≡ replicate size 0) × (bytes.new.cap ≡ bytes.old.cap) × (bytes.new.ptr ≡ bytes.old.ptr) }
+    ensures { (bytes.new.items ≡ replicate size 0) × (bytes.new.cap ≡ bytes.old.cap)
+        × (bytes.new.ptr ≡ bytes.old.ptr) }
 {
     for _ in 0..size {
         bytes.push_reserved(0);
@@ -54,7 +56,8 @@ pub(crate) fn show(contents: &Contents, ptr: *mut u8, len: usize) -> &[u8]
 
 /// Lends `len` bytes for writing, from the place `from` on.
 pub(crate) fn lend(contents: &mut Contents, ptr: *mut u8, from: usize, len: usize) -> &mut [u8]
-    requires { (contents.old.at ≡ ptr) × (from + len ≤ length contents.old.bytes) × (from + len < 2 ^ 63) }
+    requires { (contents.old.at ≡ ptr) × (from + len ≤ length contents.old.bytes)
+        × (from + len < 2 ^ 63) }
     ensures* writes_back { sem 𝓛 (LendsPart contents.entry from result) }
     ensures value { result.now ≡ window_of contents.old.bytes from len }
 {
@@ -69,7 +72,8 @@ pub(crate) fn give<A: Allocator>(
     contents: Contents,
     deed: Deed<A>,
 )
-    requires { (contents.at ≡ ptr) × (length contents.bytes ≡ size) × (deed.ptr ≡ ptr) × (deed.size ≡ size) × (deed.alloc ≡ alloc.now) }
+    requires { (contents.at ≡ ptr) × (length contents.bytes ≡ size) × (deed.ptr ≡ ptr)
+        × (deed.size ≡ size) × (deed.alloc ≡ alloc.now) }
 {
     let Contents {} = contents;
     let Deed { by: _ } = deed;

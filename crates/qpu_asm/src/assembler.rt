@@ -45,8 +45,10 @@ fn put_line<'a>(
     number: u32,
 ) -> Result<(), Stop<AsmFault>>
     requires { vec_len words.old < 2 ^ 32 }
-    ensures words { IfOk result (λ _. line_words (spots_in labels.now) number words.old.items (line_seen line.entry) ≡ Ok words.new.items) }
-    ensures fault { IfErr result (IsFaultOf (line_words (spots_in labels.now) number words.old.items (line_seen line.entry))) }
+    ensures words { IfOk result (λ _. line_words (spots_in labels.now) number words.old.items
+        (line_seen line.entry) ≡ Ok words.new.items) }
+    ensures fault { IfErr result (IsFaultOf (line_words (spots_in labels.now) number words.old.items
+        (line_seen line.entry))) }
     ensures more { IfOk result (λ _. vec_len words.new ≤ vec_len words.old + 1) }
 {
     match line {

@@ -113,7 +113,8 @@ fn put_field(out: &mut Vec<u8>, row: &Row, value: u64) -> Result<(), AllocError>
 
 #[tactic(auto, unfolding(crate::specs::Printed::item_text))]
 fn put_item(out: &mut Vec<u8>, row: &Row, value: u64) -> Result<(), AllocError>
-    ensures { OnOk result (out.new.items ≡ out.old.items ++ 32 ∷ item_text (row_seen row.now) value) }
+    ensures { OnOk result (out.new.items ≡ out.old.items ++ 32
+        ∷ item_text (row_seen row.now) value) }
 {
     out.extend_from_slice(b" ")?;
     out.extend_from_slice(row.name)?;
@@ -136,7 +137,8 @@ fn put_value(out: &mut Vec<u8>, row: &Row, value: u64) -> Result<(), AllocError>
 
 #[tactic(auto, unfolding(crate::specs::Printed::name_of))]
 fn name_of(named: &[Named], value: u64) -> Option<&'static [u8]>
-    ensures { MatchOption result (name_in (map named_seen named.now) value ≡ None) (λ name. name_in (map named_seen named.now) value ≡ Some name.now) }
+    ensures { MatchOption result (name_in (map named_seen named.now) value ≡ None)
+        (λ name. name_in (map named_seen named.now) value ≡ Some name.now) }
 {
     let mut rest = named;
     while let Some((one, others)) = rest.split_first() {

@@ -41,7 +41,11 @@ impl Partial {
     /// An instruction of a kind of which no item has been read.
     pub fn of(kind: Kind) -> Partial
         requires { IsOpen kind.above (rows_seen kind.rows.now) }
-        ensures { result ≡ record { word = kind.above; rows = rows_seen kind.rows.now; fault = None } }
+        ensures { result ≡ record {
+          word = kind.above;
+          rows = rows_seen kind.rows.now;
+          fault = None;
+        } }
     {
         Partial {
             word: kind.above,
@@ -72,7 +76,8 @@ impl Partial {
 /// The word of an instruction, or the least of its faults.
 #[tactic(auto, unfolding(crate::specs::Walk::code_of))]
 pub fn read_code<'a>(labels: &Labels<'a>, index: u32, code: Cut<'a>) -> Result<u64, Mistake>
-    ensures { result ≡ code_of (spots_in labels.now) index code.entry.first.now (words_of code.entry.rest.now) }
+    ensures { result ≡ code_of (spots_in labels.now) index code.entry.first.now
+        (words_of code.entry.rest.now) }
 {
     match kind_named(code.first) {
         Some(kind) => read_items(labels, index, kind, code.rest),
@@ -82,7 +87,8 @@ pub fn read_code<'a>(labels: &Labels<'a>, index: u32, code: Cut<'a>) -> Result<u
 
 #[tactic(auto, unfolding(crate::specs::Items::kind_named))]
 pub fn kind_named(word: &[u8]) -> Option<Kind>
-    ensures { MatchOption result (kind_by word.now ≡ None) (λ kind. kind_by word.now ≡ Some (kind_seen kind)) }
+    ensures { MatchOption result (kind_by word.now ≡ None)
+        (λ kind. kind_by word.now ≡ Some (kind_seen kind)) }
 {
     if word == b"nop".as_slice() {
         Some(NOP_KIND)
@@ -129,7 +135,8 @@ fn closed_word(partial: Partial) -> Result<u64, Mistake>
 #[tactic(auto, using(crate::proofs::Reading::default_narrow))]
 fn with_defaults(word: u64, rows: &[Row]) -> u64
     requires { IsOpen word (rows_seen rows.now) }
-    ensures { result ≡ joined word (widths_of (rows_seen rows.now)) (fallbacks_of (rows_seen rows.now)) }
+    ensures { result ≡ joined word (widths_of (rows_seen rows.now))
+        (fallbacks_of (rows_seen rows.now)) }
 {
     let mut rest = rows;
     let mut word = word;
@@ -201,7 +208,8 @@ fn put_named<'a>(
     partial: Partial,
     cut: Cut<'a>,
 ) -> Partial
-    ensures { result ≡ named_read (spots_in labels.now) index (rows_seen all.now) partial cut.entry.first.now cut.entry.rest.now }
+    ensures { result ≡ named_read (spots_in labels.now) index (rows_seen all.now) partial
+        cut.entry.first.now cut.entry.rest.now }
 {
     if has_row(cut.first, partial.rows) {
         let (word, rows) = (partial.word, partial.rows);
@@ -212,7 +220,8 @@ fn put_named<'a>(
 
 // A name that the kind of instruction has is repeated or out of order; another is unknown.
 fn mistake_of(name: &[u8], all: &[Row]) -> Mistake
-    ensures { result ≡ (if row_among name.now (rows_seen all.now) then BadOperand else UnknownWord) }
+    ensures { result ≡ (if row_among name.now (rows_seen all.now) then BadOperand else
+        UnknownWord) }
 {
     if has_row(name, all) {
         Mistake::BadOperand
@@ -231,7 +240,8 @@ fn skip_to<'a>(
     cut: Cut<'a>,
 ) -> Partial
     requires { IsOpen word (rows_seen rows.now) }
-    ensures { result ≡ skipped cut.entry.first.now (value_seen (spots_in labels.now) index cut.entry) fault word (rows_seen rows.now) }
+    ensures { result ≡ skipped cut.entry.first.now
+        (value_seen (spots_in labels.now) index cut.entry) fault word (rows_seen rows.now) }
 {
     let mut rest = rows;
     let mut word = word;
@@ -259,7 +269,8 @@ fn with_value(
 ) -> Partial
     requires still { IsOpen word (row_seen row.now ∷ rows_seen later.now) }
     requires small { IfOk read (λ value. value < 2 ^ row.now.width) }
-    ensures { result ≡ valued (row_seen row.now) (record { word = word; rows = rows_seen later.now; fault = fault }) read }
+    ensures { result ≡ valued (row_seen row.now)
+        (record { word = word; rows = rows_seen later.now; fault = fault }) read }
 {
     match read {
         Ok(value) => with_field(fault, word, row, later, value),
@@ -282,7 +293,12 @@ fn with_field(
 ) -> Partial
     requires still { IsOpen word (row_seen row.now ∷ rows_seen later.now) }
     requires small { value < 2 ^ row.now.width }
-    ensures { result ≡ record { word = word * 2 ^ row.now.width + value; rows = rows_seen later.now; fault = fault } }
+    ensures { result ≡ record {
+      word = word * 2 ^ row.now.width
+          + value;
+      rows = rows_seen later.now;
+      fault = fault;
+    } }
 {
     Partial {
         word: append(word, row.width, value),

@@ -60,7 +60,8 @@ fn size(line: Line<'_>) -> u64
 
 // Puts the label of a line, where it has one that is new, to those of the lines above it.
 fn add_line<'a>(labels: &mut Labels<'a>, line: Line<'a>, spot: Spot) -> Result<(), AllocError>
-    ensures { OnOk result (spots_in labels.new ≡ spots_with (spots_in labels.old) spot.line spot.index (line_seen line.entry)) }
+    ensures { OnOk result (spots_in labels.new
+        ≡ spots_with (spots_in labels.old) spot.line spot.index (line_seen line.entry)) }
 {
     match line {
         Line::Label(name) => add_label(labels, name, spot),
@@ -69,7 +70,8 @@ fn add_line<'a>(labels: &mut Labels<'a>, line: Line<'a>, spot: Spot) -> Result<(
 }
 
 fn add_label<'a>(labels: &mut Labels<'a>, name: &'a [u8], spot: Spot) -> Result<(), AllocError>
-    ensures { OnOk result (spots_in labels.new ≡ spots_with (spots_in labels.old) spot.line spot.index (Label name.now)) }
+    ensures { OnOk result (spots_in labels.new
+        ≡ spots_with (spots_in labels.old) spot.line spot.index (Label name.now)) }
 {
     match find_spot(labels, name) {
         Some(_) => Ok(()),

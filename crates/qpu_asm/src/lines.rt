@@ -18,7 +18,8 @@ pub enum Line<'a> {
 
 /// The first word of a line, and what comes after it, where there is a word.
 pub fn next_word(line: &[u8]) -> Option<Cut<'_>>
-    ensures words { MatchOption result (words_of line.now ≡ []) (λ cut. words_of line.now ≡ cut.first.now ∷ words_of cut.rest.now) }
+    ensures words { MatchOption result (words_of line.now ≡ [])
+        (λ cut. words_of line.now ≡ cut.first.now ∷ words_of cut.rest.now) }
     ensures shorter { IfSome result (λ cut. length cut.rest.now < length line.now) }
 {
     let line = without_spaces(line);
@@ -31,7 +32,9 @@ pub fn next_word(line: &[u8]) -> Option<Cut<'_>>
 
 /// A line without the spaces that it begins with.
 pub fn without_spaces(line: &[u8]) -> &[u8]
-    ensures words { (column : ℕ) → placed_words (column + (length line.now - length result.now)) result.now ≡ placed_words column line.now }
+    ensures words { (column : ℕ)
+        → placed_words (column + (length line.now - length result.now)) result.now
+        ≡ placed_words column line.now }
     ensures shorter { length result.now ≤ length line.now }
     ensures first { slice_index result.now 0 ≢ 32 }
 {

@@ -77,7 +77,8 @@ fn next_placed(line: &[u8], column: u32) -> Option<Placed<'_>>
     ensures words { MatchOption result (placed_words column line.now ≡ []) (λ placed. placed_words column line.now ≡
         word_at placed.column placed.cut.first.now ∷ placed_words placed.next placed.cut.rest.now) }
     ensures shorter { IfSome result (λ placed. length placed.cut.rest.now < length line.now) }
-    ensures inside { IfSome result (λ placed. placed.next + length placed.cut.rest.now ≤ column + length line.now) }
+    ensures inside { IfSome result (λ placed. placed.next + length placed.cut.rest.now ≤ column
+        + length line.now) }
 {
     let start = without_spaces(line);
     if start.is_empty() {
@@ -203,7 +204,8 @@ fn item_place<'a>(
 ) -> Option<FaultPlace>
     requires room { from + length items.now < 2 ^ 32 }
     requires open { IsOpen of.above (rows_seen of.rows.now) }
-    ensures { result ≡ item_place (spots_in labels.now) kind opcode (rows_seen of.rows.now) (rows_seen of.rows.now) (placed_words from items.now) }
+    ensures { result ≡ item_place (spots_in labels.now) kind opcode (rows_seen of.rows.now)
+        (rows_seen of.rows.now) (placed_words from items.now) }
 {
     let mut rest = items;
     let mut column = from;
@@ -232,7 +234,8 @@ fn code_place<'a>(
     from: u32,
 ) -> FaultPlace
     requires { from + length items.now < 2 ^ 32 }
-    ensures { result ≡ code_place (spots_in labels.now) kind column opcode.now (placed_words from items.now) (kind_by opcode.now) }
+    ensures { result ≡ code_place (spots_in labels.now) kind column opcode.now
+        (placed_words from items.now) (kind_by opcode.now) }
 {
     let first = FaultPlace::new(column, Wanted::FirstWord);
     match kind_named(opcode) {
@@ -247,7 +250,8 @@ fn code_place<'a>(
 /// The place of a fault of this kind on a line.
 fn place_on<'a>(labels: &Labels<'a>, kind: u8, line: &'a [u8]) -> FaultPlace
     requires { length line.now < 2 ^ 32 - 1 }
-    ensures { result ≡ words_place (spots_in labels.now) kind (line_read line.now) (placed_words 1 line.now) }
+    ensures { result ≡ words_place (spots_in labels.now) kind (line_read line.now)
+        (placed_words 1 line.now) }
 {
     let Some(placed) = next_placed(line, 1) else {
         return FaultPlace::new(1, Wanted::FirstWord);

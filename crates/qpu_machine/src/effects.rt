@@ -138,7 +138,8 @@ fn load_r4<C: Choices>(
     results1: &ArrayVec<Option<Row>, 8>,
     acc: &mut [Row; 6],
 )
-    ensures { acc.new ≡ r4_after word (C.listed words.now) results0.now.items results1.now.items acc.old }
+    ensures { acc.new ≡ r4_after word (C.listed words.now) results0.now.items
+        results1.now.items acc.old }
 {
     if loads(word, 0) {
         acc[4] = loaded_row(results0, words);
@@ -211,7 +212,8 @@ pub(crate) fn work<C: Choices>(
     requires room0 { writes_tmu word 0 ≡ true → array_vec_len thread.old.setups0 < 4 }
     requires room1 { writes_tmu word 1 ≡ true → array_vec_len thread.old.setups1 < 4 }
     ensures near { thread.new.place ≤ thread.old.place + 2 ^ 33 }
-    ensures value { thread.new ≡ worked word uniform sum.now product.now (C.listed words.now) thread.old }
+    ensures value { thread.new ≡ worked word uniform sum.now product.now (C.listed words.now)
+        thread.old }
 {
     add(word, sum, words, thread);
     multiply(word, product, words, thread);

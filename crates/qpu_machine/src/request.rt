@@ -18,7 +18,8 @@ use texture_layouts::{Texture, has_child_image, has_two_strides, lacks_stride};
 // The words at these addresses, without their low two bits.
 fn read_words(row: &Row, who: Who, memory: &PhysMem, accesses: &mut Accesses) -> Row
     requires { array_vec_len accesses.old ≤ 100 }
-    ensures { CarriesOver who (direct_plan row.now []) memory.now accesses.old accesses.new (Some result) }
+    ensures { CarriesOver who (direct_plan row.now []) memory.now accesses.old accesses.new
+        (Some result) }
 {
     let mut found = [0; 16];
     for e in 0..16 {
@@ -62,7 +63,8 @@ fn list_texels<C: Choices>(
 ) -> bool
     requires room { array_vec_len accesses.old ≤ 100 }
     requires listed { is_unlisted texture.now ≡ false }
-    ensures { CarriesOver who (texture_reads texture.now (C.listed words.now) 0 128) memory.now accesses.old accesses.new (if_tame result None) }
+    ensures { CarriesOver who (texture_reads texture.now (C.listed words.now) 0 128) memory.now
+        accesses.old accesses.new (if_tame result None) }
 {
     for m in 0..128 {
         let level = chosen_level(texture, words, m);
@@ -82,8 +84,10 @@ fn list_texels<C: Choices>(
 // Whether the setup words leave undefined where the texture lies.
 #[tactic(auto, unfolding(crate::specs::Request::is_undefined))]
 fn is_undefined(four: &[u32; 4], texture: &Texture) -> bool
-    requires { let word = slice_index four.now in texture.now ≡ texture_of (word 0) (word 1) (word 2) (word 3) }
-    ensures value { let word = slice_index four.now in result ≡ is_undefined (word 0) (word 1) (word 2) (word 3) }
+    requires { let word = slice_index four.now in texture.now
+        ≡ texture_of (word 0) (word 1) (word 2) (word 3) }
+    ensures value { let word = slice_index four.now in result
+        ≡ is_undefined (word 0) (word 1) (word 2) (word 3) }
     ensures listed { result ≡ false → is_unlisted texture.now ≡ false }
 {
     (has_two_strides(four) || lacks_stride(four))
@@ -99,7 +103,8 @@ fn serve_texture<C: Choices>(
     accesses: &mut Accesses,
 ) -> bool
     requires { array_vec_len accesses.old ≤ 100 }
-    ensures { CarriesOver who (ask_plan (Ask.Texture four.now) (C.listed words.now)) memory.now accesses.old accesses.new (if_tame result None) }
+    ensures { CarriesOver who (ask_plan (Ask.Texture four.now) (C.listed words.now)) memory.now
+        accesses.old accesses.new (if_tame result None) }
 {
     let texture = Texture::of(four);
     if is_undefined(four, &texture) {
@@ -120,7 +125,8 @@ pub fn serve<C: Choices>(
     accesses: &mut Accesses,
 ) -> Option<Option<Row>>
     requires { array_vec_len accesses.old ≤ 100 }
-    ensures { CarriesOver who (ask_plan ask.now (C.listed words.now)) memory.now accesses.old accesses.new result }
+    ensures { CarriesOver who (ask_plan ask.now (C.listed words.now)) memory.now accesses.old
+        accesses.new result }
 {
     match ask {
         Ask::Direct(row) => Some(Some(read_words(row, who, memory, accesses))),

@@ -104,7 +104,8 @@ pub fn step_tmu<C: Choices>(
     requires bounded { IsBounded qpu.old }
     requires room { array_vec_len accesses.old ≤ 100 }
     ensures bounded { IsBounded qpu.new }
-    ensures shows { CarriesOver who (tmu_plan qpu.old tmu (C.listed words.now)) memory.now accesses.old accesses.new (if_tame result qpu.new) }
+    ensures shows { CarriesOver who (tmu_plan qpu.old tmu (C.listed words.now)) memory.now
+        accesses.old accesses.new (if_tame result qpu.new) }
     ensures wild { result ≡ false → qpu.new ≡ dropped qpu.old tmu }
 {
     let request = drop_oldest(tmu, qpu);

@@ -22,7 +22,8 @@ fn step_slot<C: Choices>(
 ) -> Option<Leaves>
     requires near { IsNear slot.old }
     requires room { array_vec_len accesses.old ≤ 260 }
-    ensures { IfSome slot.old (SlotSteps who (C.listed words.now) memory.now accesses.old accesses.new slot.new result) }
+    ensures { IfSome slot.old (SlotSteps who (C.listed words.now) memory.now accesses.old
+        accesses.new slot.new result) }
 {
     match slot {
         None => None,
@@ -90,8 +91,10 @@ fn asked_by(left: &Option<Leaves>) -> Option<Asked>
 // The processor after a step whose thread stands in its slot already.
 #[tactic(auto, unfolding(crate::specs::Qpu::settled, crate::specs::Qpu::settled_by))]
 fn settle(job: u8, left: &Option<Leaves>, qpu: &mut Qpu)
-    requires room0 { IfSome (asked_by left.now) (λ one. one.tmu ≡ 0 → array_vec_len qpu.old.queue0 < 16) }
-    requires room1 { IfSome (asked_by left.now) (λ one. one.tmu ≡ 1 → array_vec_len qpu.old.queue1 < 16) }
+    requires room0 { IfSome (asked_by left.now)
+        (λ one. one.tmu ≡ 0 → array_vec_len qpu.old.queue0 < 16) }
+    requires room1 { IfSome (asked_by left.now)
+        (λ one. one.tmu ≡ 1 → array_vec_len qpu.old.queue1 < 16) }
     ensures { qpu.new ≡ settled_by qpu.old job left.now }
 {
     let second = qpu.second;
@@ -127,7 +130,9 @@ fn step_active<C: Choices>(
     requires near { IsNear (active_of qpu.old) }
     requires room { array_vec_len accesses.old ≤ 260 }
     ensures kept { qpu.new ≡ with_active qpu.old (active_of qpu.new) }
-    ensures steps { IfSome (active_of qpu.old) (SlotSteps who (C.listed words.now) memory.now accesses.old accesses.new (active_of qpu.new) result) }
+    ensures steps { IfSome (active_of qpu.old)
+        (SlotSteps who (C.listed words.now) memory.now accesses.old accesses.new
+        (active_of qpu.new) result) }
 {
     if qpu.second {
         return step_slot(&mut qpu.other, words, who, memory, accesses);
@@ -162,7 +167,8 @@ pub fn step_qpu<C: Choices>(
     requires bounded { IsBounded qpu.old }
     requires room { array_vec_len accesses.old ≤ 260 }
     ensures bounded { IsBounded qpu.new }
-    ensures shows { CarriesOver who (qpu_plan qpu.old (C.listed words.now)) memory.now accesses.old accesses.new (if_tame result qpu.new) }
+    ensures shows { CarriesOver who (qpu_plan qpu.old (C.listed words.now)) memory.now accesses.old
+        accesses.new (if_tame result qpu.new) }
     ensures wild { result ≡ false → qpu.new ≡ qpu_stopped qpu.old }
 {
     let job = qpu_job(qpu);

@@ -28,7 +28,8 @@ fn execute<C: Choices>(word: u64, uniform: u32, words: &C, thread: &mut Thread) 
     requires place { thread.old.place < 2 ^ 62 }
     requires room0 { writes_tmu word 0 ≡ true → array_vec_len thread.old.setups0 < 4 }
     requires room1 { writes_tmu word 1 ≡ true → array_vec_len thread.old.setups1 < 4 }
-    ensures turn { executed word uniform (C.listed words.now) thread.old ≡ record { thread = thread.new; leaves = result } }
+    ensures turn { executed word uniform (C.listed words.now) thread.old
+        ≡ record { thread = thread.new; leaves = result } }
     ensures near { thread.new.place ≤ thread.old.place + 2 ^ 33 }
 {
     let sum = add_row(thread, word, uniform, words);
@@ -50,9 +51,13 @@ fn uniform_for(
     accesses: &mut Accesses,
 ) -> u32
     requires { array_vec_len accesses.old < 270 }
-    ensures thread { thread.new ≡ (if takes_one thread.old word then past_uniform thread.old else thread.old) }
-    ensures value { result ≡ (if takes_one thread.old word then u32_at (bytes_at memory.now thread.old.uniforms 4) 0 else 0) }
-    ensures items { accesses.new.items ≡ (if takes_one thread.old word then accesses.old.items ++ access who Read thread.old.uniforms 4 ∷ [] else accesses.old.items) }
+    ensures thread { thread.new ≡ (if takes_one thread.old word then past_uniform thread.old else
+        thread.old) }
+    ensures value { result ≡ (if takes_one thread.old word then u32_at
+        (bytes_at memory.now thread.old.uniforms 4) 0 else 0) }
+    ensures items { accesses.new.items
+        ≡ (if takes_one thread.old word then accesses.old.items
+        ++ access who Read thread.old.uniforms 4 ∷ [] else accesses.old.items) }
 {
     if !takes_one(thread, word) {
         return 0;
@@ -74,8 +79,10 @@ fn obey<C: Choices>(
 ) -> Option<Leaves>
     requires place { thread.old.place < 2 ^ 62 }
     requires room { array_vec_len accesses.old < 270 }
-    ensures near { IfSome result (λ leaves. (is_wild thread.old word ≡ false) × (thread.new.place ≤ thread.old.place + 2 ^ 33)) }
-    ensures shows { CarriesOver who (word_plan thread.old word (C.listed words.now)) memory.now accesses.old accesses.new (turned thread.new result) }
+    ensures near { IfSome result (λ leaves. (is_wild thread.old word ≡ false)
+        × (thread.new.place ≤ thread.old.place + 2 ^ 33)) }
+    ensures shows { CarriesOver who (word_plan thread.old word (C.listed words.now)) memory.now
+        accesses.old accesses.new (turned thread.new result) }
     ensures same { result ≡ None → thread.new ≡ thread.old }
 {
     if is_wild(thread, word) {
@@ -101,7 +108,8 @@ pub fn step_thread<C: Choices>(
     requires place { thread.old.place < 2 ^ 62 }
     requires room { array_vec_len accesses.old ≤ 260 }
     ensures near { IfSome result (λ leaves. thread.new.place ≤ 2 ^ 34) }
-    ensures shows { CarriesOver who (thread_plan thread.old (C.listed words.now)) memory.now accesses.old accesses.new (turned thread.new result) }
+    ensures shows { CarriesOver who (thread_plan thread.old (C.listed words.now)) memory.now
+        accesses.old accesses.new (turned thread.new result) }
     ensures same { result ≡ None → thread.new ≡ thread.old }
 {
     let _size = memory.len();

@@ -15,7 +15,8 @@ fn put_target(
     place: &'static str,
     pack: &'static str,
 ) -> Result<(), AllocError>
-    ensures { OnOk result (out.new.items ≡ out.old.items ++ target_text condition place.now pack.now) }
+    ensures { OnOk result (out.new.items ≡ out.old.items
+        ++ target_text condition place.now pack.now) }
 {
     put_all(
         out,

@@ -90,7 +90,8 @@ fn tile_size(frame: &Frame, has_bin: bool) -> u64
 #[tactic(auto, using(crate::proofs::Sizes::tiles_limit))]
 fn tiles_size(frame: &Frame, has_bin: bool) -> u64
     requires { IsTileSet frame.now }
-    ensures value { result ≡ tiles_down frame.now * (tiles_across frame.now * tile_size frame.now has_bin) }
+    ensures value { result ≡ tiles_down frame.now
+        * (tiles_across frame.now * tile_size frame.now has_bin) }
     ensures limit { result ≤ 4718592 }
 {
     let across = u64::from(frame.max_x - frame.min_x) + 1;

@@ -112,7 +112,8 @@ pub fn clear_slots(frame: &Frame) -> [Option<Packet>; 3]
 fn load_slot(scene: &Scene, k: usize, left_out: u32, tile: Tile) -> Option<Packet>
     requires surface { k < 6 }
     requires fits { TileFits scene.now.frame scene.now.setup.places tile.x tile.y }
-    ensures { result ≡ load_slot scene.now.frame k left_out (place_at scene.now.setup.places k) tile.x tile.y }
+    ensures { result ≡ load_slot scene.now.frame k left_out (place_at scene.now.setup.places k)
+        tile.x tile.y }
 {
     let place = scene.setup.place_of(k)?;
     let surface = surface(&scene.frame, k);
@@ -241,7 +242,8 @@ fn full_store_slot(scene: &Scene, k: usize, left_out: u32, more: bool, tile: Til
     requires full { (k ≡ 4) ⊎ (k ≡ 5) }
     requires bits { left_out < 4 }
     requires fits { TileFits scene.now.frame scene.now.setup.places tile.x tile.y }
-    ensures { result ≡ full_store_slot scene.now.frame (place_at scene.now.setup.places k) left_out more tile.x tile.y }
+    ensures { result ≡ full_store_slot scene.now.frame (place_at scene.now.setup.places k) left_out
+        more tile.x tile.y }
 {
     let place = scene.setup.place_of(k)?;
     let is_final = !more && is_last_tile(&scene.frame, tile.x, tile.y);
@@ -270,7 +272,8 @@ fn zs_store_slot(scene: &Scene, tile: Tile) -> Option<Packet>
 #[inline(always)]
 #[tactic(auto, unfolding(crate::specs::Text::color_store))]
 pub fn color_store_slot(scene: &Scene, tile: Tile) -> Option<Packet>
-    ensures { result ≡ color_store_slot scene.now.frame (place_at scene.now.setup.places 1) tile.x tile.y }
+    ensures { result ≡ color_store_slot scene.now.frame (place_at scene.now.setup.places 1)
+        tile.x tile.y }
 {
     let _place = scene.setup.place_of(COLOR_WRITE)?;
     if is_last_tile(&scene.frame, tile.x, tile.y) {

@@ -57,7 +57,8 @@ fn is_outside_frame(frame: &Frame) -> bool
 
 /// A rule at an item, where it is broken.
 fn ask(broken: bool, rule: FrameRule, item: u8) -> Result<(), RenderFault>
-    ensures { MatchResult result (λ _. broken ≡ false) (λ found. (broken ≡ true) × (found ≡ fault rule item)) }
+    ensures { MatchResult result (λ _. broken ≡ false)
+        (λ found. (broken ≡ true) × (found ≡ fault rule item)) }
 {
     if broken {
         return Err(RenderFault::of(rule, item));
@@ -297,7 +298,8 @@ fn check_surface(
 #[tactic(auto, using(field_words::proofs::Questions::each_on, field_words::proofs::Questions::each_stop, field_words::proofs::Questions::each_end))]
 fn check_each(frame: &Frame, table: &Table, handles: &Handles) -> Result<(), RenderFault>
     requires { AreNumbersOf table.now handles.now }
-    ensures { GoesOn (each (surface_questions frame.now table.now handles.now) 0 6) (λ _. Unit {0}) result }
+    ensures { GoesOn (each (surface_questions frame.now table.now handles.now) 0 6)
+        (λ _. Unit {0}) result }
 {
     for k in 0..6usize {
         check_surface(frame, table, handles, k)?;
@@ -360,7 +362,8 @@ fn place(frame: &Frame, table: &Table, handles: &Handles, k: usize) -> Option<u3
 fn places(frame: &Frame, table: &Table, handles: &Handles) -> Setup
     requires made { AreNumbersOf table.now handles.now }
     requires tiles { IsTileSet frame.now }
-    requires sound { (k : ℕ) → k < 6 → first_of (surface_questions frame.now table.now handles.now k) ≡ None }
+    requires sound { (k : ℕ) → k < 6
+        → first_of (surface_questions frame.now table.now handles.now k) ≡ None }
     ensures places { result.places ≡ places_of frame.now table.now handles.now }
     ensures setup { IsSetupFor frame.now result.places }
 {
@@ -395,7 +398,8 @@ pub fn check_surfaces(
         (λ setup. (first_of (surface_faults frame.now tiles table.now handles.now) ≡ None)
         × (setup.places ≡ places_of frame.now table.now handles.now))
         (λ fault. first_of (surface_faults frame.now tiles table.now handles.now) ≡ Some fault) }
-    ensures first { IfErr result (λ fault. IsFirst (surface_faults frame.now tiles table.now handles.now) fault) }
+    ensures first { IfErr result (λ fault. IsFirst
+        (surface_faults frame.now tiles table.now handles.now) fault) }
     ensures setup { IfOk result (λ setup. IsSetupFor frame.now setup.places) }
 {
     match check_rules(frame, tiles, table, handles) {

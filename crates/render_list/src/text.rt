@@ -56,8 +56,10 @@ fn put_front(out: &mut [u8], at: usize, frame: &Frame, setup: &Setup) -> usize
 #[tactic(auto, using(crate::proofs::Rows::render_parts, crate::proofs::Rows::length_parts, field_words::proofs::Writes::with_two))]
 fn put_list(out: &mut [u8], at: usize, scene: &Scene) -> usize
     requires scene { IsScene scene.now }
-    requires room { HasRoom out.old at (render_slots scene.now.frame scene.now.setup.places scene.now.tiles scene.now.slot) }
-    ensures { Puts (render_slots scene.now.frame scene.now.setup.places scene.now.tiles scene.now.slot) out.old at out.new result }
+    requires room { HasRoom out.old at (render_slots scene.now.frame scene.now.setup.places
+        scene.now.tiles scene.now.slot) }
+    ensures { Puts (render_slots scene.now.frame scene.now.setup.places scene.now.tiles
+        scene.now.slot) out.old at out.new result }
 {
     let at = put_front(out, at, &scene.frame, &scene.setup);
     put_tiles(out, at, scene)
@@ -72,7 +74,8 @@ pub fn build(frame: &Frame, setup: &Setup, tiles: Option<(u8, u8)>, layout: &Lay
     requires setup { IsSetupFor frame.now setup.now.places }
     requires slot { IsSome tiles → layout.now.slot ≤ most_place }
     requires room { layout.now.render + render_length frame.now (is_some tiles) ≤ length out.old }
-    ensures { out.new ≡ with_bytes out.old layout.now.render (render_text frame.now setup.now.places tiles layout.now.slot) }
+    ensures { out.new ≡ with_bytes out.old layout.now.render
+        (render_text frame.now setup.now.places tiles layout.now.slot) }
 {
     let scene = Scene {
         frame: *frame,

@@ -13,8 +13,10 @@ use packets::{put_present, put_slot};
 fn put_loads(out: &mut [u8], at: usize, scene: &Scene, tile: Tile) -> usize
     requires scene { IsScene scene.now }
     requires fits { TileFits scene.now.frame scene.now.setup.places tile.x tile.y }
-    requires room { HasRoom out.old at (load_slots scene.now.frame scene.now.setup.places tile.x tile.y) }
-    ensures { Puts (load_slots scene.now.frame scene.now.setup.places tile.x tile.y) out.old at out.new result }
+    requires room { HasRoom out.old at (load_slots scene.now.frame scene.now.setup.places
+        tile.x tile.y) }
+    ensures { Puts (load_slots scene.now.frame scene.now.setup.places tile.x tile.y) out.old at
+        out.new result }
 {
     if !scene.some_loads {
         return at;
@@ -28,8 +30,10 @@ fn put_loads(out: &mut [u8], at: usize, scene: &Scene, tile: Tile) -> usize
 fn put_writes(out: &mut [u8], at: usize, scene: &Scene, tile: Tile) -> usize
     requires scene { IsScene scene.now }
     requires fits { TileFits scene.now.frame scene.now.setup.places tile.x tile.y }
-    requires room { HasRoom out.old at (write_slots scene.now.frame scene.now.setup.places tile.x tile.y) }
-    ensures { Puts (write_slots scene.now.frame scene.now.setup.places tile.x tile.y) out.old at out.new result }
+    requires room { HasRoom out.old at (write_slots scene.now.frame scene.now.setup.places
+        tile.x tile.y) }
+    ensures { Puts (write_slots scene.now.frame scene.now.setup.places tile.x tile.y) out.old at
+        out.new result }
 {
     if !scene.some_before_color {
         return put_slot(out, at, color_store_slot(scene, tile));

@@ -71,7 +71,8 @@ fn take_step<S: Script>(
     requires some { 1 ≤ length units.now }
     requires few { length units.now ≤ 38 }
     requires units { units.now ≡ enabled_units machine.old }
-    ensures { StepsBy (S.picks script.now) (S.gives script.now) favoured step machine.old machine.new accesses.new.items result }
+    ensures { StepsBy (S.picks script.now) (S.gives script.now) favoured step machine.old
+        machine.new accesses.new.items result }
 {
     let unit = picked(script, favoured, step, units);
     let words = script.words(step, word_count(unit));
@@ -89,7 +90,8 @@ fn go_on<S: Script>(
     machine: &mut Machine,
 ) -> Result<TraceLine, Ending>
     requires may { S.may script.now }
-    ensures did { IfOk result (StepsBy (S.picks script.now) (S.gives script.now) favoured step machine.old machine.new accesses.new.items) }
+    ensures did { IfOk result (StepsBy (S.picks script.now) (S.gives script.now) favoured step
+        machine.old machine.new accesses.new.items) }
     ensures over { IfErr result (IsOver machine.old) }
     ensures same { IsErr result → machine.new ≡ machine.old }
 {
@@ -112,7 +114,8 @@ fn follow<S: Script>(
     requires no_accesses { kept.old.accesses.items ≡ [] }
     requires few { steps ≤ 1000000 }
     ensures logs { kept.new.logs ≡ kept.old.logs }
-    ensures run { IfOk result (λ end. HasKept (S.picks script.now) (S.gives script.now) favoured machine.old steps kept.new end.0 end.1) }
+    ensures run { IfOk result (λ end. HasKept (S.picks script.now) (S.gives script.now) favoured
+        machine.old steps kept.new end.0 end.1) }
 {
     let mut accesses = ArrayVec::new();
     for i in 0..steps {
@@ -138,7 +141,8 @@ pub fn replay<S: Script>(
 ) -> Result<Trace, NoMemory>
     requires may { S.may script.now }
     requires few { steps ≤ 1000000 }
-    ensures { IfOk result (HasTrace (S.picks script.now) (S.gives script.now) favoured machine steps) }
+    ensures { IfOk result (HasTrace (S.picks script.now) (S.gives script.now) favoured
+        machine steps) }
 {
     let mut kept = Kept {
         logs: false,
@@ -160,7 +164,8 @@ pub fn log_run<S: Script>(
 ) -> Result<Log, NoMemory>
     requires may { S.may script.now }
     requires few { steps ≤ 1000000 }
-    ensures { IfOk result (HasLog (S.picks script.now) (S.gives script.now) favoured machine steps) }
+    ensures { IfOk result (HasLog (S.picks script.now) (S.gives script.now) favoured
+        machine steps) }
 {
     let mut kept = Kept {
         logs: true,

@@ -87,9 +87,9 @@ Asked by: `level`.
 pub(crate) const ASSEMBLER: [&str; 5] = [
     "the first word or an item's name is unknown, an item has no `=`, `nop` has items, or a label's line is malformed
 - Usual cause: a mistyped name, or blanks around `=`.
-- Fix: a name of docs/INSTRUCTIONS.md, right before `=` and its value.",
+- Fix: a name of docs/FORMATS.md, right before `=` and its value.",
     "a value is no number and no name, an item is repeated or out of order, `imm` stands beside `to`, or `to` has no name
-- Fix: one decimal number or name for each item, and the items in the order of docs/INSTRUCTIONS.md.",
+- Fix: one decimal number or name for each item, and the items in the order of docs/FORMATS.md.",
     "a number is over its field, however long it is
 - Fix: a number that the item's bits can hold; for `alu`, a signal from 0 to 13.",
     "`to` names a label that the text doesn't have

@@ -6,7 +6,7 @@ pub(crate) const FORMAT: [&str; 7] = [
     "the first four bytes aren't `VC4J`, or the version is neither 1 nor 2
 The offset is that of the field, 0 or 4.
 - Usual cause: a file of another kind, or of a later version.
-- Fix: write both as docs/JOB_FILE.md gives them.",
+- Fix: write both as docs/FORMATS.md gives them.",
     "the file ends before the part's end
 The offset is where the part starts.
 - Usual cause: a file that was cut off; or a count or a size larger than what was written.

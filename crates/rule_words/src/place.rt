@@ -93,7 +93,8 @@ fn in_content(bytes: &[u8], refusal: Refusal, b: u32, from: u64) -> Result<Place
     requires named { b < buffer_count bytes.now }
     requires entries { entry_offset (b + 1) ≤ length bytes.now }
     requires at { content_offset bytes.now b + from ≡ refusal.offset }
-    ensures walk { WalksTo bytes.now (content_offset bytes.now b + from) (content_offset bytes.now (b + 1)) result }
+    ensures walk { WalksTo bytes.now (content_offset bytes.now b + from)
+        (content_offset bytes.now (b + 1)) result }
     ensures first { FindsPart (content_parts bytes.now refusal b) result }
 {
     let entry = HEADER_SIZE + ENTRY_SIZE * b as usize;
@@ -111,7 +112,8 @@ fn in_contents(bytes: &[u8], refusal: Refusal, buffers: u32, from: u64) -> Resul
     requires named { buffers ≡ buffer_count bytes.now }
     requires entries { entry_offset buffers ≤ length bytes.now }
     requires at { content_offset bytes.now 0 + from ≡ refusal.offset }
-    ensures walk { WalksTo bytes.now (content_offset bytes.now 0 + from) (content_offset bytes.now buffers) result }
+    ensures walk { WalksTo bytes.now (content_offset bytes.now 0 + from)
+        (content_offset bytes.now buffers) result }
     ensures first { FindsPart (each (content_parts bytes.now refusal) 0 buffers) result }
 {
     let mut left = from;
@@ -133,7 +135,8 @@ fn in_job(bytes: &[u8], refusal: Refusal, job: u32, entry: usize, from: u64) -> 
     requires inside { entry + job_size ≤ length bytes.now }
     requires at { handles_offset bytes.now job + from ≡ refusal.offset }
     ensures first { FindsPart (job_parts bytes.now refusal job) result }
-    ensures walk { WalksTo bytes.now (handles_offset bytes.now job + from) (handles_offset bytes.now (job + 1)) result }
+    ensures walk { WalksTo bytes.now (handles_offset bytes.now job + from)
+        (handles_offset bytes.now (job + 1)) result }
 {
     let rule = refusal.rule;
     let mut left = from;
@@ -174,7 +177,8 @@ fn in_jobs(
     requires inside { entries + job_size * jobs ≤ length bytes.now }
     requires at { handles_offset bytes.now 0 + from ≡ refusal.offset }
     ensures first { FindsPart (each (job_parts bytes.now refusal) 0 jobs) result }
-    ensures walk { WalksTo bytes.now (handles_offset bytes.now 0 + from) (handles_offset bytes.now jobs) result }
+    ensures walk { WalksTo bytes.now (handles_offset bytes.now 0 + from)
+        (handles_offset bytes.now jobs) result }
 {
     let mut left = from;
     for job in 0..jobs {
@@ -194,7 +198,8 @@ fn behind_entries(bytes: &[u8], refusal: Refusal, from: u64) -> Result<Place, u6
     requires inside { job_offset bytes.now (job_count bytes.now) ≤ length bytes.now }
     requires at { content_offset bytes.now 0 + from ≡ refusal.offset }
     ensures first { FindsPart (file_parts bytes.now refusal) result }
-    ensures walk { WalksTo bytes.now (content_offset bytes.now 0 + from) (handles_offset bytes.now (job_count bytes.now)) result }
+    ensures walk { WalksTo bytes.now (content_offset bytes.now 0 + from)
+        (handles_offset bytes.now (job_count bytes.now)) result }
 {
     let buffers = word(bytes, 28);
     let entries = HEADER_SIZE + ENTRY_SIZE * buffers as usize;

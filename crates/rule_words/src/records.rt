@@ -29,7 +29,7 @@ emission.
 - Fix: leave it 0.",
     "fewer bytes of uniforms are left than a shader takes
 That is four bytes for each of its samples and each word of its stream. The
-offset, in the uniforms, is where its own begin. docs/SHADERS.md says how they are counted.
+offset, in the uniforms, is where its own begin. docs/RULES.md says how they are counted.
 - Usual cause: counting a uniform too few, often the word that a backward branch needs for the stream's address.",
     "an attribute's address and size go past its buffer
 The offset is the attribute, 36 + 8t bytes into the record. The address counts

@@ -57,5 +57,5 @@ rounded up, so its last tile ends at the offset plus `16384 * (ceil(width / 32) 
 Nothing would be stored, and no store would end the frame.
 - Fix: one write.
 
-What the renderer list of a frame without faults looks like is in docs/RENDERER_LIST.md.",
+What the renderer list of a frame without faults looks like is in docs/FORMATS.md.",
 ];

@@ -86,7 +86,8 @@ fn push_access(
     layouts: &[Layout],
     logged: &Logged,
 ) -> Result<(), AllocError>
-    ensures { OnOk result (out.new.items ≡ out.old.items ++ access_text regions.now buffers.now layouts.now logged.now) }
+    ensures { OnOk result (out.new.items ≡ out.old.items
+        ++ access_text regions.now buffers.now layouts.now logged.now) }
 {
     let spot = spot_of(regions, buffers, layouts, logged.access.place);
     push_actor(out, logged)?;
@@ -107,7 +108,8 @@ pub fn log_text(
     layouts: &[Layout],
     log: &Log,
 ) -> Result<Vec<u8>, NoMemory>
-    ensures { IfOk result (λ text. text.items ≡ log_text regions.now buffers.now layouts.now log.now) }
+    ensures { IfOk result (λ text. text.items
+        ≡ log_text regions.now buffers.now layouts.now log.now) }
 {
     let mut out = Vec::with_capacity(alloc, ACCESS_LINE.saturating_mul(log.accesses.len()))?;
     for logged in &log.accesses {

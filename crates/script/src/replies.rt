@@ -31,7 +31,8 @@ pub trait Clerk {
     /// Puts the answer to one more line.
     fn put_reply(&mut self, alloc: Global, out: &mut String, line: &[u8]) -> Result<(), AllocError>
         requires { (lines : ℕ) × (past : Past) × (lines < 2 ^ 32) × Stands lines past self.old }
-        ensures line { (n : ℕ) (past : Past) → Stands n past self.old → OnOk result (Adds out.old out.new (reply past line.now)) }
+        ensures line { (n : ℕ) (past : Past) → Stands n past self.old
+            → OnOk result (Adds out.old out.new (reply past line.now)) }
         ensures kept { (n : ℕ) (past : Past) → Stands n past self.old → OnOk result (Stands (n + 1) (after past line.now) self.new) };
 }
 
@@ -61,7 +62,8 @@ pub fn answer<C: Clerk>(alloc: Global, clerk: &mut C, text: &[u8]) -> Result<Vec
     requires begins { (past : C.Past) × C.Stands 0 past clerk.old }
     requires length { length text.now < 2 ^ 32 }
     ensures formed { OnOk result (malformed C.formed text.now ≡ None) }
-    ensures answers { (past : C.Past) → C.Stands 0 past clerk.old → IfOk result (λ out. out.items ≡ replies C.reply C.after past text.now) }
+    ensures answers { (past : C.Past) → C.Stands 0 past clerk.old
+        → IfOk result (λ out. out.items ≡ replies C.reply C.after past text.now) }
     ensures fault { IfErr result (IsScriptFault (malformed C.formed text.now)) }
     ensures same { IfErr result (KeepsAtFault clerk.old clerk.new) }
 {

@@ -91,7 +91,8 @@ pub fn run_of(
     seed: u64,
 ) -> Result<Trace, NoMemory>
     requires { steps ≤ 1000000 }
-    ensures { IfOk result (λ trace. (events : List Event) × IsTrace (Picks seed) (Gives seed) favoured machine steps events trace) }
+    ensures { IfOk result (λ trace. (events : List Event)
+        × IsTrace (Picks seed) (Gives seed) favoured machine steps events trace) }
 {
     replay(alloc, machine, &Seeded { seed }, favoured, steps)
 }
@@ -105,7 +106,8 @@ pub fn log_of(
     seed: u64,
 ) -> Result<Log, NoMemory>
     requires { steps ≤ 1000000 }
-    ensures { IfOk result (λ log. (events : List Event) × IsLog (Picks seed) (Gives seed) favoured machine steps events log) }
+    ensures { IfOk result (λ log. (events : List Event)
+        × IsLog (Picks seed) (Gives seed) favoured machine steps events log) }
 {
     log_run(alloc, machine, &Seeded { seed }, favoured, steps)
 }

@@ -54,7 +54,8 @@ fn step_text(
     requires few { trial.steps ≤ 1000000 }
     requires a_version { 1 ≤ version }
     requires known { version ≤ 2 }
-    ensures { IfOk result (λ text. IsStepText version machine trial.favoured trial.steps trial.seed text.items) }
+    ensures { IfOk result (λ text. IsStepText version machine trial.favoured trial.steps trial.seed
+        text.items) }
 {
     let trace = run_of(alloc, machine, trial.favoured, trial.steps, trial.seed)?;
     let text = trace_text(alloc, version, &trace)?;
@@ -71,7 +72,8 @@ fn access_text(
     trial: Trial,
 ) -> Result<Vec<u8>, NoMemory>
     requires { trial.steps ≤ 1000000 }
-    ensures { IfOk result (λ text. IsAccessText regions.now buffers.now layouts.now machine trial.favoured trial.steps trial.seed text.items) }
+    ensures { IfOk result (λ text. IsAccessText regions.now buffers.now layouts.now machine
+        trial.favoured trial.steps trial.seed text.items) }
 {
     let log = log_of(alloc, machine, trial.favoured, trial.steps, trial.seed)?;
     let text = log_text(alloc, regions, buffers, layouts, &log)?;
@@ -89,7 +91,8 @@ fn picture_text(
     trial: Trial,
 ) -> Result<Vec<u8>, NoMemory>
     requires { trial.steps ≤ 1000000 }
-    ensures { IfOk result (λ text. IsPictureText memory regions.now buffers.now layouts.now machine trial.favoured trial.steps trial.seed text.items) }
+    ensures { IfOk result (λ text. IsPictureText memory regions.now buffers.now layouts.now machine
+        trial.favoured trial.steps trial.seed text.items) }
 {
     let log = log_of(alloc, machine, trial.favoured, trial.steps, trial.seed)?;
     let text = run_picture(alloc, memory, regions, buffers, layouts, &log)?;
@@ -162,7 +165,8 @@ fn accesses_of(
     requires few { trial.steps ≤ 1000000 }
     requires accepted { IsAccepted (file_at bytes.now) accepted }
     requires look { (trial.look ≡ Accesses) ⊎ (trial.look ≡ Picture) }
-    ensures { IfOk result (λ text. IsLookText (file_at bytes.now) trial.look trial.favoured trial.steps trial.seed text.items) }
+    ensures { IfOk result (λ text. IsLookText (file_at bytes.now) trial.look trial.favoured
+        trial.steps trial.seed text.items) }
 {
     // No rule of the format stands of an accepted file.
     let Ok(file) = read_parts(alloc, bytes) else {
@@ -201,7 +205,8 @@ fn accesses_told(alloc: Global, bytes: &[u8], trial: Trial) -> Result<Vec<u8>, S
 /// The first rule that stands, by its letter, its number and its place in the bytes; or want of memory.
 pub fn told_text(alloc: Global, trial: Trial, bytes: &[u8]) -> Result<Vec<u8>, Stop<Refusal>>
     requires { IsTrialWithin trial }
-    ensures answers { Answers (all_questions bytes.now) (λ text. IsTold (file_at bytes.now) trial text.items) result }
+    ensures answers { Answers (all_questions bytes.now)
+        (λ text. IsTold (file_at bytes.now) trial text.items) result }
     ensures spelled { IsOk result → IsFileOf bytes.now (file_at bytes.now) }
 {
     match trial.look {

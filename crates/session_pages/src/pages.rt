@@ -117,7 +117,8 @@ impl Pages {
     pub fn read(&self, alloc: Global, first: u32, at: u32, len: u32) -> Result<Vec<u8>, NoMemory>
         requires page { first ≤ page_count }
         requires inside { place_of first + at + len ≤ memory_size }
-        ensures { IfOk result (λ bytes. bytes.items ≡ window_of self.now.memory (place_of first + at) len) }
+        ensures { IfOk result (λ bytes. bytes.items
+            ≡ window_of self.now.memory (place_of first + at) len) }
     {
         let place = (place_of_page(first) + at) as usize;
         Ok(Vec::from_slice(alloc, &self.memory[place..place + len as usize])?)

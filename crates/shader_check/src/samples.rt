@@ -53,7 +53,8 @@ fn number(numbers: &[u32], last: u32, k: usize) -> Option<u32>
 
 // The uniform that clamps a direct sample's address.
 fn bound<L: Ledger>(known: &Known, steps: &mut Steps<L>) -> Option<u32>
-    ensures value { option_to_list result ≡ map (count_of known.now.code) (clamp_parts known.now.code known.now.at) }
+    ensures value { option_to_list result
+        ≡ map (count_of known.now.code) (clamp_parts known.now.code known.now.at) }
     ensures steps { steps.new ≤ steps.old + 1 }
 {
     match first_register(known.word()) {
@@ -127,7 +128,8 @@ fn sample_at<L: Ledger>(
 ) -> Sample
     requires number { tmu < 2 }
     requires asked { tmu ≡ sample_tmu (word known.now.code known.now.at) }
-    requires waiting { pending ≡ pending_of known.now.code (sample_tmu (word known.now.code known.now.at)) known.now.at }
+    requires waiting { pending ≡ pending_of known.now.code
+        (sample_tmu (word known.now.code known.now.at)) known.now.at }
     requires before { kept.now ≡ asked_words known.now.code known.now.at }
     ensures value { result ≡ sample_of known.now.code known.now.at }
     ensures steps { steps.new ≤ steps.old + 1 }
@@ -169,7 +171,8 @@ fn add_sample<L: Ledger>(
     requires first { kept0.now ≡ held_words here.now.code 0 here.now.at }
     requires second { kept1.now ≡ held_words here.now.code 1 here.now.at }
     requires before { samples.old.items ≡ samples_before here.now.code here.now.at }
-    ensures samples { OnOk result (samples.new.items ≡ samples_before here.now.code (here.now.at + 1)) }
+    ensures samples { OnOk result (samples.new.items
+        ≡ samples_before here.now.code (here.now.at + 1)) }
     ensures steps { steps.new ≤ steps.old + 1 }
 {
     if !asks(here.word()) {
@@ -195,7 +198,8 @@ pub(crate) fn note<L: Ledger>(
     requires before { samples.old.items ≡ samples_before here.now.code here.now.at }
     ensures first { OnOk result (kept0.new.items ≡ held_words here.now.code 0 (here.now.at + 1)) }
     ensures second { OnOk result (kept1.new.items ≡ held_words here.now.code 1 (here.now.at + 1)) }
-    ensures samples { OnOk result (samples.new.items ≡ samples_before here.now.code (here.now.at + 1)) }
+    ensures samples { OnOk result (samples.new.items
+        ≡ samples_before here.now.code (here.now.at + 1)) }
     ensures steps { steps.new ≤ steps.old + 1 }
 {
     if writes_registers(here.word()) {

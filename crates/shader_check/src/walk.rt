@@ -31,7 +31,8 @@ pub(crate) fn walk<L: Ledger>(
 ) -> Result<Vec<Sample>, Stop<ShaderFault>>
     requires made { IsFlow code.now flow.now }
     requires counted { IsStream code.now stream.now }
-    ensures answers { Answers (each (questions_at code.now) 0 (checked_of code.now)) (λ v. v.items ≡ samples_of code.now) result }
+    ensures answers { Answers (each (questions_at code.now) 0 (checked_of code.now))
+        (λ v. v.items ≡ samples_of code.now) result }
     ensures steps { steps.new ≤ steps.old + 8 * length code.now }
 {
     let last = checked(code, flow.end);

@@ -88,7 +88,8 @@ fn mark_all(targets: &mut [bool], code: &[u64], end: u32)
     requires clear { (i : ℕ) → slice_index_or targets.old i false ≡ false }
     requires ends { EndsAt code.now end }
     ensures size { length targets.new ≡ length targets.old }
-    ensures marks { (i : ℕ) → i < length targets.old → slice_index_or targets.new i false ≡ is_target code.now i }
+    ensures marks { (i : ℕ) → i < length targets.old
+        → slice_index_or targets.new i false ≡ is_target code.now i }
 {
     for at in 0..end as usize {
         mark_from(targets, &Site { code, end, at });

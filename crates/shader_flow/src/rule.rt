@@ -2,7 +2,7 @@
 ghost use Rattle.std.specs.Prelude.{◌≡◌};
 ghost use Rattle.shader_flow.specs.Rule.{number_of};
 
-/// A rule on shaders, S1 to S27 in this order (docs/SHADERS.md).
+/// A rule on shaders, S1 to S27 in this order (docs/RULES.md).
 #[derive(Clone, Copy, Debug, PartialEq, Eq)]
 pub enum ShaderRule {
     NoWords,

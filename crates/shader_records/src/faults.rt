@@ -18,7 +18,8 @@ fn uses_fault(inputs: &Inputs, at: usize, from: usize) -> Result<usize, RecordFa
     requires fits { Fits inputs.now }
     requires inside { at + 12 ≤ length inputs.now.records }
     requires from { from ≤ length inputs.now.uniforms }
-    ensures { GoesOn (each (shader_questions inputs.now at from) 0 3) (IsEnd inputs.now (from + taken_before inputs.now at 3)) result }
+    ensures { GoesOn (each (shader_questions inputs.now at from) 0 3)
+        (IsEnd inputs.now (from + taken_before inputs.now at 3)) result }
 {
     let mut here = from;
     for s in 0..3usize {
@@ -33,7 +34,12 @@ fn uses_fault(inputs: &Inputs, at: usize, from: usize) -> Result<usize, RecordFa
 /// The source of state `k`'s record.
 pub(crate) fn source_of(inputs: &Inputs, k: usize, at: usize) -> Source
     requires inside { k < length inputs.now.states }
-    ensures { result ≡ record { at = at; state = (state_at inputs.now k).word; max_index = (state_at inputs.now k).max_index } }
+    ensures { result ≡ record {
+      at = at;
+      state = (state_at inputs.now k).word;
+      max_index
+          = (state_at inputs.now k).max_index;
+    } }
 {
     let state = inputs.state(k);
     Source {
@@ -52,8 +58,10 @@ fn state_fault(inputs: &Inputs, k: usize, at: usize, from: usize) -> Result<usiz
     requires uniforms { from ≡ uniform_source inputs.now k }
     requires room_records { at ≤ length inputs.now.records }
     requires room { from ≤ length inputs.now.uniforms }
-    ensures uniforms { GoesOn (state_questions inputs.now k) (IsEnd inputs.now (uniform_source inputs.now (k + 1))) result }
-    ensures record { IfOk result (λ _. at + source_size (state_at inputs.now k).word ≤ length inputs.now.records) }
+    ensures uniforms { GoesOn (state_questions inputs.now k)
+        (IsEnd inputs.now (uniform_source inputs.now (k + 1))) result }
+    ensures record { IfOk result (λ _. at + source_size (state_at inputs.now k).word
+        ≤ length inputs.now.records) }
 {
     match record_fault(inputs, source_of(inputs, k, at)) {
         Some(fault) => Err(fault),

@@ -111,7 +111,8 @@ impl<'a> Inputs<'a> {
         requires fits { Fits self.now }
         requires inside { from + 4 * count ≤ length self.now.records }
         requires room { at + 4 * count ≤ length out.old }
-        ensures { out.new ≡ with_bytes out.old at (word_bytes (word_from self.now.records from) count) }
+        ensures { out.new ≡ with_bytes out.old at
+            (word_bytes (word_from self.now.records from) count) }
     {
         copy_words(self.records, from, count, out, at);
     }
@@ -121,7 +122,8 @@ impl<'a> Inputs<'a> {
         requires fits { Fits self.now }
         requires inside { from + 4 * count ≤ length self.now.uniforms }
         requires room { at + 4 * count ≤ length out.old }
-        ensures { out.new ≡ with_bytes out.old at (word_bytes (word_from self.now.uniforms from) count) }
+        ensures { out.new ≡ with_bytes out.old at
+            (word_bytes (word_from self.now.uniforms from) count) }
     {
         copy_words(self.uniforms, from, count, out, at);
     }

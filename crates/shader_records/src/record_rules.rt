@@ -42,7 +42,8 @@ fn cut_fault(inputs: &Inputs, source: Source) -> Option<RecordFault>
     requires fits { Fits inputs.now }
     requires from { source.at ≤ length inputs.now.records }
     ensures first { result ≡ first_of (cut_questions inputs.now source.at source.state) }
-    ensures inside { IfNone result (source.at + source_size source.state ≤ length inputs.now.records) }
+    ensures inside { IfNone result (source.at + source_size source.state
+        ≤ length inputs.now.records) }
 {
     let record_at = source.at + handles_size(source.state);
     if inputs.records.len() < record_at {
@@ -154,7 +155,8 @@ fn fixed_fault(inputs: &Inputs, source: Source) -> Option<RecordFault>
 #[tactic(auto, unfolding(emitted_facts::specs::Records::attribute_size))]
 fn attribute_size(inputs: &Inputs, source: Source, t: usize) -> u32
     requires fits { Fits inputs.now }
-    requires inside { source.at + handles_size source.state + 4 * (10 + 2 * t) + 4 ≤ length inputs.now.records }
+    requires inside { source.at + handles_size source.state + 4 * (10 + 2 * t) + 4
+        ≤ length inputs.now.records }
     ensures value { result ≡ attribute_size (record_word inputs.now source.at source.state) t }
     ensures limit { result ≤ 256 }
 {
@@ -165,9 +167,11 @@ fn attribute_size(inputs: &Inputs, source: Source, t: usize) -> u32
 #[tactic(auto, unfolding(emitted_facts::specs::Records::attribute_stride))]
 fn attribute_stride(inputs: &Inputs, source: Source, t: usize) -> u32
     requires fits { Fits inputs.now }
-    requires inside { source.at + handles_size source.state + 4 * (10 + 2 * t) + 4 ≤ length inputs.now.records }
+    requires inside { source.at + handles_size source.state + 4 * (10 + 2 * t) + 4
+        ≤ length inputs.now.records }
     requires extension { HasStrides inputs.now source.at source.state (t + 1) }
-    ensures { result ≡ attribute_stride source.state (record_word inputs.now source.at source.state) t }
+    ensures { result ≡ attribute_stride source.state
+        (record_word inputs.now source.at source.state) t }
 {
     let low = inputs.record_word(source.at, source.state, 10 + 2 * t) / 256 % 256;
     if is_extended(source.state) {
@@ -192,9 +196,11 @@ fn attribute_fault(inputs: &Inputs, source: Source, t: usize) -> Option<RecordFa
     requires fits { Fits inputs.now }
     requires count { t < 8 }
     requires handle { source.at + (12 + 4 * t) + 4 ≤ length inputs.now.records }
-    requires inside { source.at + handles_size source.state + 4 * (10 + 2 * t) + 4 ≤ length inputs.now.records }
+    requires inside { source.at + handles_size source.state + 4 * (10 + 2 * t) + 4
+        ≤ length inputs.now.records }
     requires extension { HasStrides inputs.now source.at source.state (t + 1) }
-    ensures { result ≡ first_of (attribute_questions inputs.now source.at source.state source.max_index t) }
+    ensures { result ≡ first_of (attribute_questions inputs.now source.at source.state
+        source.max_index t) }
 {
     let at = source.at + handles_size(source.state) + (36 + 8 * t);
     let size = u64::from(inputs.size_of(inputs.attribute_number(source.at, t)));
@@ -215,9 +221,11 @@ fn attributes_fault(inputs: &Inputs, source: Source, count: usize) -> Option<Rec
     requires fits { Fits inputs.now }
     requires count { count ≤ 8 }
     requires handles { source.at + 12 + 4 * count ≤ length inputs.now.records }
-    requires inside { source.at + handles_size source.state + 36 + 8 * count ≤ length inputs.now.records }
+    requires inside { source.at + handles_size source.state + 36 + 8 * count
+        ≤ length inputs.now.records }
     requires extension { HasStrides inputs.now source.at source.state count }
-    ensures { result ≡ first_of (each (attribute_questions inputs.now source.at source.state source.max_index) 0 count) }
+    ensures { result ≡ first_of (each (attribute_questions inputs.now source.at source.state
+        source.max_index) 0 count) }
 {
     for t in 0..count {
         if let Some(fault) = attribute_fault(inputs, source, t) {
@@ -232,7 +240,8 @@ fn attributes_fault(inputs: &Inputs, source: Source, count: usize) -> Option<Rec
 fn body_fault(inputs: &Inputs, source: Source) -> Option<RecordFault>
     requires fits { Fits inputs.now }
     requires inside { source.at + source_size source.state ≤ length inputs.now.records }
-    ensures { result ≡ first_of (body_questions inputs.now source.at source.state source.max_index) }
+    ensures { result ≡ first_of (body_questions inputs.now source.at source.state
+        source.max_index) }
 {
     match fixed_fault(inputs, source) {
         Some(fault) => Some(fault),
@@ -245,7 +254,8 @@ fn body_fault(inputs: &Inputs, source: Source) -> Option<RecordFault>
 fn whole_fault(inputs: &Inputs, source: Source) -> Option<RecordFault>
     requires fits { Fits inputs.now }
     requires inside { source.at + source_size source.state ≤ length inputs.now.records }
-    ensures { result ≡ first_of (whole_questions inputs.now source.at source.state source.max_index) }
+    ensures { result ≡ first_of (whole_questions inputs.now source.at source.state
+        source.max_index) }
 {
     match names_fault(inputs, source) {
         Some(fault) => Some(fault),
@@ -258,8 +268,10 @@ fn whole_fault(inputs: &Inputs, source: Source) -> Option<RecordFault>
 pub(crate) fn record_fault(inputs: &Inputs, source: Source) -> Option<RecordFault>
     requires fits { Fits inputs.now }
     requires from { source.at ≤ length inputs.now.records }
-    ensures first { result ≡ first_of (record_questions inputs.now source.at source.state source.max_index) }
-    ensures inside { IfNone result (source.at + source_size source.state ≤ length inputs.now.records) }
+    ensures first { result ≡ first_of (record_questions inputs.now source.at source.state
+        source.max_index) }
+    ensures inside { IfNone result (source.at + source_size source.state
+        ≤ length inputs.now.records) }
 {
     match cut_fault(inputs, source) {
         Some(fault) => Some(fault),

@@ -74,7 +74,8 @@ fn places_of(inputs: &Inputs, at: usize, first: u32) -> Places
     requires fits { Fits inputs.now }
     requires inside { at + 12 ≤ length inputs.now.records }
     requires room { first + given_before inputs.now at 3 < 2 ^ 32 }
-    ensures codes { AreStreamsOf result.codes (λ s. place_in inputs.now.table (code_number inputs.now at s)) }
+    ensures codes { AreStreamsOf result.codes (λ s. place_in inputs.now.table
+        (code_number inputs.now at s)) }
     ensures streams { AreStreamsOf result.streams (stream_place inputs.now at first) }
     ensures given { result.given ≡ given_before inputs.now at 3 }
 {
@@ -110,7 +111,8 @@ fn put_plain(inputs: &Inputs, source: Source, out: &mut [u8], base: usize)
     requires fits { Fits inputs.now }
     requires inside { source.at + source_size source.state ≤ length inputs.now.records }
     requires room { base + record_room source.state ≤ length out.old }
-    ensures { out.new ≡ with_bytes out.old base (word_bytes (plain_word inputs.now source.at source.state) (record_room source.state / 4)) }
+    ensures { out.new ≡ with_bytes out.old base
+        (word_bytes (plain_word inputs.now source.at source.state) (record_room source.state / 4)) }
 {
     let from = source.at + handles_size(source.state);
     let count = record_size(source.state) as usize / 4;
@@ -133,7 +135,8 @@ pub(crate) fn put_record(
     requires fine { IsFineRecord inputs.now source.at source.state source.max_index }
     requires streams { first + given_before inputs.now source.at 3 < 2 ^ 32 }
     requires room { base + record_room source.state ≤ length out.old }
-    ensures text { out.new ≡ with_bytes out.old base (record_text inputs.now source.at source.state first) }
+    ensures text { out.new ≡ with_bytes out.old base
+        (record_text inputs.now source.at source.state first) }
     ensures given { result ≡ given_before inputs.now source.at 3 }
 {
     let places = places_of(inputs, source.at, first);

@@ -55,7 +55,8 @@ fn put_source(inputs: &Inputs, from: usize, info: &ShaderInfo, out: &mut [u8], b
     requires fits { Fits inputs.now }
     requires room { HasUniforms inputs.now from (shader_view info.now) }
     requires window { base + 4 * info.now.uniforms ≤ length out.old }
-    ensures { out.new ≡ with_bytes out.old base (word_bytes (source_word inputs.now from (shader_view info.now)) info.now.uniforms) }
+    ensures { out.new ≡ with_bytes out.old base
+        (word_bytes (source_word inputs.now from (shader_view info.now)) info.now.uniforms) }
 {
     let start = from + 4 * info.samples.len();
     inputs.copy_uniforms(start, info.uniforms as usize, out, base);
@@ -76,7 +77,8 @@ fn put_words(
     requires shaped { IsShaped (shader_view info.now) }
     requires fine { IsFineUse inputs.now from (Some (shader_view info.now)) }
     requires room { base + 4 * info.now.uniforms ≤ length out.old }
-    ensures { out.new ≡ with_bytes out.old base (stream_text inputs.now from stream (Some (shader_view info.now))) }
+    ensures { out.new ≡ with_bytes out.old base
+        (stream_text inputs.now from stream (Some (shader_view info.now))) }
 {
     put_source(inputs, from, info, out, base);
     for i in 0..info.samples.len() {
@@ -110,7 +112,8 @@ fn put_stream(
     requires inside { at + 4 * s + 4 ≤ length inputs.now.records }
     requires fine { IsFineUse inputs.now from (shader_used inputs.now at s) }
     requires room { base + given_by (shader_used inputs.now at s) ≤ length out.old }
-    ensures text { out.new ≡ with_bytes out.old base (stream_text inputs.now from stream (shader_used inputs.now at s)) }
+    ensures text { out.new ≡ with_bytes out.old base
+        (stream_text inputs.now from stream (shader_used inputs.now at s)) }
     ensures taken { result.taken ≡ taken_by (shader_used inputs.now at s) }
     ensures given { result.given ≡ given_by (shader_used inputs.now at s) }
 {
@@ -137,13 +140,18 @@ pub(crate) fn put_streams(
 ) -> Amounts
     requires fits { Fits inputs.now }
     requires inside { at + 12 ≤ length inputs.now.records }
-    requires fine { (s : ℕ) → s < 3 → IsFineUse inputs.now (from + taken_before inputs.now at s) (shader_used inputs.now at s) }
+    requires fine { (s : ℕ) → s < 3
+        → IsFineUse inputs.now (from + taken_before inputs.now at s) (shader_used inputs.now at s) }
     requires taken { from + taken_before inputs.now at 3 ≤ length inputs.now.uniforms }
     requires base { base < 2 ^ 32 }
     requires places { first + given_before inputs.now at 3 < 2 ^ 32 }
     requires room { base + given_before inputs.now at 3 ≤ length out.old }
     ensures text { out.new ≡ with_bytes out.old base (streams_text inputs.now at from first 3) }
-    ensures amounts { result ≡ record { taken = taken_before inputs.now at 3; given = given_before inputs.now at 3 } }
+    ensures amounts { result ≡ record {
+      taken = taken_before inputs.now at 3;
+      given = given_before
+          inputs.now at 3;
+    } }
 {
     let mut taken = 0;
     let mut given = 0;

@@ -79,7 +79,8 @@ fn setup_fault(
     requires fits { Fits inputs.now }
     requires room { HasUniforms inputs.now from (shader_view info.now) }
     requires shaped { IsShapedSample (shader_view info.now) sample.now }
-    ensures { result ≡ first_of (setup_questions sample.now (source_word inputs.now from (shader_view info.now)) size) }
+    ensures { result ≡ first_of (setup_questions sample.now
+        (source_word inputs.now from (shader_view info.now)) size) }
 {
     let first = setup_word(inputs, from, info, sample, 0);
     let second = setup_word(inputs, from, info, sample, 1);
@@ -127,7 +128,8 @@ fn samples_fault(inputs: &Inputs, from: usize, info: &ShaderInfo) -> Option<Reco
     requires fits { Fits inputs.now }
     requires shaped { IsShaped (shader_view info.now) }
     requires room { HasUniforms inputs.now from (shader_view info.now) }
-    ensures { result ≡ first_of (each (sample_questions inputs.now from (shader_view info.now)) 0 (length info.now.samples.items)) }
+    ensures { result ≡ first_of (each (sample_questions inputs.now from (shader_view info.now)) 0
+        (length info.now.samples.items)) }
 {
     for i in 0..info.samples.len() {
         if let Some(fault) = sample_fault(inputs, from, info, i) {

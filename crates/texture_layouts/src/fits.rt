@@ -12,7 +12,8 @@ use crate::setup::{Texture, cube_stride, is_cube_word, kind};
 #[inline(always)]
 #[tactic(auto, unfolding(crate::specs::Fits::has_two_strides))]
 pub fn has_two_strides(words: &[u32; 4]) -> bool
-    ensures { result ≡ has_two_strides (slice_index words.now 0) (slice_index words.now 2) (slice_index words.now 3) }
+    ensures { result ≡ has_two_strides (slice_index words.now 0) (slice_index words.now 2)
+        (slice_index words.now 3) }
 {
     is_cube_word(words[0]) && kind(words[2]) == 1 && kind(words[3]) == 1
 }
@@ -21,7 +22,8 @@ pub fn has_two_strides(words: &[u32; 4]) -> bool
 #[inline(always)]
 #[tactic(auto, unfolding(crate::specs::Fits::lacks_stride))]
 pub fn lacks_stride(words: &[u32; 4]) -> bool
-    ensures { result ≡ lacks_stride (slice_index words.now 0) (slice_index words.now 2) (slice_index words.now 3) }
+    ensures { result ≡ lacks_stride (slice_index words.now 0) (slice_index words.now 2)
+        (slice_index words.now 3) }
 {
     is_cube_word(words[0]) && cube_stride(words[2], words[3]) == 0
 }

@@ -175,7 +175,8 @@ impl Texture {
         requires face { face < 6 }
         requires level { level ≤ self.now.levels }
         requires listed { is_unlisted self.now ≡ false }
-        ensures { SomeIff result (size_below self.now level ≤ face_place self.now face) (level_place_of self.now face level) }
+        ensures { SomeIff result (size_below self.now level ≤ face_place self.now face)
+            (level_place_of self.now face level) }
     {
         let place = self.face_place(face);
         let below = self.size_below(level);

@@ -58,7 +58,8 @@ fn level_part<'a>(texture: &Texture, bytes: &'a [u8], face: u32, level: u32) -> 
     requires inside { IsInBuffer texture.now (length bytes.now) }
     requires face { face < faces_of texture.now }
     requires level { level ≤ texture.now.levels }
-    ensures { result.now ≡ take (size_at texture.now level) (drop (level_place_of texture.now face level) bytes.now) }
+    ensures { result.now ≡ take (size_at texture.now level)
+        (drop (level_place_of texture.now face level) bytes.now) }
 {
     let Some(place) = texture.level_place(face, level) else {
         unreachable!();

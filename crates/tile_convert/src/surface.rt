@@ -28,7 +28,8 @@ pub fn untile(
     requires pixel { IsPixelSize cpp }
     ensures picture { Answers (length_questions bytes.now (size_for tiling width height cpp))
         (λ raster. IsPicture tiling width height cpp bytes.now raster.items) result }
-    ensures honest { NeverHidesFault (length_questions bytes.now (size_for tiling width height cpp)) result }
+    ensures honest { NeverHidesFault (length_questions bytes.now
+        (size_for tiling width height cpp)) result }
 {
     let order = Order::Surface(tiling);
     let wanted = picture_size(order, width, height, cpp);

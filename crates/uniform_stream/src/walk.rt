@@ -69,7 +69,8 @@ fn next_count(site: &Site, now: &Running) -> u32
 
 // The instruction is checked and reads a uniform.
 fn reads_here(site: &Site) -> bool
-    ensures { result ≡ (nat_lt site.now.at (checked_of site.now.code) && reads_uniform_of (word site.now.code site.now.at)) }
+    ensures { result ≡ (nat_lt site.now.at (checked_of site.now.code)
+        && reads_uniform_of (word site.now.code site.now.at)) }
 {
     site.is_checked() && reads_uniform(site.word())
 }
@@ -137,7 +138,8 @@ fn add_address(site: &Site, count: u32, words: &mut Vec<u32>) -> Result<(), NoMe
 fn fill(site: &Site, flow: &Flow, now: &Running, made: &mut Stream) -> Result<Running, NoMemory>
     requires made { IsFlow site.now.code flow.now }
     requires before { IsRunning site.now.code site.now.at now.now }
-    requires filled { IsFilled site.now.code site.now.at site.now.at (words_before site.now.code site.now.at) made.old }
+    requires filled { IsFilled site.now.code site.now.at site.now.at
+        (words_before site.now.code site.now.at) made.old }
     ensures next { IfOk result (IsRunning site.now.code (site.now.at + 1)) }
     ensures filled { let next = site.now.at + 1 in
         OnOk result (IsFilled site.now.code next next (words_before site.now.code next) made.new) }
@@ -210,7 +212,8 @@ fn blank(alloc: Global, words: usize) -> Result<Stream, NoMemory>
 
 // Puts the count to the address words, where the stream is open.
 fn add_last(words: &mut Vec<u32>, opened: bool, count: u32) -> Result<(), NoMemory>
-    ensures { OnOk result (words.new.items ≡ words.old.items ++ (if opened then count ∷ [] else [])) }
+    ensures { OnOk result (words.new.items ≡ words.old.items
+        ++ (if opened then count ∷ [] else [])) }
 {
     if opened {
         words.push(count)?;
