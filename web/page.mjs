@@ -4,7 +4,7 @@ import { STYLE, drawTable, nameOf, remark, tableOf } from "./table.mjs";
 /** The examples: which file, what it is, and for a broken one the bytes that are put in. */
 const EXAMPLES = {
   textured: { file: "textured", says: "a textured triangle" },
-  broken: { file: "textured", says: "a texture larger than its buffer", at: 850, bytes: [0, 0, 2, 32] },
+  broken: { file: "textured", says: "a texture larger than its buffer", at: 852, bytes: [0, 0, 2, 32] },
   two: { file: "two", says: "two jobs of two clients" },
   threaded: { file: "threaded", says: "a shader with two threads" },
   smallest: { file: "smallest", says: "the smallest job" },
@@ -134,7 +134,7 @@ async function check(next) {
   await opened();
 }
 
-/** The refusal as a heading: "Refused by rule U7, at byte 846". */
+/** The refusal as a heading: "Refused by rule U7, at byte 848". */
 function refusalOf(text) {
   const [, rule, at] = /^refused (\w+) at (?:instruction )?(\d+)/.exec(text) ?? [];
   return rule ? `Refused by rule ${rule}, at ${item.kind === "job" ? "byte" : "instruction"} ${at}` : "Refused";
