@@ -232,8 +232,8 @@ const fill = {
     const found = tableOf(item.bytes)?.shaders ?? [];
     const parts = found.length ? [] : [element("p", "The file has no shader, as far as its table goes.")];
     for (const { number, code } of found) {
-      const [text, told] = [await run(["disasm"], code), await run(["shader"], code)];
-      const says = told.status === 0 ? takenBy(utf8(told.text)) : told.line.replace(/^vc4check: /, "");
+      const [text, report] = [await run(["disasm"], code), await run(["shader"], code)];
+      const says = report.status === 0 ? takenBy(utf8(report.text)) : report.line.replace(/^vc4check: /, "");
       parts.push(element("h3", `Buffer ${number}: ${code.length / 8} instructions`), element("p", says), element("pre", utf8(text.text), { tabIndex: 0 }));
     }
     $("shaders").replaceChildren(...parts);
@@ -243,9 +243,9 @@ const fill = {
     $("refusal").textContent = item.accepted ? "" : "The file is refused, so there is no run of it.";
     if (!item.accepted) return;
     const [steps, seed] = [$("steps").value, $("seed").value];
-    const [told, accesses] = [await run(["replay", steps, seed], item.bytes), await run(["replay", "--accesses", steps, seed], item.bytes)];
-    if (told.status) return ($("refusal").textContent = told.line.replace(/^vc4check: /, ""));
-    const lines = utf8(told.text).trimEnd().split("\n");
+    const [report, accesses] = [await run(["replay", steps, seed], item.bytes), await run(["replay", "--accesses", steps, seed], item.bytes)];
+    if (report.status) return ($("refusal").textContent = report.line.replace(/^vc4check: /, ""));
+    const lines = utf8(report.text).trimEnd().split("\n");
     trace = { end: lines.pop(), lines, accesses: new Map() };
     for (const line of utf8(accesses.text).trimEnd().split("\n").slice(0, -1)) {
       const step = Number(line.slice(0, line.indexOf(" ")));
@@ -259,16 +259,16 @@ const fill = {
   },
   async bound() {
     const { status, text } = await run(["bound"], item.bytes);
-    const told = utf8(text);
-    const [, steps, more] = /^steps (\d+) and (\d+) a stay/m.exec(told) ?? [];
+    const report = utf8(text);
+    const [, steps, more] = /^steps (\d+) and (\d+) a stay/m.exec(report) ?? [];
     const parts = [];
     const count = (it) => Number(it).toLocaleString("en");
     if (status) parts.push(element("p", "The file is refused, so there is no bound."));
     else if (steps) {
       parts.push(element("p", `Every run of the model has at most ${count(steps)} steps, and ${count(more)} more for each time that the renderer stays at an item.`));
-      parts.push(element("p", /^ends$/m.test(told) ? "A run that can't go on has finished, or waits for tile memory." : "A run may also wait for a texture request that isn't there: the place in the file stands below."));
+      parts.push(element("p", /^ends$/m.test(report) ? "A run that can't go on has finished, or waits for tile memory." : "A run may also wait for a texture request that isn't there: the place in the file stands below."));
     } else parts.push(element("p", "A shader branches back, so no number of steps is known: the place in the file stands below."));
-    $("bound").replaceChildren(...parts, element("pre", told));
+    $("bound").replaceChildren(...parts, element("pre", report));
   },
 };
 

@@ -58,7 +58,7 @@ static void print_number(uint64_t number) {
     print(digits + at);
 }
 
-static uint32_t told(size_t length) {
+static uint32_t report(size_t length) {
     struct vc4check_answer answer;
     uint32_t status = vc4check_check(input, length, block, 0, &answer);
     if (status == VC4CHECK_NO_MEMORY) return 5;
@@ -81,7 +81,7 @@ __attribute__((used, noreturn)) void bare(void) {
     long got;
     while ((got = call_kernel(READ, 0, input + length, sizeof input - length)) > 0) length += (size_t)got;
     arena_over(block, sizeof block);
-    uint32_t status = told(length);
+    uint32_t status = report(length);
     size_t own = (size_t)(stack + sizeof stack - (unsigned char *)__builtin_frame_address(0));
     while (stack[untouched] == 0) untouched++;
     print("memory ");

@@ -1,7 +1,7 @@
 /* blocks CHANGES FILE..: submits the job of each file with a wrong block for each of its shaders in turn: other shaders', its own cut off at
  * each length, and so many copies of it with random words. Each block, and the window, is a piece of memory of its own, so that valgrind sees a
  * read or a write past it. Where a block can't be read (docs/LIBRARY.md), answer and window are those without blocks, since the call checks the
- * shaders itself. Where it can, the answer may be wrong; but a status is told, and the window changes after VC4CHECK_ACCEPTED alone. Prints the
+ * shaders itself. Where it can, the answer may be wrong; but a status is reported, and the window changes after VC4CHECK_ACCEPTED alone. Prints the
  * first file of which that isn't so, or how many blocks of each sort there were. Files that no submission is of are left out (job_file.h).
  * Status 0: all is so. */
 #include <stdio.h>
@@ -47,13 +47,13 @@ static struct block copy_of(const struct vc4check_known *entries, size_t count) 
 }
 
 static struct block block_of(const struct vc4check_buffer *buffer) {
-    struct vc4check_made told;
+    struct vc4check_made report;
     struct vc4check_known none[1];
     struct block block = {NULL, 0};
-    if (vc4check_make_shader(buffer->content, buffer->length, none, 0, &told) != VC4CHECK_SHORT) return block;
-    block.entries = malloc(told.entries * sizeof *block.entries);
-    block.count = told.entries;
-    if (vc4check_make_shader(buffer->content, buffer->length, block.entries, block.count, &told) != VC4CHECK_ACCEPTED) abort();
+    if (vc4check_make_shader(buffer->content, buffer->length, none, 0, &report) != VC4CHECK_SHORT) return block;
+    block.entries = malloc(report.entries * sizeof *block.entries);
+    block.count = report.entries;
+    if (vc4check_make_shader(buffer->content, buffer->length, block.entries, block.count, &report) != VC4CHECK_ACCEPTED) abort();
     return block;
 }
 
@@ -75,44 +75,44 @@ static bool is_readable(const struct block *block) {
     return true;
 }
 
-/* What is told, in a window of just so many bytes. */
-struct told {
+/* What is reported, in a window of just so many bytes. */
+struct report {
     uint32_t status;
     struct vc4check_verdict verdict;
     uint8_t *window;
     size_t room;
 };
 
-static struct told ask(size_t room) {
-    struct told told = {.window = malloc(room), .room = room};
-    if (room && !told.window) abort();
-    if (room) memset(told.window, 0xa5, room);
-    told.status = vc4check_submit(&filled.submission, told.window, room, &told.verdict);
-    return told;
+static struct report ask(size_t room) {
+    struct report report = {.window = malloc(room), .room = room};
+    if (room && !report.window) abort();
+    if (room) memset(report.window, 0xa5, room);
+    report.status = vc4check_submit(&filled.submission, report.window, room, &report.verdict);
+    return report;
 }
 
-static bool same(const struct told *a, const struct told *b) {
+static bool same(const struct report *a, const struct report *b) {
     bool told_same = a->status == b->status && memcmp(&a->verdict, &b->verdict, sizeof a->verdict) == 0;
     return told_same && (a->room == 0 || memcmp(a->window, b->window, a->room) == 0);
 }
 
-static bool is_kept(const struct told *told) {
-    for (size_t i = told->status == VC4CHECK_ACCEPTED ? told->verdict.size : 0; i < told->room; i++)
-        if (told->window[i] != 0xa5) return false;
-    return told->status <= VC4CHECK_NO_MEMORY && (told->status != VC4CHECK_ACCEPTED || told->verdict.size <= told->room);
+static bool is_kept(const struct report *report) {
+    for (size_t i = report->status == VC4CHECK_ACCEPTED ? report->verdict.size : 0; i < report->room; i++)
+        if (report->window[i] != 0xa5) return false;
+    return report->status <= VC4CHECK_NO_MEMORY && (report->status != VC4CHECK_ACCEPTED || report->verdict.size <= report->room);
 }
 
 /* One submission with this block for buffer b, which is freed. */
-static bool holds(size_t b, struct block block, const struct told *wanted) {
+static bool holds(size_t b, struct block block, const struct report *wanted) {
     filled.buffers[b].known = block.entries;
     filled.buffers[b].known_count = block.count;
-    struct told told = ask(wanted->room);
-    bool can = is_readable(&block), fine = is_kept(&told) && (can || same(&told, wanted));
+    struct report report = ask(wanted->room);
+    bool can = is_readable(&block), fine = is_kept(&report) && (can || same(&report, wanted));
     if (can) read++;
     else unread++;
     filled.buffers[b].known = made[b].entries;
     filled.buffers[b].known_count = made[b].count;
-    free(told.window);
+    free(report.window);
     free(block.entries);
     return fine;
 }
@@ -127,7 +127,7 @@ static struct block changed(const struct block *block) {
     return copy;
 }
 
-static bool all_hold(size_t b, long changes, const struct told *wanted) {
+static bool all_hold(size_t b, long changes, const struct report *wanted) {
     const struct block *block = &made[b];
     bool fine = true;
     for (size_t k = 0; fine && k < other_count; k++) fine = holds(b, copy_of(others[k].entries, others[k].count), wanted);
@@ -138,8 +138,8 @@ static bool all_hold(size_t b, long changes, const struct told *wanted) {
 
 static bool compare(long changes) {
     size_t count = filled.submission.buffer_count;
-    struct told short_of = ask(0);
-    struct told wanted = ask(short_of.status == VC4CHECK_SHORT ? short_of.verdict.size : 16);
+    struct report short_of = ask(0);
+    struct report wanted = ask(short_of.status == VC4CHECK_SHORT ? short_of.verdict.size : 16);
     free(short_of.window);
     for (size_t b = 0; b < count; b++) {
         made[b] = filled.buffers[b].kind == VC4CHECK_CODE ? block_of(&filled.buffers[b]) : (struct block){NULL, 0};

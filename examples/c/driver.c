@@ -2,7 +2,7 @@
  * hand in the job of a file, again and again. The driver keeps the five duties of docs/LIBRARY.md by a table of live jobs: while a job is live
  * its window, its slot and its buffers are refused to whoever would use them again or free them. Which call comes next is random, and so is
  * when a job's units have no work left, and when the chip is reset. After each call the duties are asked of all live jobs, byte by byte,
- * from what was handed in and told. Prints how many calls did what. Status 0: all duties were kept. */
+ * from what was handed in and reported. Prints how many calls did what. Status 0: all duties were kept. */
 #include <stdio.h>
 #include <stdlib.h>
 #include <string.h>
@@ -51,14 +51,14 @@ static bool all_there(const struct buffer *buffers, size_t count) {
 enum outcome { DONE, IN_USE, BY_RULE };
 
 /* Hands a job in. Its window and slot have to be free: no live job's lists lie in the one, and no live job may write the other. */
-static enum outcome submit(struct vc4check_submission *s, struct buffer *buffers, int window, int slot, struct vc4check_verdict *told) {
+static enum outcome submit(struct vc4check_submission *s, struct buffer *buffers, int window, int slot, struct vc4check_verdict *report) {
     struct live_job *job = free_entry();
     if (!job || window_used[window] || slot_used[slot] || !all_there(buffers, s->buffer_count)) return IN_USE;
     s->end = END;
     s->lists = window_address(window);
     s->lists_size = WINDOW;
     s->slot = slot_address(slot);
-    if (vc4check_submit(s, windows[window], WINDOW, told) != VC4CHECK_ACCEPTED) return BY_RULE;
+    if (vc4check_submit(s, windows[window], WINDOW, report) != VC4CHECK_ACCEPTED) return BY_RULE;
     window_used[window] = slot_used[slot] = true;
     for (size_t b = 0; b < s->buffer_count; b++) buffers[b].users++;
     *job = (struct live_job){.live = true, .window = window, .slot = slot, .buffers = buffers, .count = s->buffer_count};
@@ -164,14 +164,14 @@ static bool open_client(const char *name) {
     return true;
 }
 
-/* ---- the duties, asked from what was handed in and told ---- */
+/* ---- the duties, asked from what was handed in and reported ---- */
 
-/* What was handed in and told of each live job, and the lists as they were then. */
+/* What was handed in and reported of each live job, and the lists as they were then. */
 static struct handed {
     struct client *client;
     struct vc4check_submission submission;
     struct vc4check_buffer buffers[BUFFERS];
-    struct vc4check_verdict told;
+    struct vc4check_verdict report;
     uint8_t *lists;
 } handed[JOBS];
 
@@ -179,7 +179,7 @@ struct interval {
     uint32_t place, size;
 };
 
-/* What the job may write: its slot, and the Plain buffers that its handles name. */
+/* What the job may write: its slot, and the data buffers that its handles name. */
 static size_t written_by(const struct handed *h, struct interval *into) {
     size_t count = 0;
     into[count++] = (struct interval){h->submission.slot, SLOT};
@@ -193,7 +193,7 @@ static size_t written_by(const struct handed *h, struct interval *into) {
 /* What it may only read: its lists, and the Code buffers that its handles name. */
 static size_t read_by(const struct handed *h, struct interval *into) {
     size_t count = 0;
-    into[count++] = (struct interval){h->submission.lists, h->told.size};
+    into[count++] = (struct interval){h->submission.lists, h->report.size};
     for (size_t k = 0; k < h->submission.handle_count; k++) {
         const struct vc4check_buffer *buffer = &h->buffers[h->submission.handles[k]];
         if (buffer->kind == VC4CHECK_CODE) into[count++] = (struct interval){buffer->address, buffer->size};
@@ -215,7 +215,7 @@ static bool spares(const struct handed *one, const struct handed *other) {
 /* What the hardware finds: the lists that the call wrote, and in each Code buffer the shader with zeros behind, where it was handed in. */
 static bool is_prepared(int j) {
     const struct handed *h = &handed[j];
-    if (memcmp(windows[jobs[j].window], h->lists, h->told.size) != 0) return false;
+    if (memcmp(windows[jobs[j].window], h->lists, h->report.size) != 0) return false;
     for (size_t b = 0; b < h->submission.buffer_count; b++) {
         const struct vc4check_buffer *given = &h->buffers[b];
         const struct buffer *now = &h->client->buffers[b];
@@ -249,26 +249,26 @@ static void count_live(void) {
     if (live > counts.most) counts.most = live;
 }
 
-/* Keeps what was handed in and told beside the driver's entry, whose window is now the job's. */
-static void keep(struct client *client, int j, const struct vc4check_verdict *told) {
+/* Keeps what was handed in and reported beside the driver's entry, whose window is now the job's. */
+static void keep(struct client *client, int j, const struct vc4check_verdict *report) {
     struct handed *h = &handed[j];
     h->client = client;
     h->submission = client->filled->submission;
     memcpy(h->buffers, client->filled->buffers, h->submission.buffer_count * sizeof *h->buffers);
-    h->told = *told;
+    h->report = *report;
     free(h->lists);
-    h->lists = malloc(told->size + 1);
+    h->lists = malloc(report->size + 1);
     if (!h->lists) abort();
-    memcpy(h->lists, windows[jobs[j].window], told->size);
+    memcpy(h->lists, windows[jobs[j].window], report->size);
     jobs[j].work = chance(6);
 }
 
 static void try_submit(void) {
     struct client *client = &clients[chance((uint32_t)client_count)];
-    struct vc4check_verdict told;
+    struct vc4check_verdict report;
     struct live_job *entry = free_entry();
-    switch (submit(&client->filled->submission, client->buffers, (int)chance(WINDOWS), (int)chance(SLOTS), &told)) {
-    case DONE: counts.accepted++; keep(client, (int)(entry - jobs), &told); break;
+    switch (submit(&client->filled->submission, client->buffers, (int)chance(WINDOWS), (int)chance(SLOTS), &report)) {
+    case DONE: counts.accepted++; keep(client, (int)(entry - jobs), &report); break;
     case BY_RULE: counts.by_rule++; break;
     case IN_USE: counts.in_use++;
     }

@@ -22,7 +22,7 @@ struct filled_submission {
 
 /* Fills a submission from a job file of one job, with all its places moved up by so many bytes; the file has to stay. False where that
  * can't be: where the file isn't whole, has several jobs or other than one tile slot, more than its version's limit of buffers or handles, a
- * place over 64 MiB that would be moved, or contents of a Plain buffer past its end. */
+ * place over 64 MiB that would be moved, or contents of a data buffer past its end. */
 bool submission_of_job_file(const uint8_t *bytes, size_t length, uint32_t moved, struct filled_submission *into);
 
 #endif

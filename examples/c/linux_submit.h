@@ -8,7 +8,7 @@
 /* A buffer as the driver knows it: where it lies, its bytes, and of a shader's buffer the shader and what was made of it. */
 struct submit_buffer {
     uint32_t address, size;
-    const uint8_t *shader; /* null for a Plain buffer */
+    const uint8_t *shader; /* null for a data buffer */
     size_t shader_length;
     const struct vc4check_known *known;
     size_t known_count;

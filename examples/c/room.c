@@ -1,6 +1,6 @@
 /* room CHANGES FILE..: asks vc4check_submit of each job file's job, and of so many copies of the file with bytes changed, once with a block of 16 MiB for
  * all that the call takes, and once with a block of just the size that arena_for_submit tells; shaders are made before, and a job with one that is refused is
- * left out. The second call never runs out of memory, and both say the same. Prints how many jobs were asked, and how much of the told size was taken at
+ * left out. The second call never runs out of memory, and both say the same. Prints how many jobs were asked, and how much of it was taken at
  * most. Status 0 where that holds for all. */
 #include <stdio.h>
 #include <stdlib.h>
@@ -31,19 +31,19 @@ static bool makes_shaders(void) {
     return true;
 }
 
-/* Whether the told size is enough for the job of this file. */
+/* Whether the reported size is enough for the job of this file. */
 static bool holds(const uint8_t *file, size_t length) {
     struct vc4check_verdict verdict, other;
     arena_over(block, BLOCK);
     if (!submission_of_job_file(file, length, 0xC0000000, &filled) || !makes_shaders()) return ++left_out;
-    size_t told = arena_for_submit(&filled.submission);
-    if (told > BLOCK) return ++left_out;
+    size_t report = arena_for_submit(&filled.submission);
+    if (report > BLOCK) return ++left_out;
     memset(&verdict, 0, sizeof verdict);
     memset(&other, 0, sizeof other);
     uint32_t status = vc4check_submit(&filled.submission, window, ROOM, &verdict);
-    arena_over(block, told);
+    arena_over(block, report);
     uint32_t again = vc4check_submit(&filled.submission, other_window, ROOM, &other);
-    size_t share = 100 * arena_peak() / told;
+    size_t share = 100 * arena_peak() / report;
     if (share > most_share) most_share = share;
     asked++;
     accepted += status == VC4CHECK_ACCEPTED;

@@ -28,14 +28,14 @@ static uint8_t *whole(const char *name, size_t *length) {
 
 /* Makes the shader of a Code buffer; one that is refused keeps no block. */
 static void make_shader(struct vc4check_buffer *buffer, struct vc4check_known **block) {
-    struct vc4check_made told;
+    struct vc4check_made report;
     static struct vc4check_known none[1];
-    uint32_t status = vc4check_make_shader(buffer->content, buffer->length, none, 0, &told);
+    uint32_t status = vc4check_make_shader(buffer->content, buffer->length, none, 0, &report);
     if (status != VC4CHECK_SHORT) return;
-    *block = malloc(told.entries * sizeof **block);
-    buffer->known_count = told.entries;
+    *block = malloc(report.entries * sizeof **block);
+    buffer->known_count = report.entries;
     buffer->known = *block;
-    status = vc4check_make_shader(buffer->content, buffer->length, *block, told.entries, &told);
+    status = vc4check_make_shader(buffer->content, buffer->length, *block, report.entries, &report);
     if (status != VC4CHECK_ACCEPTED) abort();
 }
 
@@ -64,7 +64,7 @@ static bool same_job(const struct vc4check_job *a, const struct vc4check_job *b)
         && b->records_length == a->records_length && b->uniforms_length == a->uniforms_length && b->render_length == a->render_length;
 }
 
-/* What is told of the file at its own places, its memory, and the lists of the same file at the moved ones. */
+/* What is reported of the file at its own places, its memory, and the lists of the same file at the moved ones. */
 struct wanted {
     uint32_t status;
     struct vc4check_answer answer, placed;
@@ -72,7 +72,7 @@ struct wanted {
     uint8_t *memory, *lists;
 };
 
-/* Where in the file that the submission was made from its refusal is: that file has contents of Plain buffers too. */
+/* Where in the file that the submission was made from its refusal is: that file has contents of data buffers too. */
 static uint64_t place_in_file(const struct vc4check_verdict *verdict) {
     uint64_t place = place_in_job_file(&filled.submission, verdict);
     for (size_t b = 0; b < filled.submission.buffer_count; b++) {

@@ -154,8 +154,8 @@ struct vc4check_buffer {
     uint32_t size;                      /* bytes; a multiple of 4,096 */
     uint32_t client;                    /* whose it is: a number of the driver's. A job may name its own client's alone */
     uint32_t kind;                      /* VC4CHECK_PLAIN or VC4CHECK_CODE */
-    const uint8_t *content;             /* pointer: to the shader in a Code buffer; that of a Plain buffer isn't read */
-    size_t length;                      /* bytes of the shader, 8 for each instruction, at most 65,536; 0 for a Plain buffer */
+    const uint8_t *content;             /* pointer: to the shader in a Code buffer; that of a data buffer isn't read */
+    size_t length;                      /* bytes of the shader, 8 for each instruction, at most 65,536; 0 for a data buffer */
     const struct vc4check_known *known; /* pointer: to the block that vc4check_make_shader made of exactly these bytes */
     size_t known_count;                 /* entries of that block; where a shader has none, vc4check_submit checks all shaders itself */
 };

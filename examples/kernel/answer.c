@@ -57,50 +57,50 @@ static void say_job(struct text *text, const struct vc4check_job *job)
 
 static uint32_t say_check(const uint8_t *bytes, size_t length, struct text *text)
 {
-	struct vc4check_answer told;
+	struct vc4check_answer report;
 	uint8_t none, *block = NULL;
-	uint32_t status = vc4check_check(bytes, length, &none, 0, &told);
+	uint32_t status = vc4check_check(bytes, length, &none, 0, &report);
 
 	if (status == VC4CHECK_SHORT) {
-		block = malloc(told.size);
-		status = block ? vc4check_check(bytes, length, block, told.size, &told) : VC4CHECK_NO_MEMORY;
+		block = malloc(report.size);
+		status = block ? vc4check_check(bytes, length, block, report.size, &report) : VC4CHECK_NO_MEMORY;
 	}
 	if (status == VC4CHECK_ACCEPTED) {
-		say(text, "accepted %u sum %016llx\n", told.size, sum_of(block, told.size));
-		for (uint32_t j = 0; j < told.jobs; j++)
-			say_job(text, &told.job[j]);
+		say(text, "accepted %u sum %016llx\n", report.size, sum_of(block, report.size));
+		for (uint32_t j = 0; j < report.jobs; j++)
+			say_job(text, &report.job[j]);
 	}
 	if (status == VC4CHECK_REFUSED)
-		say_refusal(text, told.letter, told.number, told.offset);
+		say_refusal(text, report.letter, report.number, report.offset);
 	free(block);
 	return status;
 }
 
 static uint32_t say_bound(const uint8_t *bytes, size_t length, struct text *text)
 {
-	struct vc4check_bound_answer told;
-	uint32_t status = vc4check_bound(bytes, length, &told);
+	struct vc4check_bound_answer report;
+	uint32_t status = vc4check_bound(bytes, length, &report);
 
 	if (status == VC4CHECK_ACCEPTED)
-		say(text, "bound %llu %llu stay %llu items %llu loops %u waits %u at %llu\n", (unsigned long long)told.steps_high,
-		    (unsigned long long)told.steps_low, (unsigned long long)told.stay, (unsigned long long)told.items, told.loops,
-		    told.waits, (unsigned long long)told.offset);
+		say(text, "bound %llu %llu stay %llu items %llu loops %u waits %u at %llu\n", (unsigned long long)report.steps_high,
+		    (unsigned long long)report.steps_low, (unsigned long long)report.stay, (unsigned long long)report.items, report.loops,
+		    report.waits, (unsigned long long)report.offset);
 	return status;
 }
 
 static uint32_t say_submit(const struct vc4check_submission *submission, struct text *text)
 {
-	struct vc4check_verdict told;
+	struct vc4check_verdict report;
 	uint8_t *window = malloc(WINDOW);
-	uint32_t status = window ? vc4check_submit(submission, window, WINDOW, &told) : VC4CHECK_NO_MEMORY;
+	uint32_t status = window ? vc4check_submit(submission, window, WINDOW, &report) : VC4CHECK_NO_MEMORY;
 
 	if (status == VC4CHECK_ACCEPTED) {
-		say(text, "submit accepted %u sum %016llx\n", told.size, sum_of(window, told.size));
-		say_job(text, &told.job);
+		say(text, "submit accepted %u sum %016llx\n", report.size, sum_of(window, report.size));
+		say_job(text, &report.job);
 	}
 	if (status == VC4CHECK_REFUSED) {
-		say(text, "submit part %u index %u ", told.part, told.index);
-		say_refusal(text, told.letter, told.number, told.offset);
+		say(text, "submit part %u index %u ", report.part, report.index);
+		say_refusal(text, report.letter, report.number, report.offset);
 	}
 	free(window);
 	return status;
@@ -110,10 +110,10 @@ bool answer(const uint8_t *bytes, size_t length, char *start)
 {
 	struct text text = { start, ANSWER_ROOM };
 	struct filled_submission *filled = malloc(sizeof(*filled));
-	bool told = filled && say_check(bytes, length, &text) != VC4CHECK_NO_MEMORY && say_bound(bytes, length, &text) != VC4CHECK_NO_MEMORY;
+	bool done = filled && say_check(bytes, length, &text) != VC4CHECK_NO_MEMORY && say_bound(bytes, length, &text) != VC4CHECK_NO_MEMORY;
 
-	if (told && submission_of_job_file(bytes, length, 0xC0000000, filled))
-		told = say_submit(&filled->submission, &text) != VC4CHECK_NO_MEMORY;
+	if (done && submission_of_job_file(bytes, length, 0xC0000000, filled))
+		done = say_submit(&filled->submission, &text) != VC4CHECK_NO_MEMORY;
 	free(filled);
-	return told;
+	return done;
 }

@@ -14,11 +14,11 @@ static char text[ANSWER_ROOM];
 static bool ask_device(size_t length)
 {
 	int device = open("/dev/vc4check", O_RDWR);
-	bool told = device >= 0 && write(device, bytes, length) == (ssize_t)length && read(device, text, sizeof(text) - 1) >= 0;
+	bool answered = device >= 0 && write(device, bytes, length) == (ssize_t)length && read(device, text, sizeof(text) - 1) >= 0;
 
 	if (device >= 0)
 		close(device);
-	return told;
+	return answered;
 }
 
 #ifdef DEVICE_ALONE
@@ -40,9 +40,9 @@ int main(int count, char **words)
 		size_t length = fread(bytes, 1, sizeof(bytes), file);
 		fclose(file);
 		memset(text, 0, sizeof(text));
-		bool told = by_device ? ask_device(length) : answer(bytes, length, text);
-		printf("== %s\n%s", words[i], told ? text : "no answer\n");
-		all = all && told;
+		bool answered = by_device ? ask_device(length) : answer(bytes, length, text);
+		printf("== %s\n%s", words[i], answered ? text : "no answer\n");
+		all = all && answered;
 	}
 	return !all;
 }

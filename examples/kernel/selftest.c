@@ -14,7 +14,7 @@ static uint times;
 module_param(times, uint, 0444);
 MODULE_PARM_DESC(times, "how many calls of each kind are timed for each example, of which the quickest is told");
 
-enum { WINDOW = 1 << 20, KNOWN = 4096, UNTOLD = 0xa5 };
+enum { WINDOW = 1 << 20, KNOWN = 4096, UNSET = 0xa5 };
 
 /* A job, and what a call on it writes. */
 struct test {
@@ -26,7 +26,7 @@ struct test {
 		struct vc4check_answer file;
 		struct vc4check_verdict submission;
 		struct vc4check_made shader;
-	} told;
+	} report;
 	u8 window[WINDOW];
 };
 
@@ -34,14 +34,14 @@ typedef u32 call(struct test *test);
 
 static u32 check(struct test *test)
 {
-	u32 status = vc4check_check(test->bytes, test->length, test->window, 0, &test->told.file);
+	u32 status = vc4check_check(test->bytes, test->length, test->window, 0, &test->report.file);
 
 	return status == VC4CHECK_SHORT ? VC4CHECK_ACCEPTED : status;
 }
 
 static u32 submit(struct test *test)
 {
-	return vc4check_submit(&test->filled.submission, test->window, WINDOW, &test->told.submission);
+	return vc4check_submit(&test->filled.submission, test->window, WINDOW, &test->report.submission);
 }
 
 /* Makes the first of the job's shaders that has no block. */
@@ -56,11 +56,11 @@ static u32 make_shader(struct test *test)
 		free += buffer->known_count;
 		if (buffer->kind != VC4CHECK_CODE || buffer->known_count)
 			continue;
-		status = vc4check_make_shader(buffer->content, buffer->length, free, test->known + KNOWN - free, &test->told.shader);
+		status = vc4check_make_shader(buffer->content, buffer->length, free, test->known + KNOWN - free, &test->report.shader);
 		if (status != VC4CHECK_ACCEPTED)
 			break;
 		buffer->known = free;
-		buffer->known_count = test->told.shader.entries;
+		buffer->known_count = test->report.shader.entries;
 		break;
 	}
 	return status;
@@ -74,8 +74,8 @@ static long starved(call *one, struct test *test)
 	for (long n = 0;; n++) {
 		u32 status;
 
-		memset(&test->told, UNTOLD, sizeof(test->told));
-		memset(test->window, UNTOLD, WINDOW);
+		memset(&test->report, UNSET, sizeof(test->report));
+		memset(test->window, UNSET, WINDOW);
 		heap_left = n;
 		status = one(test);
 		heap_left = -1;
@@ -83,7 +83,7 @@ static long starved(call *one, struct test *test)
 			return -1;
 		if (status != VC4CHECK_NO_MEMORY)
 			return status == VC4CHECK_ACCEPTED ? n : -1;
-		if (memchr_inv(&test->told, UNTOLD, sizeof(test->told)) || memchr_inv(test->window, UNTOLD, WINDOW))
+		if (memchr_inv(&test->report, UNSET, sizeof(test->report)) || memchr_inv(test->window, UNSET, WINDOW))
 			return -1;
 	}
 }
@@ -103,7 +103,7 @@ static bool test_call(const char *name, const char *what, call *one, struct test
 	return allocations >= 0;
 }
 
-/* The same submission with all memory from one block, of the size that is told. */
+/* The same submission with all memory from one block, of the size that is reported. */
 static bool test_in_room(const char *name, struct test *test)
 {
 	size_t size = arena_for_submit(&test->filled.submission);

@@ -33,7 +33,7 @@ static const uint32_t FIRST = 0xC0000000, WINDOW = 0xFE000000, SLOT = 0xFE400000
 
 /* A buffer lies at address - FIRST of one sparse file, which is what a program maps. */
 struct buffer {
-    struct submit_buffer told;
+    struct submit_buffer report;
     uint64_t tiling;
     bool live;
 };
@@ -60,14 +60,14 @@ static uint32_t new_buffer(uint64_t size) {
     }
     size = (size + PAGE - 1) / PAGE * PAGE;
     for (uint32_t handle = 1; handle <= most_handle; handle++) {
-        if (buffers[handle].live || buffers[handle].told.size != size) continue;
-        fallocate(memory, FALLOC_FL_PUNCH_HOLE | FALLOC_FL_KEEP_SIZE, (off_t)(buffers[handle].told.address - FIRST), (off_t)size);
+        if (buffers[handle].live || buffers[handle].report.size != size) continue;
+        fallocate(memory, FALLOC_FL_PUNCH_HOLE | FALLOC_FL_KEEP_SIZE, (off_t)(buffers[handle].report.address - FIRST), (off_t)size);
         buffers[handle].live = true;
         return handle;
     }
     if (size == 0 || size > WINDOW - FIRST - taken || most_handle + 1 == MOST_BUFFERS) return 0;
     struct buffer *buffer = &buffers[++most_handle];
-    *buffer = (struct buffer){.told = {.address = FIRST + taken, .size = (uint32_t)size}, .live = true};
+    *buffer = (struct buffer){.report = {.address = FIRST + taken, .size = (uint32_t)size}, .live = true};
     taken += (uint32_t)size;
     return most_handle;
 }
@@ -77,10 +77,10 @@ static struct buffer *buffer_of(uint32_t handle) {
 }
 
 static void drop(struct buffer *buffer) {
-    free((void *)buffer->told.shader);
-    free((void *)buffer->told.known);
-    buffer->told.shader = NULL;
-    buffer->told.known = NULL;
+    free((void *)buffer->report.shader);
+    free((void *)buffer->report.known);
+    buffer->report.shader = NULL;
+    buffer->report.known = NULL;
     buffer->live = false;
 }
 
@@ -122,11 +122,11 @@ static int make_shader(struct drm_vc4_create_shader_bo *asked) {
     struct vc4check_known *known = know(shader, asked->size, &entries);
     uint32_t handle = known ? new_buffer(asked->size) : 0;
     if (!handle) return free(known), free(shader), -ENOMEM;
-    struct submit_buffer *told = &buffers[handle].told;
-    told->shader = shader;
-    told->shader_length = asked->size;
-    told->known = known;
-    told->known_count = entries;
+    struct submit_buffer *report = &buffers[handle].report;
+    report->shader = shader;
+    report->shader_length = asked->size;
+    report->known = known;
+    report->known_count = entries;
     asked->handle = handle;
     return 0;
 }
@@ -145,7 +145,7 @@ static int tell(struct drm_vc4_get_param *asked) {
 static const struct submit_buffer *look_up(void *known, uint32_t handle) {
     (void)known;
     struct buffer *buffer = buffer_of(handle);
-    return buffer ? &buffer->told : NULL;
+    return buffer ? &buffer->report : NULL;
 }
 
 static bool write_whole(const char *name, const void *bytes, size_t length) {
@@ -159,18 +159,18 @@ static bool write_whole(const char *name, const void *bytes, size_t length) {
 /* The job as a file, and beside it the first line that `vc4check check` prints of that file. */
 static void save(const struct vc4check_submission *submission, uint32_t status, const struct vc4check_verdict *verdict) {
     const char *folder = getenv("VC4CHECK_SAVE");
-    char name[4096], told[64] = "accepted\n";
+    char name[4096], report[64] = "accepted\n";
     size_t length;
     if (!folder) return;
     uint8_t *file = job_file_of_submission(submission, true, &length);
     if (!file) return;
     if (status == VC4CHECK_REFUSED)
-        snprintf(told, sizeof told, "refused %c%u at %llu\n", (int)verdict->letter, verdict->number,
+        snprintf(report, sizeof report, "refused %c%u at %llu\n", (int)verdict->letter, verdict->number,
                  (unsigned long long)place_in_job_file(submission, verdict));
     snprintf(name, sizeof name, "%s/%d-%05u.vc4j", folder, (int)getpid(), jobs);
     write_whole(name, file, length);
     strcpy(strrchr(name, '.'), ".told");
-    write_whole(name, told, strlen(told));
+    write_whole(name, report, strlen(report));
     free(file);
 }
 
@@ -262,7 +262,7 @@ static int of_buffer(unsigned long request, void *argument) {
     struct buffer *buffer = buffer_of(request == DRM_IOCTL_GEM_CLOSE ? closed->handle : tiles ? tiling->handle : map->handle);
     if (!buffer) return -ENOENT;
     if (request == DRM_IOCTL_GEM_CLOSE) drop(buffer);
-    else if (request == DRM_IOCTL_VC4_MMAP_BO) map->offset = buffer->told.address - FIRST;
+    else if (request == DRM_IOCTL_VC4_MMAP_BO) map->offset = buffer->report.address - FIRST;
     else if (request == DRM_IOCTL_VC4_SET_TILING) buffer->tiling = tiling->modifier;
     else tiling->modifier = buffer->tiling;
     return 0;

@@ -1,9 +1,9 @@
 -- A list of packets that walks is cut into these packets again.
 use Rattle.std.proofs.Common.{◌≡◌, ◌≢◌, ◌≤◌, ℕ, ◌+◌, ◌==◌, Bool, false, List, [], ◌∷◌, ◌++◌, length, take, drop, if◌then◌else◌, refl, ◌∙◌, ap, subst, arith}
 use Rattle.std.proofs.{lemmas.Grind.common_steps, lemmas.Bool.Decides.nat_tests, lemmas.List.length-append}
-use Rattle.field_words.specs.Pieces.{joined}
+use Rattle.field_words.specs.Pieces.{joined_texts}
 use Rattle.packets.specs.{declared.config.Config.Config, Length.bin_length, Length.bin_taken, Opcode.halt}
-use Rattle.bin_list.specs.Packets.{opcode, front_packet, behind, cut, packets}
+use Rattle.bin_list.specs.Packets.{opcode, front_packet, behind, front_packets, packets}
 use Rattle.bin_list.proofs.Walk.{cut_step, cut_nothing}
 use Rattle.bin_walks.specs.Walks.{Kept, kept_after, Tame, Walks}
 use Rattle.list_law.proofs.Binning.{taken_is}
@@ -32,10 +32,10 @@ unfolding behind
 behind_is packet rest taken no_halt =
     ap (λ (b : Bool). if b then [] else drop (bin_taken (opcode (packet ++ rest))) (packet ++ rest)) no_halt ∙ (ap (λ n. drop n (packet ++ rest)) taken ∙ drop_front packet rest)
 
-cut_walks : (c : Config) (R : ℕ → List ℕ → Type 0) (kept : Kept) (fuel : ℕ) (list : List (List ℕ)) → Walks c R kept list → length (joined list) ≤ fuel → cut fuel (joined list) ≡ list
+cut_walks : (c : Config) (R : ℕ → List ℕ → Type 0) (kept : Kept) (fuel : ℕ) (list : List (List ℕ)) → Walks c R kept list → length (joined_texts list) ≤ fuel → front_packets fuel (joined_texts list) ≡ list
 cut_walks c R kept fuel [] walks enough = cut_nothing fuel [] refl
 cut_walks c R kept fuel (packet ∷ later) walks enough =
-    let rest : List ℕ = joined later in
+    let rest : List ℕ = joined_texts later in
     let tame : Tame c R kept packet = walks.0 in
     let whole : length packet ≡ bin_length (opcode packet) = tame.whole in
     let known : bin_length (opcode packet) ≢ 0 = tame.known in
@@ -50,8 +50,8 @@ cut_walks c R kept fuel (packet ∷ later) walks enough =
     let step = cut_step fuel (packet ++ rest) (omega (arith, long, some)) enough in
     let n : ℕ = step.0 in
     let room : length rest ≤ n = subst (λ bytes. length bytes ≤ n) back step.1.enough in
-    step.1.is ∙ (ap (λ one. one ∷ cut n (behind (packet ++ rest))) front ∙ (ap (λ bytes. packet ∷ cut n bytes) back ∙ ap (λ ps. packet ∷ ps) (cut_walks c R (kept_after kept packet) n later walks.1 room)))
+    step.1.is ∙ (ap (λ one. one ∷ front_packets n (behind (packet ++ rest))) front ∙ (ap (λ bytes. packet ∷ front_packets n bytes) back ∙ ap (λ ps. packet ∷ ps) (cut_walks c R (kept_after kept packet) n later walks.1 room)))
 
-pub packets_walk : (c : Config) (R : ℕ → List ℕ → Type 0) (kept : Kept) (list : List (List ℕ)) → Walks c R kept list → packets (joined list) ≡ list
+pub packets_walk : (c : Config) (R : ℕ → List ℕ → Type 0) (kept : Kept) (list : List (List ℕ)) → Walks c R kept list → packets (joined_texts list) ≡ list
 unfolding packets
-packets_walk c R kept list walks = cut_walks c R kept (length (joined list)) list walks (omega arith)
+packets_walk c R kept list walks = cut_walks c R kept (length (joined_texts list)) list walks (omega arith)

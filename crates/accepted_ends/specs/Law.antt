@@ -5,6 +5,6 @@ use Rattle.job_format.specs.{File.IsWellFormed, File.Fits, Model.FileModel}
 use Rattle.job_check.specs.Faults.{place_stages}
 use Rattle.promises.specs.Bounded.{FileEnds}
 
--- The jobs of each file end in which no rule stands.
+-- The jobs of each file end in which no rule is broken.
 abbrev pub FilesEndBy : Type 0
 FilesEndBy = (f : FileModel) → IsWellFormed f → Fits f → first_of (place_stages f) ≡ None → FileEnds f

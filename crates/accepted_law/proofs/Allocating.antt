@@ -4,7 +4,7 @@ use Rattle.std.proofs.lemmas.{Bool.leb-true, Bool.eqb-true, Bool.not-false, Bool
 use Rattle.field_words.specs.{Sizes.page_size, Sizes.slot_size, Words.rounded_up, Questions.first_of}
 use Rattle.field_words.proofs.{Numbers.rounded, Nones.front_none, Nones.rest_none, Nones.none_answered}
 use Rattle.tile_memory.specs.Slots.{alloc_offset, slot_fits}
-use Rattle.bin_list.specs.{Packets.packets, Packets.passed, Seen.seen_before, Rules.GivenModel, Rules.questions_of, Rules.bin_questions}
+use Rattle.bin_list.specs.{Packets.packets, Packets.packets_passed, Seen.seen_before, Rules.GivenModel, Rules.questions_of, Rules.bin_questions}
 use Rattle.bin_list.proofs.{Facts.has_grid, Facts.configured, Sound.started}
 use Rattle.job_format.specs.Model.{FileModel}
 use Rattle.job_check.specs.{Shaders.table_of, Jobs.job_of, Jobs.has_bin, Jobs.slot_of}
@@ -16,8 +16,8 @@ use Rattle.accepted_law.specs.{Settled.Settled, Parts.FilesAllocate}
 use Rattle.accepted_law.proofs.ByJob.{rights_are}
 
 -- The grid has room in a slot; where there is no binner list it has no tiles.
-grid_room : (given : GivenModel) (list : List ℕ) → first_of (questions_of given (passed list)) ≡ None
-    → slot_fits ((seen_before (passed list)).tiles_x * (seen_before (passed list)).tiles_y) ≡ true
+grid_room : (given : GivenModel) (list : List ℕ) → first_of (questions_of given (packets_passed list)) ≡ None
+    → slot_fits ((seen_before (packets_passed list)).tiles_x * (seen_before (packets_passed list)).tiles_y) ≡ true
 unfolding questions_of seen_before
 grid_room given list none = grind (arith, common_steps, nat_tests, front_none, none_answered, rest_none, has_grid, configured, started)
 
@@ -25,8 +25,8 @@ nothing_fits : slot_fits (0 * 0) ≡ true
 unfolding slot_fits alloc_offset rounded_up
 nothing_fits = refl
 
-empty_room : (list : List ℕ) → length list ≡ 0 → slot_fits ((seen_before (passed list)).tiles_x * (seen_before (passed list)).tiles_y) ≡ true
-unfolding passed packets seen_before
+empty_room : (list : List ℕ) → length list ≡ 0 → slot_fits ((seen_before (packets_passed list)).tiles_x * (seen_before (packets_passed list)).tiles_y) ≡ true
+unfolding packets_passed packets seen_before
 empty_room list none = search (rules, arith, nothing_fits)
 
 not_some : (n : ℕ) → not (n == 0) ≡ false → n ≡ 0

@@ -22,7 +22,7 @@ use Rattle.accepted_law.specs.{Ends.DrawShaders, Settled.Grounds, Parts.DrawsBeg
 use Rattle.accepted_law.proofs.States.{StateFound, state_found, place_for, place_whole, place_of, state_of, record_kept, data_inside, attributes_of}
 use Rattle.accepted_law.proofs.{Programs.records_launch_law, Holding.bin_is, Tables.buffer_low}
 
--- a Plain buffer that a handle names
+-- a data buffer that a handle names
 data_named : (table : TableModel) (handles : List ℕ) (handle : ℕ) → IsData table handles handle → data_of table handles handle ≡ Some (slice_index handles handle)
 unfolding data_of
 data_named table handles handle is = grind (arith, common_steps, nat_tests)
@@ -82,7 +82,7 @@ draws_begin_law f j m word packet grounds has drawn kind =
         state = n;
         most = (state_at (input_for f j) k).max_index;
         is_state = state_is;
-        record_stands = kept.stands;
+        record_lies = kept.stands;
         record_fixed = kept.fixed;
         attributes = attributes_of f j m k word grounds has found.below place_is;
         fragment = launches.fragment;

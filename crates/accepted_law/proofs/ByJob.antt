@@ -3,7 +3,7 @@ use Rattle.std.proofs.Common.{◌≡◌, inl, inr, ℕ, zero, suc, ◌+◌, ◌<
 use Rattle.std.proofs.lemmas.{Bool.cases_lt, List.get_or_past, List.FromFn.length-map-range_with_len, List.FromFn.get_or-map-range_with_len}
 use Rattle.std.specs.List.{range_with_len}
 use Rattle.job_format.specs.Model.{FileModel}
-use Rattle.machine_plan.specs.Regions.{Inside, Rights, joined}
+use Rattle.machine_plan.specs.Regions.{Inside, Rights, regions_joined}
 use Rattle.machine_law.specs.Units.{EachAt}
 use Rattle.machine_law.proofs.Apart.{inside_left, inside_either, inside_right}
 use Rattle.promises.specs.Holdings.{of_jobs, lists_of, codes_of, job_rights, file_rights, rights_at, fixed_below, fixed_of}
@@ -38,15 +38,15 @@ pub record LiesInJob (rights : ℕ → Rights) (n p : ℕ) : Type 0 where
   pub below : number < n
   pub lies : Inside (rights number).region p 1
 
-in_one_from : (rights : ℕ → Rights) (n j p : ℕ) → Inside (joined (map rights (range_with_len j n))) p 1 → LiesInJob rights (j + n) p
+in_one_from : (rights : ℕ → Rights) (n j p : ℕ) → Inside (regions_joined (map rights (range_with_len j n))) p 1 → LiesInJob rights (j + n) p
 in_one_from rights zero j p lies = absurd lies
 in_one_from rights (suc n) j p lies =
-    elim (inside_either (rights j).region (joined (map rights (range_with_len (j + 1) n))) p 1 lies) [
+    elim (inside_either (rights j).region (regions_joined (map rights (range_with_len (j + 1) n))) p 1 lies) [
       | inl here ↦ record { number = j; below = omega arith; lies = here }
       | inr later ↦ let found = in_one_from rights n (j + 1) p later in record { number = found.number; below = omega (arith, found.below); lies = found.lies }
     ]
 
-pub in_some_job : (f : FileModel) (p : ℕ) → Inside (joined (file_rights f)) p 1 → LiesInJob (job_rights f) (length f.jobs) p
+pub in_some_job : (f : FileModel) (p : ℕ) → Inside (regions_joined (file_rights f)) p 1 → LiesInJob (job_rights f) (length f.jobs) p
 unfolding file_rights
 in_some_job f p lies = search (rules, arith, in_one_from)
 

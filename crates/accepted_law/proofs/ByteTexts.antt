@@ -2,7 +2,7 @@
 use Rattle.std.proofs.Common.{ℕ, zero, suc, ◌+◌, ◌-◌, ◌*◌, ◌/◌, ◌%◌, ◌^◌, ◌<◌, Bool, if◌then◌else◌, ◌==◌, List, [], ◌∷◌, ◌++◌, Option, Some, None, length, drop, replicate, slice_index, arith, lit<, rules}
 use Rattle.std.proofs.Math.Nat.{mod-lt}
 use Rattle.std.specs.{Int.to_le_bytes, Int.bytes_low_first, Int.byte_at, Int.w16, Int.w32, List.AllByRecursion}
-use Rattle.field_words.specs.{Words.IsBytes, WordBytes.word_bytes, Writes.Part, Writes.placed, Writes.with_bytes, Writes.zeros}
+use Rattle.field_words.specs.{Words.IsBytes, WordBytes.word_bytes, Writes.Part, Writes.parts_placed, Writes.with_bytes, Writes.zeros}
 use Rattle.field_words.proofs.Numbers.{front_bytes, rest_bytes}
 use Rattle.relocation.specs.declared.layout.Layout.{Layout}
 use Rattle.packets.specs.declared.packet.Packet.TheVariants.{WaitOnSemaphore, BranchToSubList, StoreTileColor, StoreTileColorAndEnd, StoreFullResolution, LoadFullResolution, StoreTileBuffer, LoadTileBuffer, TileRenderingMode, ClearColors, TileCoordinates}
@@ -11,7 +11,7 @@ use Rattle.packets.specs.{declared.packet.Packet.Packet, Length.bin_taken, State
 use Rattle.packets.specs.Packet.{packet_text as render_packet_text, slots_text}
 use Rattle.tile_memory.specs.Slots.{alloc_offset}
 use Rattle.bin_list.specs.{declared.seen.Seen.Seen, Rules.GivenModel, Seen.latest, Seen.byte_of}
-use Rattle.bin_list.specs.Packets.{opcode, front_packet, behind, cut, packets, onto, passed}
+use Rattle.bin_list.specs.Packets.{opcode, front_packet, behind, front_packets, packets, onto, packets_passed}
 use Rattle.bin_list.specs.Emitted.{index_text, state_text, config_text, packet_text, texts}
 use Rattle.qpu_isa.specs.Shader.{ShaderModel}
 use Rattle.shader_records.specs.Emission.{emitted_word, stream_place, record_text, records_text, stream_text, streams_text, uniforms_text}
@@ -44,7 +44,7 @@ pub bytes_zeros : (n : ℕ) → IsBytes (zeros n)
 unfolding zeros
 bytes_zeros n = same_bytes n
 
-pub bytes_placed : (memory : List ℕ) (parts : List Part) → IsBytes memory → AllByRecursion (λ part. IsBytes part.bytes) parts → IsBytes (placed memory parts)
+pub bytes_placed : (memory : List ℕ) (parts : List Part) → IsBytes memory → AllByRecursion (λ part. IsBytes part.bytes) parts → IsBytes (parts_placed memory parts)
 bytes_placed memory [] all each = all
 bytes_placed memory (part ∷ parts) all each = bytes_placed (with_bytes memory part.place part.bytes) parts (bytes_with memory part.place part.bytes all each.0) each.1
 
@@ -81,7 +81,7 @@ bytes_behind : (bytes : List ℕ) → IsBytes bytes → IsBytes (behind bytes)
 unfolding behind
 bytes_behind bytes all = bytes_if (opcode bytes == halt) [] (drop (bin_taken (opcode bytes)) bytes) bytes_none (rest_bytes (bin_taken (opcode bytes)) bytes all)
 
-bytes_cut : (n : ℕ) (bytes : List ℕ) → IsBytes bytes → AllByRecursion IsBytes (cut n bytes)
+bytes_cut : (n : ℕ) (bytes : List ℕ) → IsBytes bytes → AllByRecursion IsBytes (front_packets n bytes)
 bytes_cut zero bytes all = tt
 bytes_cut (suc n) [] all = tt
 bytes_cut (suc n) (o ∷ body) all = (bytes_front (o ∷ body) all, bytes_cut n (behind (o ∷ body)) (bytes_behind (o ∷ body) all))
@@ -90,9 +90,9 @@ bytes_onto : (earlier later : List (List ℕ)) → AllByRecursion IsBytes earlie
 bytes_onto earlier [] one two = one
 bytes_onto earlier (packet ∷ later) one two = bytes_onto (packet ∷ earlier) later (two.0, one) two.1
 
-pub bytes_passed : (list : List ℕ) → IsBytes list → AllByRecursion IsBytes (passed list)
-unfolding passed packets
-bytes_passed list all = bytes_onto [] (cut (length list) list) tt (bytes_cut (length list) list all)
+pub bytes_passed : (list : List ℕ) → IsBytes list → AllByRecursion IsBytes (packets_passed list)
+unfolding packets_passed packets
+bytes_passed list all = bytes_onto [] (front_packets (length list) list) tt (bytes_cut (length list) list all)
 
 -- What each is emitted as is bytes.
 bytes_index : (given : GivenModel) (seen : Seen) (packet : List ℕ) → IsBytes packet → IsBytes (index_text given seen packet)

@@ -6,7 +6,7 @@ use Rattle.field_words.specs.{Words.bits_of, Questions.first_of}
 use Rattle.buffer_table.specs.{Table.TableModel, Table.buffer_at, Table.most_place, Handles.data_of}
 use Rattle.shader_records.specs.Named.{IsDataIn}
 use Rattle.job_format.specs.declared.file.{Frame.Frame as JobFrame, Surface.Surface}
-use Rattle.texture_layouts.specs.Format.{tiling_named, buffer_pixel, general_tiling, general_pixel, frame_tiling, frame_pixel, styled, general_style, IsShort}
+use Rattle.texture_layouts.specs.Format.{tiling_named, buffer_pixel, general_tiling, general_pixel, frame_tiling, frame_pixel, style_named, general_style, IsShort}
 use Rattle.texture_layouts.specs.declared.{surface.Tiling.Tiling, format.Style.Style}
 use Rattle.texture_layouts.proofs.Styles.{general_short, frame_short}
 use Rattle.render_list.specs.Surfaces.{surface_questions, has_unlisted_tiling, has_unlisted_format, is_unaligned, is_full_with_bits, buffer_size, surface_tiling, surface_pixel, surface_style, styled_size, place_behind, place_in}
@@ -14,7 +14,7 @@ use Rattle.render_list.specs.Frame.{place_at, surface_at, is_present, is_full, f
 use Rattle.render_list.proofs.Checked.{IsChecked, is_checked, size_named, full_inside, plain_inside, inside_by}
 use Rattle.render_list.proofs.Places.{full_place_grows}
 use Rattle.machine_plan.specs.Regions.{Rights}
-use Rattle.list_machine.specs.Surfaces.{aligned, whole_size}
+use Rattle.list_machine.specs.Surfaces.{aligned_address, whole_size}
 use Rattle.list_law.specs.May.{MayWrite}
 
 -- A buffer of this place and size begins at a page, ends inside the greatest memory, and the job may write each part of it.
@@ -23,7 +23,7 @@ pub record IsRoom (r : Rights) (place size : ℕ) : Type 0 where
   pub low : place + size ≤ most_place
   pub writes : (p n : ℕ) → place ≤ p → p + n ≤ place + size → MayWrite r p n
 
--- so each Plain buffer that the handles name
+-- so each data buffer that the handles name
 abbrev pub HasRoom : Rights → TableModel → List ℕ → Type 0
 HasRoom r table handles = (place size : ℕ) → IsDataIn table handles place size → IsRoom r place size
 
@@ -71,7 +71,7 @@ never_full : (k : ℕ) (surface : Surface) → is_full_with_bits k surface ≡ f
 unfolding is_full_with_bits
 never_full k surface none here = both_false (k == 3) (is_full k surface) (not (surface.bits == 0)) here none
 
--- A surface with a place is present, and its handle names a Plain buffer.
+-- A surface with a place is present, and its handle names a data buffer.
 record IsFoundIn (table : TableModel) (present : Bool) (offset : ℕ) (found : Option ℕ) (base : ℕ) : Type 0 where
   number : ℕ
   here : present ≡ true
@@ -87,11 +87,11 @@ unfolding place_in
 found_in table handles surface base is = found_by table (is_present surface) surface.offset (data_of table handles surface.hindex) base is
 
 -- Where tiling and pixel are listed, so is the style, and its pixels are short.
-some_style : (tiling : Option Tiling) (pixel : Option ℕ) → is_some tiling ≡ true → is_some pixel ≡ true → is_some (styled tiling pixel) ≡ true
+some_style : (tiling : Option Tiling) (pixel : Option ℕ) → is_some tiling ≡ true → is_some pixel ≡ true → is_some (style_named tiling pixel) ≡ true
 some_style tiling pixel tiled listed = search (rules, arith)
 
 short_by : (color : Bool) (bits : ℕ)
-    → IfSome (styled (if color then frame_tiling bits else general_tiling bits) (if color then frame_pixel bits else general_pixel bits)) (λ s. IsShort s.cpp)
+    → IfSome (style_named (if color then frame_tiling bits else general_tiling bits) (if color then frame_pixel bits else general_pixel bits)) (λ s. IsShort s.cpp)
 short_by color bits = search (rules, arith, frame_short, general_short)
 
 surface_short : (k : ℕ) (surface : Surface) → IfSome (surface_style k surface) (λ s. IsShort s.cpp)
@@ -120,7 +120,7 @@ full_at r frame k surface table handles place base room is listed full =
           room.writes (base + 16384 * full_tile frame x y) 16384 (omega (arith, is)) (omega (arith, is, inside, grows));
     }
 
--- Surface k, where it has a place and no rule of it stands.
+-- Surface k, where it has a place and no rule of it is broken.
 pub surface_is : (r : Rights) (frame : JobFrame) (table : TableModel) (handles : List ℕ) (k base : ℕ) → HasRoom r table handles
     → first_of (surface_questions frame table handles k) ≡ None → place_in table handles (surface_at frame k) ≡ Some base → IsSurfaceAt r frame k base
 surface_is r frame table handles k base rooms none is =
@@ -141,14 +141,14 @@ surface_is r frame table handles k base rooms none is =
     }
 
 -- Low bits of an address don't count.
-pub aligned_or : (base low : ℕ) → base % 16 ≡ 0 → low < 16 → aligned (bit_or base low) ≡ base
-unfolding aligned
+pub aligned_or : (base low : ℕ) → base % 16 ≡ 0 → low < 16 → aligned_address (bit_or base low) ≡ base
+unfolding aligned_address
 aligned_or base low whole small =
     let e : base / 16 * 2 ^ 4 ≡ base = omega (arith, whole) in
     ap (λ n. n - n % 16) (subst (λ n. bit_or n low ≡ n + low) e (or_shifted (base / 16) 4 low small)) ∙ (omega (arith, whole, small))
 
-pub aligned_same : (base : ℕ) → base % 16 ≡ 0 → aligned base ≡ base
-unfolding aligned
+pub aligned_same : (base : ℕ) → base % 16 ≡ 0 → aligned_address base ≡ base
+unfolding aligned_address
 aligned_same base whole = omega (arith, whole)
 
 -- The bit by which a store doesn't clear changes no field of the bits.
@@ -170,4 +170,4 @@ pixel_kept bits =
     ∙ ap (λ n. buffer_pixel (bits_of bits 2 0) n) (field_kept bits 9 8 refl)
 
 pub style_kept : (bits : ℕ) → general_style (bit_or bits 8192) ≡ general_style bits
-style_kept bits = ap (λ t. styled t (general_pixel (bit_or bits 8192))) (tiling_kept bits) ∙ ap (λ p. styled (general_tiling bits) p) (pixel_kept bits)
+style_kept bits = ap (λ t. style_named t (general_pixel (bit_or bits 8192))) (tiling_kept bits) ∙ ap (λ p. style_named (general_tiling bits) p) (pixel_kept bits)

@@ -20,7 +20,7 @@ use Rattle.accepted_law.proofs.Intervals.{one_left, one_right, named_there, name
 use Rattle.accepted_law.proofs.{Placing.IsClear, Fixed.LiesInOne, Fixed.in_one, Holding.lists_end, Holding.holds_all}
 use Rattle.accepted_law.proofs.ByJob.{rights_are, rights_past, in_region, in_writable}
 
--- A Plain buffer of job j.
+-- A data buffer of job j.
 record IsPlainAt (f : FileModel) (place size : ℕ) : Type 0 where
   number : ℕ
   inside : number < length f.buffers
@@ -52,7 +52,7 @@ code_there f j handle number named =
     let of = code_is (table_of f) (job_of f j).handles handle number named in
     named_there (code_of (table_of f) (job_of f j).handles) f.buffers (length (job_of f j).handles) handle number of.handle_in named
 
--- A byte that is neither in the tile slot nor in a Plain buffer is no job's to write.
+-- A byte that is neither in the tile slot nor in a data buffer is no job's to write.
 not_clear : (p place n : ℕ) → IsClear p place n → place ≤ p → p + 1 ≤ place + n → ⊥
 not_clear p place n h3 from upto = search (rules, arith)
 
@@ -66,7 +66,7 @@ not_written : (f : FileModel) (j p : ℕ) → IsClear p (slot_of f j) slot_size
 unfolding slot_in
 not_written f j p slot clear h5 = search (rules, arith, not_clear, plain_clear, in_one)
 
--- It is no byte of any job's slot, and of no Plain buffer of the file, whoever names it.
+-- It is no byte of any job's slot, and of no data buffer of the file, whoever names it.
 outside_all : (f : FileModel) (p : ℕ) → OfEachJob f (λ j. IsClear p (slot_of f j) slot_size)
     → ((number : ℕ) → number < length f.buffers → (buffer_at f.buffers number).kind ≡ Plain → IsClear p (buffer_at f.buffers number).place (buffer_at f.buffers number).size)
     → IsOutside (file_rights f) p
@@ -143,7 +143,7 @@ four_lie f j ends place size one =
 lists_outside : (f : FileModel) (j : ℕ) → Settled f j → ListsEnd f j → (place size : ℕ) → IsOneOf (lists_of f j) place size → IsFixed (file_rights f) place size
 lists_outside f j s ends place size one = search (arith, four_lie, region_outside)
 
--- a Plain buffer begins at a page and ends in the memory
+-- a data buffer begins at a page and ends in the memory
 plain_page : (f : FileModel) (j : ℕ) → Settled f j → (place size : ℕ) → IsOneOf (plain_of f j) place size → place % page_size ≡ 0
 plain_page f j s place size one =
     let at = plain_at f j place size one in

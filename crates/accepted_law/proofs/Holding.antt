@@ -2,11 +2,11 @@
 use Rattle.std.proofs.Common.{◌≡◌, ◌⊎◌, inl, inr, ℕ, zero, suc, ◌+◌, ◌<◌, ◌≤◌, Bool, true, false, List, [], ◌∷◌, ◌++◌, None, length, slice_index, refl, sym, ap, subst, arith, ◌∙◌, rules}
 use Rattle.std.proofs.lemmas.{Bool.cases_lt, List.append_assoc, Grind.common_steps, Bool.Decides.nat_tests}
 use Rattle.std.specs.List.{AllByRecursion}
-use Rattle.field_words.specs.{Questions.first_of, Words.IsBytes, Writes.Part, Writes.placed, Writes.zeros}
+use Rattle.field_words.specs.{Questions.first_of, Words.IsBytes, Writes.Part, Writes.parts_placed, Writes.zeros}
 use Rattle.field_words.proofs.Nones.{front_none}
 use Rattle.buffer_table.specs.{declared.buffer.Buffer.Buffer, Table.buffer_at}
 use Rattle.machine_plan.specs.Memory.{bytes_at}
-use Rattle.bin_list.specs.{Packets.passed, Emitted.bin_text, Rules.given_of, Rules.asked, Rules.questions_of, Rules.bin_questions}
+use Rattle.bin_list.specs.{Packets.packets_passed, Emitted.bin_text, Rules.given_of, Rules.questions_of_packets, Rules.questions_of, Rules.bin_questions}
 use Rattle.shader_records.specs.Emitted.{streams_place}
 use Rattle.render_list.specs.Text.{render_slots, render_text}
 use Rattle.job_format.specs.Model.{FileModel}
@@ -19,13 +19,13 @@ use Rattle.job_check.proofs.{Codes.as_many, Codes.content_long, Windows.length_p
 use Rattle.job_check.proofs.Emission.{placed-append, length_zeros, contents_fit}
 use Rattle.accepted_law.specs.Settled.{Settled, AreSettled, Holds, ListsEnd}
 use Rattle.accepted_law.proofs.ByteTexts.{bytes_none, bytes_zeros, bytes_placed, parts_append, bytes_passed, bytes_texts, bytes_records, bytes_uniforms, bytes_slots}
-use Rattle.accepted_law.proofs.Placing.{bytes_are, IsClear, Misses, misses_append, placed_part, fit_append, contents_parts_fit, content_stands}
+use Rattle.accepted_law.proofs.Placing.{bytes_are, IsClear, Misses, misses_append, placed_part, fit_append, contents_parts_fit, content_lies}
 use Rattle.accepted_law.proofs.{BinRoom.list_within, RenderWalking.frame_setup, RenderWalking.frame_fits}
 use Rattle.accepted_law.proofs.Tables.{buffer_sound, buffers_apart, lists_apart}
 
 -- The emitted lists are no longer than their room.
 rules_of_list : (list : List ℕ) (declared : ℕ) (f : FileModel) (handles : List ℕ) → first_of (bin_questions list declared (table_of f) handles) ≡ None
-    → first_of (asked (given_of list declared (table_of f) handles) (passed list)) ≡ None
+    → first_of (questions_of_packets (given_of list declared (table_of f) handles) (packets_passed list)) ≡ None
 unfolding questions_of
 rules_of_list list declared f handles none = grind (arith, common_steps, nat_tests, front_none)
 
@@ -63,7 +63,7 @@ render_bytes f j s = bytes_slots (render_slots (job_of f j).frame (places_in f j
 
 -- The memory: contents first, then the four lists of each job.
 abbrev pub with_contents : FileModel → List ℕ
-with_contents f = placed (zeros f.mem_size) (content_parts f.buffers f.contents)
+with_contents f = parts_placed (zeros f.mem_size) (content_parts f.buffers f.contents)
 
 abbrev pub four_parts : FileModel → ℕ → List Part
 four_parts f j =
@@ -75,11 +75,11 @@ four_parts f j =
 unfoldable pub all_parts : FileModel → List Part
 all_parts f = jobs_parts f (length f.jobs)
 
-pub memory_is : (f : FileModel) → memory_of f ≡ placed (zeros f.mem_size) (content_parts f.buffers f.contents ++ all_parts f)
+pub memory_is : (f : FileModel) → memory_of f ≡ parts_placed (zeros f.mem_size) (content_parts f.buffers f.contents ++ all_parts f)
 unfolding memory_of all_parts
 memory_is f = refl
 
-lists_behind : (f : FileModel) → memory_of f ≡ placed (with_contents f) (all_parts f)
+lists_behind : (f : FileModel) → memory_of f ≡ parts_placed (with_contents f) (all_parts f)
 lists_behind f = memory_is f ∙ placed-append (zeros f.mem_size) (content_parts f.buffers f.contents) (all_parts f)
 
 -- What is true of the parts of each job is true of all.
@@ -180,7 +180,7 @@ part_stands f j before one behind s all at is upto misses =
     let rest : List Part = behind ++ at.rest in
     let cut : all_parts f ≡ front ++ (one ∷ rest) = at.is ∙ ap (λ parts. at.front ++ parts) is ∙ sym (append_assoc at.front before (one ∷ rest)) in
     bytes_are (memory_of f) one.place one.bytes (λ i below.
-    ap (λ m. slice_index m (one.place + i)) (lists_behind f ∙ ap (placed (with_contents f)) cut)
+    ap (λ m. slice_index m (one.place + i)) (lists_behind f ∙ ap (parts_placed (with_contents f)) cut)
     ∙ placed_part (with_contents f) front one rest i (subst (PartsFit (length (with_contents f))) cut (all_fit f j s all)) below
     (misses_append (one.place + i) behind at.rest (misses i below) (at.misses (one.place + i) (omega (arith, upto, below)))))
 
@@ -252,14 +252,14 @@ content_byte f j s all number i inside below =
     let fit : PartsFit f.mem_size parts = fit_append f.mem_size (content_parts f.buffers f.contents) (all_parts f) (contents_in f j s) (all_in f all) in
     let room : i < (buffer_at f.buffers number).size = omega (arith, below, content_long f number s.well_formed inside, own.content) in
     ap (λ m. slice_index m ((buffer_at f.buffers number).place + i)) (memory_is f)
-    ∙ content_stands (zeros f.mem_size) f.buffers f.contents (all_parts f) number i ((buffer_at f.buffers number).place + i) (zeros_fit f.mem_size parts fit) inside
+    ∙ content_lies (zeros f.mem_size) f.buffers f.contents (all_parts f) number i ((buffer_at f.buffers number).place + i) (zeros_fit f.mem_size parts fit) inside
     (omega (arith, as_many f s.well_formed, inside)) below refl
     (λ k less there some. clear_later f j s number i inside room k less there)
     (jobs_miss f ((buffer_at f.buffers number).place + i) (length f.jobs) (λ k there. misses_four f k (all k there) ((buffer_at f.buffers number).place + i) (buffer_off_lists f j s number i inside room)))
 
-content_stand : (f : FileModel) (j : ℕ) → Settled f j → AreSettled f → (number : ℕ) → number < length f.buffers
+content_lies_apart : (f : FileModel) (j : ℕ) → Settled f j → AreSettled f → (number : ℕ) → number < length f.buffers
     → bytes_at (memory_of f) (buffer_at f.buffers number).place (length (content_of f number)) ≡ content_of f number
-content_stand f j s all number inside = grind (arith, common_steps, nat_tests, bytes_are, content_byte)
+content_lies_apart f j s all number inside = grind (arith, common_steps, nat_tests, bytes_are, content_byte)
 
 pub holds_all : (f : FileModel) (j : ℕ) → Settled f j → AreSettled f → Holds f j (memory_of f)
 holds_all f j s all =
@@ -267,7 +267,7 @@ holds_all f j s all =
     record {
       long = memory_long f j s all;
       bytes = memory_bytes f j s all;
-      contents = content_stand f j s all;
+      contents = content_lies_apart f j s all;
       bin = lists.bin;
       records = lists.records;
       uniforms = lists.uniforms;

@@ -11,7 +11,7 @@ use Rattle.shader_flow.specs.Flow.{word}
 use Rattle.uniform_stream.specs.Stream.{uniforms_of}
 use Rattle.shader_records.specs.Named.{IsDataIn}
 use Rattle.shader_records.proofs.StreamFacts.{same_stream}
-use Rattle.job_check.specs.Shaders.{table_of, content_of, words_in, words_of, told_of}
+use Rattle.job_check.specs.Shaders.{table_of, content_of, words_in, words_of, report_of}
 use Rattle.job_check.specs.{Jobs.job_of, Jobs.layout_of, Jobs.streams_of, Emit.lengths_of}
 use Rattle.job_check.proofs.Codes.{content_long, length_words, shader_short}
 use Rattle.machine_plan.proofs.Words.{word_read}
@@ -37,10 +37,10 @@ home_of f m number stream = record {
 -- The code of a buffer that a handle names is started with a stream that was made for it, among the streams that were emitted.
 pub record IsStarted (f : FileModel) (j : ℕ) (m : List ℕ) (handle number stream : ℕ) : Type 0 where
   pub named : code_of (table_of f) (job_of f j).handles handle ≡ Some number
-  pub sound : IsSoundShader (told_of (words_of (content_of f number)))
+  pub sound : IsSoundShader (report_of (words_of (content_of f number)))
   pub from : (layout_of f j).place + (layout_of f j).uniforms ≤ stream
   pub upto : stream + 4 * uniforms_of (words_of (content_of f number)) ≤ (layout_of f j).place + (layout_of f j).uniforms + length (streams_of f j)
-  pub takes : IsStream (IsDataIn (table_of f) (job_of f j).handles) (told_of (words_of (content_of f number))) stream (λ k. u32_at m (stream + 4 * k))
+  pub takes : IsStream (IsDataIn (table_of f) (job_of f j).handles) (report_of (words_of (content_of f number))) stream (λ k. u32_at m (stream + 4 * k))
 
 -- Its words are in its contents, which are in its buffer, which is in the memory.
 record IsCodeLow (f : FileModel) (number : ℕ) : Type 0 where
@@ -66,13 +66,13 @@ other_stream A B names shader stream words is = record { addresses = is.addresse
 
 -- The stream serves the shader's threads.
 stream_serves : (f : FileModel) (j : ℕ) (m : List ℕ) (handle number stream : ℕ) → Grounds f j m → IsStarted f j m handle number stream → Emits (plain_of f j) (home_of f m number stream)
-unfolding told_of home_of
+unfolding report_of home_of
 stream_serves f j m handle number stream grounds started =
     let code : List ℕ = words_of (content_of f number) in
-    streams_serve_law (home_of f m number stream) (plain_of f j) (told_of code) (record { samples = refl; address_words = refl })
-    (same_stream (IsOneOf (plain_of f j)) (told_of code) stream (λ k. slice_index (words_from m stream (uniforms_of code)) k) (λ k. u32_at m (stream + 4 * k)) started.sound
+    streams_serve_law (home_of f m number stream) (plain_of f j) (report_of code) (record { samples = refl; address_words = refl })
+    (same_stream (IsOneOf (plain_of f j)) (report_of code) stream (λ k. slice_index (words_from m stream (uniforms_of code)) k) (λ k. u32_at m (stream + 4 * k)) started.sound
     (λ k below. word_from m stream (uniforms_of code) k below)
-    (other_stream (IsDataIn (table_of f) (job_of f j).handles) (IsOneOf (plain_of f j)) grounds.named_data (told_of code) stream (λ k. u32_at m (stream + 4 * k)) started.takes))
+    (other_stream (IsDataIn (table_of f) (job_of f j).handles) (IsOneOf (plain_of f j)) grounds.named_data (report_of code) stream (λ k. u32_at m (stream + 4 * k)) started.takes))
 
 -- the emitted streams are one of the job's lists
 uniforms_list : (f : FileModel) (j : ℕ) → IsOneOf (lists_of f j) ((layout_of f j).place + (layout_of f j).uniforms) (length (streams_of f j))
@@ -80,9 +80,9 @@ unfolding lists_of lengths_of
 uniforms_list f j = inr (inr (inl refl))
 
 -- Code and stream stand in the memory.
-home_stands : (f : FileModel) (j : ℕ) (m : List ℕ) (handle number stream : ℕ) → Grounds f j m → IsStarted f j m handle number stream → IsHome m (rights_at f j).region (home_of f m number stream)
+home_lies : (f : FileModel) (j : ℕ) (m : List ℕ) (handle number stream : ℕ) → Grounds f j m → IsStarted f j m handle number stream → IsHome m (rights_at f j).region (home_of f m number stream)
 unfolding home_of
-home_stands f j m handle number stream grounds started =
+home_lies f j m handle number stream grounds started =
     let content : List ℕ = content_of f number in
     let place : ℕ = (buffer_at f.buffers number).place in
     let is = code_is (table_of f) (job_of f j).handles handle number started.named in
@@ -124,7 +124,7 @@ home_begins f j m handle number stream grounds started =
     let inside = low.inside in
     let uniforms : ℕ = (layout_of f j).place + (layout_of f j).uniforms in
     record {
-      stands = home_stands f j m handle number stream grounds started;
+      stands = home_lies f j m handle number stream grounds started;
       code = fixed_inside (file_rights f) place (buffer_at f.buffers number).size place (8 * length code) (grounds.code_fixed handle number started.named) (omega arith) (omega (arith, words, inside));
       stream = fixed_inside (file_rights f) uniforms (length (streams_of f j)) stream (4 * uniforms_of code) (grounds.lists_fixed uniforms (length (streams_of f j)) (uniforms_list f j)) started.from started.upto;
       samples = home_samples f j m handle number stream grounds started;

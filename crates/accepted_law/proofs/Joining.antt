@@ -6,7 +6,7 @@ use Rattle.job_format.specs.{File.IsWellFormed, File.Fits, Model.FileModel}
 use Rattle.job_check.specs.Jobs.{layout_of, bin_list_of, render_list_of, no_job, job_of, grid_of, slot_of, places_in}
 use Rattle.job_check.specs.{Emit.lengths_of, Emit.memory_of, Faults.place_stages, Shaders.table_of}
 use Rattle.machine_plan.specs.Memory.{bytes_at}
-use Rattle.machine_plan.specs.Regions.{Inside, Rights, IsOutside, HasReadOnly, Agree, joined}
+use Rattle.machine_plan.specs.Regions.{Inside, Rights, IsOutside, HasReadOnly, Agree, regions_joined}
 use Rattle.promises.specs.Holdings.{OfEachJob, lists_of, job_rights, file_rights, start_by, start_of, named_buffers, plain_of, codes_of, slot_in}
 use Rattle.promises.specs.Holdings.{fixed_of, file_starts}
 use Rattle.promises.specs.Rights.{IsOneOf, IsFixed}
@@ -49,7 +49,7 @@ plain_past : (f : FileModel) (j : ℕ) → length f.jobs ≤ j → plain_of f j 
 unfolding plain_of named_buffers job_of
 plain_past f j past = ap (λ job. named_buffers (data_of (table_of f) job.handles) f.buffers (length job.handles)) (get_or_past f.jobs j no_job past)
 
--- Each Plain buffer of a job is an interval of its region.
+-- Each data buffer of a job is an interval of its region.
 plain_there : (f : FileModel) (m : List ℕ) → OfEachJob f (λ j. Grounds f j m) → ArePlain (file_rights f) (plain_of f)
 plain_there f m grounds j place size named = search (arith, cases_lt, plain_past)
 
@@ -92,7 +92,7 @@ read_in_job f j p inside reached out =
       | inr read ↦ read
     ]
 
-lists_or_code : (f : FileModel) (p : ℕ) → Inside (joined (file_rights f)) p 1 → IsOutside (file_rights f) p → Inside (fixed_of f) p 1
+lists_or_code : (f : FileModel) (p : ℕ) → Inside (regions_joined (file_rights f)) p 1 → IsOutside (file_rights f) p → Inside (fixed_of f) p 1
 lists_or_code f p lies out =
     let job = in_some_job f p lies in
     in_fixed f job.number p job.below (read_in_job f job.number p job.below job.lies out)

@@ -21,7 +21,7 @@ use Rattle.accepted_law.specs.Neighbours.{AcceptedApart}
 use Rattle.accepted_law.proofs.{ByJob.rights_are, Settling.files_settle_law, Unshared.job_is_of, Unshared.clients_unshared_law}
 use Rattle.accepted_law.proofs.Joining.{files_begin_law, has_read_only, all_begin}
 
--- What a handle gives to the Plain buffers of its job, and to the Code buffers, by the buffer that it names alone.
+-- What a handle gives to the data buffers of its job, and to the Code buffers, by the buffer that it names alone.
 abbrev given_if : Bool → Buffer → List Interval
 given_if gives b = if gives then interval b.place b.size ∷ [] else []
 
@@ -78,7 +78,7 @@ same_codes f g j has =
     ∙ sym (code_given (table_of g) (job_of g j).handles has.other i (omega (arith, below, has.places.handles))))
     ∙ ap (named_buffers (code_of (table_of g) (job_of g j).handles) g.buffers) has.places.handles
 
--- The same slot, lists and beginnings.
+-- Slot, lists and beginnings are the same.
 same_slot : (f g : FileModel) (j : ℕ) → layout_of f j ≡ layout_of g j → slot_in f j ≡ slot_in g j
 unfolding slot_in layout_of
 same_slot f g j layout = ap (λ l. interval l.slot slot_size) layout

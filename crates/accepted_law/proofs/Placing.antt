@@ -1,7 +1,7 @@
 -- Parts that are put into a memory one after the other: what stands there at the end.
 use Rattle.std.proofs.Common.{◌≡◌, ◌⊎◌, ℕ, zero, suc, ◌+◌, ◌<◌, ◌≤◌, List, [], ◌∷◌, ◌++◌, length, get_or, slice_index, refl, sym, ap, subst, arith, ◌∙◌, rules}
 use Rattle.std.proofs.lemmas.{Grind.common_steps, Bool.Decides.nat_tests}
-use Rattle.field_words.specs.Writes.{Part, placed, with_bytes}
+use Rattle.field_words.specs.Writes.{Part, parts_placed, with_bytes}
 use Rattle.field_words.proofs.Writes.{length-with_bytes, with_bytes-before, with_bytes-behind, with_bytes-inside}
 use Rattle.buffer_table.specs.{declared.buffer.Buffer.Buffer, Table.past_end}
 use Rattle.machine_plan.specs.Memory.{bytes_at}
@@ -38,13 +38,13 @@ misses_append q [] rest one two = two
 misses_append q (part ∷ front) rest one two = (one.0, misses_append q front rest one.1 two)
 
 -- A byte that no part touches stays.
-pub placed_kept : (m : List ℕ) (parts : List Part) (q : ℕ) → PartsFit (length m) parts → Misses q parts → slice_index (placed m parts) q ≡ slice_index m q
+pub placed_kept : (m : List ℕ) (parts : List Part) (q : ℕ) → PartsFit (length m) parts → Misses q parts → slice_index (parts_placed m parts) q ≡ slice_index m q
 placed_kept m [] q fit misses = refl
 placed_kept m (part ∷ parts) q fit misses = search (rules, arith, fit_after, with_kept, placed_kept (with_bytes m part.place part.bytes) parts q (fit_after m part.place part.bytes parts fit.0 fit.1) misses.1)
 
 -- A byte of the first part stands, where no later part touches it.
 pub placed_first : (m : List ℕ) (part : Part) (parts : List Part) (i : ℕ) → PartsFit (length m) (part ∷ parts) → i < length part.bytes → Misses (part.place + i) parts
-    → slice_index (placed m (part ∷ parts)) (part.place + i) ≡ slice_index part.bytes i
+    → slice_index (parts_placed m (part ∷ parts)) (part.place + i) ≡ slice_index part.bytes i
 placed_first m part parts i fit below misses = grind (arith, common_steps, nat_tests, placed_kept, fit_after, with_bytes-inside)
 
 -- Parts fit that are those of two lists that do.
@@ -69,28 +69,28 @@ misses_contents q (buffer ∷ buffers) (content ∷ contents) rest clear misses 
     (clear 0 (omega arith) (omega arith), misses_contents q buffers contents rest (λ k one two. clear (suc k) (omega (arith, one)) (omega (arith, two))) misses)
 
 -- A byte of the contents of buffer k stands, where those of no later buffer and none of the rest hold it.
-pub content_stands : (m : List ℕ) (buffers : List Buffer) (contents : List (List ℕ)) (rest : List Part) (k i q : ℕ)
+pub content_lies : (m : List ℕ) (buffers : List Buffer) (contents : List (List ℕ)) (rest : List Part) (k i q : ℕ)
     → PartsFit (length m) (content_parts buffers contents ++ rest) → k < length buffers → k < length contents → i < length (get_or contents k [])
     → q ≡ (get_or buffers k past_end).place + i
     → ((j : ℕ) → k < j → j < length buffers → j < length contents → IsClear q (get_or buffers j past_end).place (length (get_or contents j [])))
     → Misses q rest
-    → slice_index (placed m (content_parts buffers contents ++ rest)) q ≡ slice_index (get_or contents k []) i
+    → slice_index (parts_placed m (content_parts buffers contents ++ rest)) q ≡ slice_index (get_or contents k []) i
 unfolding content_parts
-content_stands m [] contents rest k i q fit one two below at clear misses = absurd (omega (arith, one))
-content_stands m (buffer ∷ buffers) [] rest k i q fit one two below at clear misses = absurd (omega (arith, two))
-content_stands m (buffer ∷ buffers) (content ∷ contents) rest zero i q fit one two below at clear misses =
-    ap (slice_index (placed m (content_parts (buffer ∷ buffers) (content ∷ contents) ++ rest))) at
+content_lies m [] contents rest k i q fit one two below at clear misses = absurd (omega (arith, one))
+content_lies m (buffer ∷ buffers) [] rest k i q fit one two below at clear misses = absurd (omega (arith, two))
+content_lies m (buffer ∷ buffers) (content ∷ contents) rest zero i q fit one two below at clear misses =
+    ap (slice_index (parts_placed m (content_parts (buffer ∷ buffers) (content ∷ contents) ++ rest))) at
     ∙ placed_first m (record { place = buffer.place; bytes = content }) (content_parts buffers contents ++ rest) i fit below
     (subst (λ p. Misses p (content_parts buffers contents ++ rest)) at
     (misses_contents q buffers contents rest (λ j first second. clear (suc j) (omega arith) (omega (arith, first)) (omega (arith, second))) misses))
-content_stands m (buffer ∷ buffers) (content ∷ contents) rest (suc k) i q fit one two below at clear misses =
-    content_stands (with_bytes m buffer.place content) buffers contents rest k i q
+content_lies m (buffer ∷ buffers) (content ∷ contents) rest (suc k) i q fit one two below at clear misses =
+    content_lies (with_bytes m buffer.place content) buffers contents rest k i q
     (fit_after m buffer.place content (content_parts buffers contents ++ rest) fit.0 fit.1)
     (omega (arith, one)) (omega (arith, two)) below at
     (λ j less first second. clear (suc j) (omega (arith, less)) (omega (arith, first)) (omega (arith, second))) misses
 
 -- A byte of a part stands, where no part behind it touches it.
 pub placed_part : (m : List ℕ) (front : List Part) (part : Part) (rest : List Part) (i : ℕ) → PartsFit (length m) (front ++ (part ∷ rest)) → i < length part.bytes
-    → Misses (part.place + i) rest → slice_index (placed m (front ++ (part ∷ rest))) (part.place + i) ≡ slice_index part.bytes i
+    → Misses (part.place + i) rest → slice_index (parts_placed m (front ++ (part ∷ rest))) (part.place + i) ≡ slice_index part.bytes i
 placed_part m [] part rest i fit below misses = placed_first m part rest i fit below misses
 placed_part m (first ∷ front) part rest i fit below misses = search (rules, arith, fit_after, placed_part (with_bytes m first.place first.bytes) front part rest i (fit_after m first.place first.bytes (front ++ (part ∷ rest)) fit.0 fit.1) below misses)

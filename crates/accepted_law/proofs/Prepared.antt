@@ -8,13 +8,13 @@ use Rattle.buffer_table.proofs.Named.{code_is}
 use Rattle.relocation.specs.Layout.{region_end}
 use Rattle.job_format.specs.Model.{FileModel}
 use Rattle.job_check.specs.{Shaders.table_of, Shaders.content_of, Jobs.job_of, Jobs.layout_of}
-use Rattle.job_check.specs.Emit.{PartsFit, list_parts, later_parts, moved, memory_of}
+use Rattle.job_check.specs.Emit.{PartsFit, list_parts, later_parts, parts_moved, memory_of}
 use Rattle.job_check.specs.Region.{region_size, region_from, region_parts, regions_parts, region_of}
 use Rattle.job_check.proofs.{Emission.length_zeros, Windows.length_placed, Layouts.lists_apart as jobs_apart, Layouts.lists_inside}
 use Rattle.job_check.proofs.Regions.{fit_more, fit_moved, size_more, size_before, memory_made}
 use Rattle.machine_plan.specs.Regions.{Inside}
 use Rattle.promises.specs.Holdings.{lists_of, codes_of, fixed_below, fixed_of}
-use Rattle.promises.specs.Prepared.{IsFaultless, filled, IsPrepared}
+use Rattle.promises.specs.Prepared.{IsFaultless, content_filled, IsPrepared}
 use Rattle.accepted_law.specs.Settled.{Settled, AreSettled}
 use Rattle.accepted_law.specs.Prepared.{PreparedMemoriesAgree}
 use Rattle.accepted_law.proofs.{Emitted.buffer_byte, Emitted.zero_byte, Intervals.code_held, Placing.fit_append}
@@ -34,7 +34,7 @@ parts_fit f all (suc n) upto =
     let more = size_more f n in
     let front = parts_fit f all n (omega (arith, upto)) in
     let one = list_fit f n (all n (omega (arith, upto))) in
-    fit_append (region_size f (suc n)) (regions_parts f n) (moved (region_from f n) (list_parts f n))
+    fit_append (region_size f (suc n)) (regions_parts f n) (parts_moved (region_from f n) (list_parts f n))
     (fit_more (region_size f n) (region_size f (suc n)) (regions_parts f n) (omega (arith, more, size_before f n)) front)
     (fit_moved (region_from f n) (layout_of f n).end (region_size f (suc n)) (list_parts f n) (omega (arith, more)) one)
 
@@ -75,7 +75,7 @@ region_byte f j q s all below =
 byte_in : (m : List ℕ) (place : ℕ) (bytes : List ℕ) (size q : ℕ) → window_of m place size ≡ bytes → q < size → slice_index m (place + q) ≡ slice_index bytes q
 byte_in m place bytes size q is below = sym (grind (arith, places)) ∙ ap (λ w. slice_index w q) is
 
-filled_byte : (content : List ℕ) (size q : ℕ) → slice_index (filled content size) q ≡ slice_index content q
+filled_byte : (content : List ℕ) (size q : ℕ) → slice_index (content_filled content size) q ≡ slice_index content q
 filled_byte content size q = grind (arith, common_steps, nat_tests, cases_lt, places, zero_byte, get_or_past)
 
 -- So a byte of a list is as the emitted memory's,
@@ -109,7 +109,7 @@ code_agrees f m j p s all prepared lies =
     sym (ap (slice_index (memory_of f)) is)
     ∙ buffer_byte f j s all code.number (p - buffer.place) is_of.inside below
     ∙ sym (filled_byte content buffer.size (p - buffer.place))
-    ∙ sym (byte_in m buffer.place (filled content buffer.size) buffer.size (p - buffer.place) has below)
+    ∙ sym (byte_in m buffer.place (content_filled content buffer.size) buffer.size (p - buffer.place) has below)
     ∙ ap (slice_index m) is
 
 job_agrees : (f : FileModel) (m : List ℕ) (j p : ℕ) → Settled f j → AreSettled f → IsPrepared f m → Inside (lists_of f j ++ codes_of f j) p 1

@@ -17,7 +17,7 @@ use Rattle.shader_records.proofs.{Fine.state_fine, Fine.code_fine, Fine.flags_fi
 use Rattle.shader_records.proofs.{Inside.emitted_in, Steps.given_upto, Lengths.length_uniforms}
 use Rattle.shader_records.proofs.RecordFacts.{known_code, emitted_shader, agree}
 use Rattle.shader_records.proofs.MemoryFacts.{record_in_memory, streams_in_memory}
-use Rattle.job_check.specs.Shaders.{table_of, content_of, words_of, told_of}
+use Rattle.job_check.specs.Shaders.{table_of, content_of, words_of, report_of}
 use Rattle.job_check.specs.Jobs.{job_of, has_bin, input_for, layout_of, streams_of}
 use Rattle.job_check.proofs.Views.{streams_are}
 use Rattle.list_machine.specs.Fetch.{record_place}
@@ -25,7 +25,7 @@ use Rattle.list_law.specs.Emitted.{words_in, program_in}
 use Rattle.machine_law.specs.Begins.{LaunchBegins}
 use Rattle.accepted_law.specs.{Ends.IsShaderOf, Settled.Grounds, Parts.RecordsLaunch}
 use Rattle.promises.specs.Holdings.{plain_of, file_rights}
-use Rattle.accepted_law.proofs.Uses.{inputs_are, inputs_low, streams_low, emitted_stand, told_is}
+use Rattle.accepted_law.proofs.Uses.{inputs_are, inputs_low, streams_low, emitted_stand, report_is}
 use Rattle.accepted_law.proofs.Homes.{home_of, IsStarted, home_begins}
 
 -- Words of the record that name its shaders.
@@ -58,7 +58,7 @@ record IsProgram (f : FileModel) (j : ℕ) (m : List ℕ) (k s : ℕ) : Type 0 w
   number : ℕ
   stream : ℕ
   started : IsStarted f j m handle number stream
-  used : shader_used (input_for f j) (record_source (input_for f j) k) s ≡ Some (told_of (words_of (content_of f number)))
+  used : shader_used (input_for f j) (record_source (input_for f j) k) s ≡ Some (report_of (words_of (content_of f number)))
   code_there : u32_at m ((layout_of f j).place + (layout_of f j).records + record_offset (input_for f j) k + 4 * code_word s) ≡ (buffer_at f.buffers number).place
   stream_there : u32_at m ((layout_of f j).place + (layout_of f j).records + record_offset (input_for f j) k + 4 * stream_word s) ≡ stream
 
@@ -125,12 +125,12 @@ stream_ends : (f : FileModel) (j k s uniforms : ℕ) → has_bin f j ≡ true �
 unfolding stream_place
 stream_ends f j k s uniforms some below small given = grind (arith, common_steps, nat_tests, streams_end, given_upto)
 
-program_told : (f : FileModel) (j : ℕ) (m : List ℕ) (k s number : ℕ) → Grounds f j m → has_bin f j ≡ true → k < length (input_for f j).states → s < 3
+program_reported : (f : FileModel) (j : ℕ) (m : List ℕ) (k s number : ℕ) → Grounds f j m → has_bin f j ≡ true → k < length (input_for f j).states → s < 3
     → code_number (input_for f j) (record_source (input_for f j) k) s ≡ Some number
-    → shader_used (input_for f j) (record_source (input_for f j) k) s ≡ Some (told_of (words_of (content_of f number))) → IsSoundShader (told_of (words_of (content_of f number)))
+    → shader_used (input_for f j) (record_source (input_for f j) k) s ≡ Some (report_of (words_of (content_of f number))) → IsSoundShader (report_of (words_of (content_of f number)))
     → IsProgram f j m k s
-unfolding input_for code_number told_of
-program_told f j m k s number grounds some below small named used sound =
+unfolding input_for code_number report_of
+program_reported f j m k s number grounds some below small named used sound =
     let input : InputModel = input_for f j in
     let at : ℕ = record_source input k in
     let state : ℕ = (state_at input k).word in
@@ -145,7 +145,7 @@ program_told f j m k s number grounds some below small named used sound =
         sound = sound;
         from = ends.0;
         upto = ends.1;
-        takes = stream_takes f j m k s (told_of (words_of (content_of f number))) grounds some below small used sound;
+        takes = stream_takes f j m k s (report_of (words_of (content_of f number))) grounds some below small used sound;
       };
       used = used;
       code_there =
@@ -161,7 +161,7 @@ program_of : (f : FileModel) (j : ℕ) (m : List ℕ) (k s number : ℕ) (shader
     → shader_in (input_for f j).shaders number ≡ Some shader
     → shader_used (input_for f j) (record_source (input_for f j) k) s ≡ Some shader → IsSoundShader shader
     → IsProgram f j m k s
-program_of f j m k s number shader grounds some below small named inside code is used sound = search (arith, told_is, program_told)
+program_of f j m k s number shader grounds some below small named inside code is used sound = search (arith, report_is, program_reported)
 
 named_code : (f : FileModel) (j at s number : ℕ) → code_number (input_for f j) at s ≡ Some number → IsBufferOf (table_of f) (job_of f j).handles Code (u32_at (job_of f j).records (at + 4 * s)) number
 unfolding input_for code_number
@@ -177,8 +177,8 @@ program_at f j m k s grounds some below small =
     program_of f j m k s known.number known.shader grounds some below small known.named is.inside is.kind_is known.shader_is known.used known.sound
 
 -- So each may be started, as threaded as its shader is.
-threaded_is : (f : FileModel) (number : ℕ) → switches (Some (told_of (words_of (content_of f number)))) ≡ is_threaded (words_of (content_of f number))
-unfolding told_of
+threaded_is : (f : FileModel) (number : ℕ) → switches (Some (report_of (words_of (content_of f number)))) ≡ is_threaded (words_of (content_of f number))
+unfolding report_of
 threaded_is f number = refl
 
 launch_begins : (f : FileModel) (j : ℕ) (m : List ℕ) (k s word : ℕ) (threaded : Bool) → Grounds f j m → has_bin f j ≡ true → k < length (input_for f j).states → s < 3

@@ -1,12 +1,12 @@
--- The renderer list of a file in which no rule stands walks: its places are a setup for its frame, and its numbers fit their fields.
+-- The renderer list of a file in which no rule is broken walks: its places are a setup for its frame, and its numbers fit their fields.
 use Rattle.std.proofs.Common.{◌≡◌, ℕ, zero, suc, ◌+◌, ◌<◌, ◌≤◌, ◌^◌, Bool, true, false, if◌then◌else◌, List, Option, Some, None, refl, arith, lit<, inl, rules}
 use Rattle.std.proofs.lemmas.{Grind.common_steps, Bool.Decides.nat_tests}
 use Rattle.field_words.specs.{Questions.first_of, Questions.each, Words.IsBytes}
-use Rattle.field_words.proofs.{Questions.none_stands, Nones.front_none}
+use Rattle.field_words.proofs.{Questions.none_broken, Nones.front_none}
 use Rattle.buffer_table.specs.{Table.TableModel, Table.buffer_at, Table.most_place, Handles.data_of}
 use Rattle.job_format.specs.{declared.file.Frame.Frame, Model.FileModel}
 use Rattle.packets.specs.{Opcode.tile_binning_mode, Packet.slots_text, declared.config.Config.Config}
-use Rattle.bin_list.specs.{Packets.passed, Seen.seen_before}
+use Rattle.bin_list.specs.{Packets.packets_passed, Seen.seen_before}
 use Rattle.render_list.specs.Surfaces.{surface_questions, surface_faults, place_behind, place_in, places_of, is_outside_grid, frame_questions}
 use Rattle.render_list.specs.Frame.{place_at, surface_at, is_present, FitsAt, IsSetupFor, IsTileSet}
 use Rattle.render_list.specs.Text.{render_slots, render_text}
@@ -91,19 +91,19 @@ places_small frame table handles low each = places_are (λ k place. place < 2 ^ 
 grid_if : (b : Bool) (grid : ℕ × ℕ) → (grid.0 < 256) × (grid.1 < 256) → GridFits (if b then Some grid else None)
 grid_if b grid small = search (rules, arith)
 
-pub sides_small : (list : List ℕ) → IsBytes list → ((seen_before (passed list)).tiles_x < 256) × ((seen_before (passed list)).tiles_y < 256)
+pub sides_small : (list : List ℕ) → IsBytes list → ((seen_before (packets_passed list)).tiles_x < 256) × ((seen_before (packets_passed list)).tiles_y < 256)
 unfolding seen_before
-sides_small list all = (byte_of_latest tile_binning_mode 13 (passed list) (bytes_passed list all), byte_of_latest tile_binning_mode 14 (passed list) (bytes_passed list all))
+sides_small list all = (byte_of_latest tile_binning_mode 13 (packets_passed list) (bytes_passed list all), byte_of_latest tile_binning_mode 14 (packets_passed list) (bytes_passed list all))
 
 grid_small : (f : FileModel) (j : ℕ) → IsBytes (job_of f j).bin → GridFits (grid_of f j)
 unfolding grid_of
-grid_small f j all = grid_if (has_bin f j) (grid_from (seen_before (passed (job_of f j).bin))) (sides_small (job_of f j).bin all)
+grid_small f j all = grid_if (has_bin f j) (grid_from (seen_before (packets_passed (job_of f j).bin))) (sides_small (job_of f j).bin all)
 
 slot_low : (f : FileModel) (j : ℕ) → Settled f j → slot_of f j ≤ most_place
 slot_low f j s =
     omega (arith, (slot_inside f j s.well_formed s.sound s.inside).upto, (s.sound.each_item 1 (omega arith)).inside, s.sound.limit)
 
--- The same of a settled file.
+-- The table's buffers end below the greatest place.
 low_of : (f : FileModel) (j : ℕ) → Settled f j → AreLow (table_of f)
 low_of f j s = buffer_low f.mem_size f.regions f.buffers s.sound
 
@@ -118,7 +118,7 @@ frame_places f j s = places_small (job_of f j).frame (table_of f) (job_of f j).h
 pub frame_fits : (f : FileModel) (j : ℕ) → Settled f j → AllFit (render_slots (job_of f j).frame (places_in f j) (grid_of f j) (slot_of f j))
 frame_fits f j s = search (arith, render_fits, frame_setup, frame_places, grid_small, slot_low)
 
--- The job may write each part of a Plain buffer that its handles name.
+-- The job may write each part of a data buffer that its handles name.
 may_write : (f : FileModel) (j : ℕ) (m : List ℕ) (place size p n : ℕ) → Grounds f j m → IsOneOf (plain_of f j) place size → place ≤ p → p + n ≤ place + size → MayWrite (rights_at f j) p n
 may_write f j m place size p n grounds one from upto = search (rules, arith, one_inside)
 
@@ -135,7 +135,7 @@ surfaces_at r frame grid table handles rooms none =
 -- The tiles of the set are in the binner's grid.
 pub in_grid : (frame : Frame) (grid : Option (ℕ × ℕ)) (table : TableModel) (handles : List ℕ) → first_of (surface_faults frame grid table handles) ≡ None → is_outside_grid frame grid ≡ false
 unfolding surface_faults frame_questions
-in_grid frame grid table handles none = grind (arith, common_steps, nat_tests, none_stands, front_none)
+in_grid frame grid table handles none = grind (arith, common_steps, nat_tests, none_broken, front_none)
 
 tiles_below : (frame : Frame) (across down : ℕ) → is_outside_grid frame (Some (across, down)) ≡ false → (frame.max_x < across) × (frame.max_y < down)
 unfolding is_outside_grid

@@ -1,9 +1,9 @@
--- A file in which no rule stands settles.
+-- A file in which no rule is broken settles.
 use Rattle.std.proofs.Common.{◌≡◌, ℕ, zero, suc, ◌+◌, ◌%◌, ◌==◌, ◌<◌, ◌≤◌, inl, inr, Bool, true, not, if◌then◌else◌, List, [], ◌∷◌, ◌++◌, Some, None, is_some, length, get_or, sym, ap, arith, ◌∙◌, rules}
 use Rattle.std.proofs.lemmas.{Bool.ltb-false, Bool.cases_lt, List.get_or_past, Grind.common_steps, Bool.Decides.nat_tests}
 use Rattle.std.specs.List.{AllByRecursion}
 use Rattle.field_words.specs.Questions.{Question, Ask, first_of, each}
-use Rattle.field_words.proofs.{Questions.none_stands, Nones.front_none, Nones.rest_none, Nones.each_none, Nones.none_answered}
+use Rattle.field_words.proofs.{Questions.none_broken, Nones.front_none, Nones.rest_none, Nones.each_none, Nones.none_answered}
 use Rattle.buffer_table.specs.declared.buffer.Kind.{Kind, TheVariants.Code}
 use Rattle.buffer_table.specs.Table.{most_place, buffer_at}
 use Rattle.buffer_table.specs.{Handles.AreNumbersOf, Handles.handles_questions, Sound.IsSound}
@@ -18,7 +18,7 @@ use Rattle.shader_records.specs.{Inputs.AreShadersOf, Inputs.shader_in, Rules.al
 use Rattle.render_list.specs.Surfaces.{surface_faults}
 use Rattle.job_format.specs.{File.Fits, File.JobFits, Model.FileModel, Model.JobModel}
 use Rattle.relocation.specs.Layout.{region_end}
-use Rattle.job_check.specs.Shaders.{table_of, words_of, code_questions, told_of, content_of, shader_for, shaders_of}
+use Rattle.job_check.specs.Shaders.{table_of, words_of, code_questions, report_of, content_of, shader_for, shaders_of}
 use Rattle.job_check.specs.Faults.{table_stage_within, shader_refused, shader_questions_in, shader_stage, shaders_stage, handle_refused, handles_stage, bin_stage, records_stage, surface_refused, surfaces_stage, layout_stage, lists_stages, job_stages, stages_within, place_stages}
 use Rattle.job_check.specs.Jobs.{no_job, job_of, has_bin, grid_of, input_for, layout_of}
 use Rattle.job_check.proofs.{Codes.is_code, Codes.shader_at, Codes.shader_count, Jobs.job_limits}
@@ -29,7 +29,7 @@ asked_if : {F : Type 0} (b : Bool) (rules : List (Question F)) → b ≡ true �
 asked_if b rules is none = search (rules, arith)
 
 -- the stages of a file, and of its job j
-record NoneStands (f : FileModel) (j : ℕ) : Type 0 where
+record NoneBroken (f : FileModel) (j : ℕ) : Type 0 where
   table : first_of (table_stage_within most_place f) ≡ None
   shaders : first_of (shaders_stage f) ≡ None
   handles : first_of (handles_stage f j) ≡ None
@@ -38,7 +38,7 @@ record NoneStands (f : FileModel) (j : ℕ) : Type 0 where
   surfaces : first_of (surfaces_stage f j) ≡ None
   layout : first_of (layout_stage f j) ≡ None
 
-none_in : (f : FileModel) (j : ℕ) → j < length f.jobs → first_of (place_stages f) ≡ None → NoneStands f j
+none_in : (f : FileModel) (j : ℕ) → j < length f.jobs → first_of (place_stages f) ≡ None → NoneBroken f j
 unfolding stages_within job_stages lists_stages
 none_in f j inside none =
     let jobs = each (job_stages f) 0 (length f.jobs) in
@@ -74,17 +74,17 @@ code_at f none number inside is =
     code_none (buffer_at f.buffers number).kind (content_of f number) is
     (none_answered (shader_refused f number) (shader_questions_in (buffer_at f.buffers number).kind (content_of f number)) here)
 
--- A shader without faults is told of soundly.
+-- What is reported of a shader without faults is sound.
 pub code_rules : (content : List ℕ) → first_of (code_questions content) ≡ None → first_of (shader_questions (words_of content)) ≡ None
 unfolding code_questions
 code_rules content none = rest_none (Ask (not (length content % 8 == 0)) (record { number = 1; index = 0 }) ∷ []) (shader_questions (words_of content)) none
 
-pub told_sound : (code : List ℕ) → first_of (shader_questions code) ≡ None → IsSoundShader (told_of code)
-unfolding told_of
-told_sound code none = sound_shader (uniforms_of code) (samples_of code) (address_words_of code) (is_threaded code) (info_sound code (clean code none))
+pub report_sound : (code : List ℕ) → first_of (shader_questions code) ≡ None → IsSoundShader (report_of code)
+unfolding report_of
+report_sound code none = sound_shader (uniforms_of code) (samples_of code) (address_words_of code) (is_threaded code) (info_sound code (clean code none))
 
 sound_for : (kind : Kind) (content : List ℕ) (shader : ShaderModel) → (kind ≡ Code → first_of (code_questions content) ≡ None) → shader_for kind content ≡ Some shader → IsSoundShader shader
-sound_for kind content shader none is = search (rules, arith, told_sound, code_rules)
+sound_for kind content shader none is = search (rules, arith, report_sound, code_rules)
 
 sound_at : (f : FileModel) → first_of (shaders_stage f) ≡ None → (number : ℕ) (shader : ShaderModel) → shader_in (shaders_of f) number ≡ Some shader → IsSoundShader shader
 sound_at f none number shader is =
@@ -127,7 +127,7 @@ surfaces_none f j none = none_answered (surface_refused f j) (surface_faults (jo
 
 lists_fit : (f : FileModel) (j : ℕ) → first_of (layout_stage f j) ≡ None → (layout_of f j).place + (layout_of f j).end ≤ region_end f.regions
 unfolding layout_stage
-lists_fit f j none = ltb-false (region_end f.regions) ((layout_of f j).place + (layout_of f j).end) (none_stands (layout_stage f j) none).0
+lists_fit f j none = ltb-false (region_end f.regions) ((layout_of f j).place + (layout_of f j).end) (none_broken (layout_stage f j) none).0
 
 -- what is true of each job is true of job j
 each_job : (P : JobModel → Type 0) (jobs : List JobModel) (j : ℕ) → AllByRecursion P jobs → j < length jobs → P (get_or jobs j no_job)

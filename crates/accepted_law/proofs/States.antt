@@ -16,7 +16,7 @@ use Rattle.job_check.specs.{Shaders.table_of, Emit.lengths_of, Jobs.job_of, Jobs
 use Rattle.job_check.proofs.{Layouts.layout_apart, Layouts.layout_numbers, Layouts.begin_whole, Views.records_are}
 use Rattle.machine_plan.specs.Regions.{Interval, Inside}
 use Rattle.list_machine.specs.Fetch.{record_place}
-use Rattle.list_law.specs.Emitted.{words_in, RecordStands}
+use Rattle.list_law.specs.Emitted.{words_in, RecordLies}
 use Rattle.list_law.proofs.Emitted.{same_count, same_extended}
 use Rattle.promises.specs.{Rights.IsOneOf, Rights.IsFixed, Holdings.lists_of, Holdings.rights_at, Holdings.file_rights}
 use Rattle.qpu_law.proofs.Reading.{one_inside}
@@ -101,7 +101,7 @@ same_size state word is = grind (arith, common_steps, nat_tests, same_count, sam
 
 -- The record of state k, of which a word has the place and the low four bits, stands in memory; no job may write it.
 pub record RecordKept (f : FileModel) (j : ℕ) (m : List ℕ) (word : ℕ) : Type 0 where
-  pub stands : RecordStands (rights_at f j).region m word
+  pub stands : RecordLies (rights_at f j).region m word
   pub fixed : IsFixed (file_rights f) (record_place word) (record_size word)
 
 pub record_kept : (f : FileModel) (j : ℕ) (m : List ℕ) (k word : ℕ) → Grounds f j m → has_bin f j ≡ true → k < length (input_for f j).states → record_place word ≡ place_for f j k

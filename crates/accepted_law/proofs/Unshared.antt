@@ -2,7 +2,7 @@
 use Rattle.std.proofs.Common.{◌≡◌, ◌⊎◌, inl, inr, ℕ, ◌+◌, ◌&&◌, ◌<◌, ◌≤◌, Bool, true, false, not, if◌then◌else◌, List, ◌∷◌, ◌++◌, Some, None, length, slice_index, sym, subst, arith, ◌∙◌, rules}
 use Rattle.std.proofs.lemmas.{Bool.cases_lt, Bool.and_parts, Bool.ltb-true, Bool.eqb-true, Bool.Decides.nat_tests, Grind.common_steps}
 use Rattle.field_words.specs.{Sizes.slot_size, Questions.first_of}
-use Rattle.field_words.proofs.{Questions.none_stands, Nones.each_none}
+use Rattle.field_words.proofs.{Questions.none_broken, Nones.each_none}
 use Rattle.buffer_table.specs.Handles.{handle_questions, handles_questions, is_named, is_plain, data_of, code_of}
 use Rattle.buffer_table.specs.Table.{TableModel, buffer_at}
 use Rattle.buffer_table.proofs.Named.{data_is}
@@ -24,7 +24,7 @@ unfolding handles_questions handle_questions
 of_client t client numbers none i inside =
     let here : first_of (handle_questions t client numbers i) ≡ None =
     each_none (handle_questions t client numbers) 0 (length numbers) i none (omega arith) (omega (arith, inside)) in
-    grind (arith, (none_stands (handle_questions t client numbers i) here).0)
+    grind (arith, (none_broken (handle_questions t client numbers i) here).0)
 
 chosen : (b : Bool) (x number : ℕ) → (if b then Some x else None) ≡ Some number → x ≡ number
 chosen b x number is = search (rules, arith)
@@ -37,7 +37,7 @@ pub code_number : (t : TableModel) (handles : List ℕ) (handle number : ℕ) �
 unfolding code_of
 code_number t handles handle number is = chosen (is_named t handles handle && not (is_plain (buffer_at t.buffers (slice_index handles handle)).kind)) (slice_index handles handle) number is
 
--- A Plain buffer of the job is one of its client's.
+-- A data buffer of the job is one of its client's.
 record IsOwned (f : FileModel) (j place size : ℕ) : Type 0 where
   number : ℕ
   inside : number < length f.buffers
@@ -77,7 +77,7 @@ slot_and_buffer f j p s k job number inside from upto at past =
     (slot_apart f j k (buffer_at f.buffers number).place (buffer_at f.buffers number).size s job (tiles_apart f.mem_size f.regions f.buffers s.sound number inside))
     from upto at past
 
--- Two jobs of two clients in a file in which no rule stands.
+-- Two jobs of two clients in a file in which no rule is broken.
 record AreTwo (f : FileModel) (j k : ℕ) : Type 0 where
   none : first_of (place_stages f) ≡ None
   settled : Settled f j
@@ -85,7 +85,7 @@ record AreTwo (f : FileModel) (j k : ℕ) : Type 0 where
   other : k < length f.jobs
   clients : (job_of f j).client ≡ (job_of f k).client → ⊥
 
--- They have no byte of slot and Plain buffers in common.
+-- They have no byte of slot and data buffers in common.
 plain_and_slot : (f : FileModel) (j k p : ℕ) → AreTwo f j k → (i : ℕ) → i < length f.jobs → (l : ℕ) → l < length f.jobs → LiesInOne (plain_of f i) p 1 → LiesIn p 1 (slot_in f l) → ⊥
 unfolding slot_in
 plain_and_slot f j k p two i one l other found slot =

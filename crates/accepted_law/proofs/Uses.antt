@@ -6,7 +6,7 @@ use Rattle.buffer_table.specs.{Table.buffer_at, Sound.IsSound}
 use Rattle.job_format.specs.Model.{FileModel}
 use Rattle.qpu_isa.specs.Shader.{ShaderModel}
 use Rattle.shader_records.specs.{Inputs.AreInputs, Inputs.shader_in, Named.AreInMemory, Named.IsEmittedIn}
-use Rattle.job_check.specs.Shaders.{content_of, words_of, told_of, shader_for, shaders_of}
+use Rattle.job_check.specs.Shaders.{content_of, words_of, report_of, shader_for, shaders_of}
 use Rattle.job_check.specs.Jobs.{has_bin, input_for, layout_of}
 use Rattle.job_check.proofs.{Codes.shader_at, Views.records_are, Views.streams_are, Layouts.layout_apart, Layouts.lists_inside}
 use Rattle.accepted_law.specs.Settled.{Settled, ListsEnd, Grounds}
@@ -40,17 +40,17 @@ pub emitted_stand : (f : FileModel) (j : ℕ) (m : List ℕ) → Grounds f j m �
     → IsEmittedIn (input_for f j) ((layout_of f j).place + (layout_of f j).records) ((layout_of f j).place + (layout_of f j).uniforms) m
 emitted_stand f j m grounds some = search (rules, arith, lists_low, records_are, piece_at, streams_are)
 
--- What is known of the shader there is what the checker told of the words that its contents spell.
-shader_for_code : (kind : Kind) (content : List ℕ) → kind ≡ Code → shader_for kind content ≡ Some (told_of (words_of content))
+-- What is known of the shader there is what the checker reported of the words that its contents spell.
+shader_for_code : (kind : Kind) (content : List ℕ) → kind ≡ Code → shader_for kind content ≡ Some (report_of (words_of content))
 shader_for_code kind content is = search (rules, arith)
 
-told_there : (f : FileModel) (number : ℕ) → number < length f.buffers → (buffer_at f.buffers number).kind ≡ Code → shader_in (shaders_of f) number ≡ Some (told_of (words_of (content_of f number)))
-told_there f number below code = shader_at f number below ∙ shader_for_code (buffer_at f.buffers number).kind (content_of f number) code
+report_there : (f : FileModel) (number : ℕ) → number < length f.buffers → (buffer_at f.buffers number).kind ≡ Code → shader_in (shaders_of f) number ≡ Some (report_of (words_of (content_of f number)))
+report_there f number below code = shader_at f number below ∙ shader_for_code (buffer_at f.buffers number).kind (content_of f number) code
 
 same_some : {X : Type 0} (o : Option X) (x y : X) → o ≡ Some x → o ≡ Some y → x ≡ y
 same_some o x y one two = search (rules, arith)
 
-pub told_is : (f : FileModel) (j number : ℕ) (shader : ShaderModel) → number < length f.buffers → (buffer_at f.buffers number).kind ≡ Code → shader_in (input_for f j).shaders number ≡ Some shader
-    → shader ≡ told_of (words_of (content_of f number))
+pub report_is : (f : FileModel) (j number : ℕ) (shader : ShaderModel) → number < length f.buffers → (buffer_at f.buffers number).kind ≡ Code → shader_in (input_for f j).shaders number ≡ Some shader
+    → shader ≡ report_of (words_of (content_of f number))
 unfolding input_for
-told_is f j number shader below code is = same_some (shader_in (shaders_of f) number) shader (told_of (words_of (content_of f number))) is (told_there f number below code)
+report_is f j number shader below code is = same_some (shader_in (shaders_of f) number) shader (report_of (words_of (content_of f number))) is (report_there f number below code)

@@ -12,7 +12,7 @@ pub record IsSlot (f : FileModel) (j place size : ℕ) : Type 0 where
   pub place_is : place ≡ slot_of f j
   pub size_is : size ≡ slot_size
 
--- What a job may write is its slot, or a Plain buffer that a handle of it names. What it may reach is that, one of its four emitted
+-- What a job may write is its slot, or a data buffer that a handle of it names. What it may reach is that, one of its four emitted
 -- lists, or such a Code buffer.
 abbrev pub IsToWrite : FileModel → ℕ → ℕ → ℕ → Type 0
 IsToWrite f j place size = IsSlot f j place size ⊎ IsDataIn (table_of f) (job_of f j).handles place size
@@ -33,6 +33,6 @@ pub record AreFixed (f : FileModel) (j : ℕ) : Type 0 where
   pub lists : (place size : ℕ) → IsOneOf (lists_of f j) place size → IsFixed (file_rights f) place size
   pub code : (place size : ℕ) → IsNamedCode f j place size → IsFixed (file_rights f) place size
 
--- So it is for each job where no rule stands.
+-- So it is for each job where no rule is broken.
 abbrev pub ListsAndCodeAreFixed : Type 0
 ListsAndCodeAreFixed = (f : FileModel) → IsWellFormed f → Fits f → first_of (place_stages f) ≡ None → OfEachJob f (AreFixed f)

@@ -2,7 +2,7 @@
 use Rattle.std.specs.Prelude.{ℕ, ◌+◌, ◌*◌, ◌-◌}
 use Rattle.field_words.specs.Sizes.{slot_size}
 use Rattle.tile_memory.specs.Slots.{alloc_offset}
-use Rattle.bin_list.specs.{Packets.passed, Seen.seen_before}
+use Rattle.bin_list.specs.{Packets.packets_passed, Seen.seen_before}
 use Rattle.job_format.specs.Model.{FileModel}
 use Rattle.job_check.specs.Jobs.{job_of, slot_of, places_in}
 use Rattle.packets.specs.declared.config.Config.{Config}
@@ -11,10 +11,10 @@ use Rattle.list_law.specs.Start.{frame_of}
 
 -- the tiles of the binner's grid; none where there is no binner list
 abbrev pub across_of : FileModel → ℕ → ℕ
-across_of f j = (seen_before (passed (job_of f j).bin)).tiles_x
+across_of f j = (seen_before (packets_passed (job_of f j).bin)).tiles_x
 
 abbrev pub down_of : FileModel → ℕ → ℕ
-down_of f j = (seen_before (passed (job_of f j).bin)).tiles_y
+down_of f j = (seen_before (packets_passed (job_of f j).bin)).tiles_y
 
 -- The configuration of job j: the tiles' states stand at the slot's beginning, and their lists behind.
 unfoldable pub config_for : FileModel → ℕ → Config

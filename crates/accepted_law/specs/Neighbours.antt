@@ -25,6 +25,6 @@ EmittedAlike =
     (c : ℕ) (f g : FileModel) → IsFaultless f → IsFaultless g → AreNeighbourFiles c f g → f.mem_size ≡ g.mem_size
     → ((j : ℕ) → jobs_of c f j ≡ true → FilledAlike f g j) → AlikeTo c f g (memory_of f) (memory_of g)
 
--- Every two neighbours of which no rule stands are apart.
+-- Every two neighbours in which no rule is broken are apart.
 abbrev pub AcceptedApart : Type 0
 AcceptedApart = (c : ℕ) (f g : FileModel) → IsFaultless f → IsFaultless g → AreNeighbourFiles c f g → AreApart c f g

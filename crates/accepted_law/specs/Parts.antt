@@ -1,6 +1,6 @@
 -- The parts of what each job of an accepted file begins with.
 use Rattle.std.specs.Prelude.{◌≡◌, ◌<◌, ◌⊎◌, ℕ, ◌+◌, true, false, not, List, length, None}
-use Rattle.field_words.specs.{Pieces.joined, Questions.first_of}
+use Rattle.field_words.specs.{Pieces.joined_texts, Questions.first_of}
 use Rattle.emitted_facts.specs.Records.{is_single}
 use Rattle.packets.specs.{Opcode.indexed_primitive_list, Opcode.array_primitive_list, Packet.slots_text}
 use Rattle.bin_list.specs.Packets.{opcode}
@@ -18,7 +18,7 @@ use Rattle.accepted_law.specs.Holdings.{config_for, frame_for}
 use Rattle.promises.specs.Holdings.{OfEachJob, plain_of, file_rights, rights_at, start_of}
 use Rattle.accepted_law.specs.{Ends.IsShaderOf, Ends.AreHandlesOf, Ends.DrawShaders, Settled.AreSettled, Settled.Grounds}
 
--- From the file: where no rule stands, all this is known of it, and of the memory that it is emitted as.
+-- From the file: where no rule is broken, all this is known of it, and of the memory that it is emitted as.
 abbrev pub FilesSettle : Type 0
 FilesSettle = (f : FileModel) → IsWellFormed f → Fits f → first_of (place_stages f) ≡ None → AreSettled f
 
@@ -57,7 +57,7 @@ DrawsBegin =
 -- and the list walks.
 pub record BinWalks (f : FileModel) (j : ℕ) (m : List ℕ) : Type 0 where
   pub packets : List (List ℕ)
-  pub text : bin_list_of f j ≡ joined packets
+  pub text : bin_list_of f j ≡ joined_texts packets
   pub walks : Walks (config_for f j) (DrawShaders f j m) nothing_kept packets
 
 abbrev pub BinsWalk : Type 0
@@ -73,7 +73,7 @@ pub record RenderWalks (f : FileModel) (j : ℕ) : Type 0 where
 abbrev pub RendersWalk : Type 0
 RendersWalk = (f : FileModel) (j : ℕ) (m : List ℕ) → Grounds f j m → RenderWalks f j
 
--- The whole: what each job of an accepted file begins with is what the laws of the machine's units ask of it, and of its Plain buffers.
+-- The whole: what each job of an accepted file begins with is what the laws of the machine's units ask of it, and of its data buffers.
 abbrev pub FilesBegin : Type 0
 FilesBegin =
     (f : FileModel) → IsWellFormed f → Fits f → first_of (place_stages f) ≡ None

@@ -1,4 +1,4 @@
--- What is known of a file in which no rule stands, stage by stage, and of the memory that it is emitted as.
+-- What is known of a file in which no rule is broken, stage by stage, and of the memory that it is emitted as.
 use Rattle.std.specs.Prelude.{◌≡◌, ◌≤◌, ◌<◌, ℕ, ◌+◌, ◌%◌, true, List, length, None, Some}
 use Rattle.field_words.specs.{Sizes.page_size, Sizes.slot_size, Words.IsBytes, Questions.first_of}
 use Rattle.buffer_table.specs.{declared.buffer.Kind.TheVariants.Code, Table.buffer_at, Table.most_place, Sound.IsSound}
@@ -14,8 +14,8 @@ use Rattle.machine_plan.specs.Memory.{bytes_at}
 use Rattle.promises.specs.Holdings.{OfEachJob, plain_of, lists_of, file_rights, rights_at}
 use Rattle.promises.specs.Rights.{IsOneOf, IsFixed}
 
--- Of such a file and its job j: the memory table is sound, each Code buffer holds a shader in which no rule stands, the handles of the job
--- are numbers of buffers, no rule stands in its lists, its frame and its surfaces, and its lists end in the lists' region.
+-- Of such a file and its job j: the memory table is sound, each Code buffer holds a shader in which no rule is broken, the handles of the job
+-- are numbers of buffers, no rule is broken in its lists, its frame and its surfaces, and its lists end in the lists' region.
 pub record Settled (f : FileModel) (j : ℕ) : Type 0 where
   pub well_formed : IsWellFormed f
   pub fits : Fits f
@@ -54,7 +54,7 @@ pub record ListsEnd (f : FileModel) (j : ℕ) : Type 0 where
   pub render : (layout_of f j).render + length (render_list_of f j) ≤ (layout_of f j).end
   pub region : (layout_of f j).place + (layout_of f j).end ≤ region_end f.regions
 
--- What is known of the rights of job j: each thing that it holds is an interval of its region, its Plain buffers may be written by it, and
+-- What is known of the rights of job j: each thing that it holds is an interval of its region, its data buffers may be written by it, and
 -- its lists and code by no job. No two items of a sound table share a byte, and each buffer begins at a page.
 pub record Grounds (f : FileModel) (j : ℕ) (m : List ℕ) : Type 0 where
   pub settled : Settled f j

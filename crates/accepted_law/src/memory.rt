@@ -2,8 +2,8 @@
 ghost use Rattle.accepted_law.specs.Parts.{FilesSettle, FilesGround, FilesAllocate};
 ghost use Rattle.accepted_law.specs.Texts.{BinTextsBegin, RenderTextsBegin};
 
-/// A file in which no rule stands has a sound memory table, shaders without faults, and in each of its jobs lists, frame and surfaces in
-/// which no rule stands.
+/// A file in which no rule is broken has a sound memory table, shaders without faults, and in each of its jobs lists, frame and surfaces in
+/// which no rule is broken.
 pub fn files_settle()
     ensures { FilesSettle }
 {}

@@ -12,9 +12,9 @@ pub fn files_begin()
 
 /// The 1 to 8 jobs of an accepted file are sound from every memory of the emitted one's length that has their emitted lists and their
 /// code as that one, whatever all its other bytes are: in every run of the machine, whichever unit steps next, whatever words answer, and
-/// whatever others write beside lists and code, no access is wild, each lies in the buffers, lists, code or tile slot of the job for
-/// which it is done, and each write in a Plain buffer of that job or in its tile slot. Bytes outside have no effect. And a step of a
-/// texture unit does nothing to memory but read inside one Plain buffer that a handle of its job names.
+/// whatever others write beside lists and code, no access is undefined, each lies in the buffers, lists, code or tile slot of the job for
+/// which it is done, and each write in a data buffer of that job or in its tile slot. Bytes outside have no effect. And a step of a
+/// texture unit does nothing to memory but read inside one data buffer that a handle of its job names.
 pub fn accepted_files_are_sound()
     ensures { FilesSound }
 {}

@@ -3,7 +3,7 @@ use Rattle.std.proofs.Common.{◌≡◌, ◌≤◌, ◌<◌, ℕ, Bool, true, fa
 use Rattle.std.specs.Prelude.{is_some}
 use Rattle.buffer_table.specs.Table.{TableModel}
 use Rattle.relocation.specs.declared.layout.Layout.{Layout}
-use Rattle.bin_list.specs.{Packets.packets, Packets.passed, Rules.given_of, Seen.seen_before, States.states_of}
+use Rattle.bin_list.specs.{Packets.packets, Packets.packets_passed, Rules.given_of, Seen.seen_before, States.states_of}
 use Rattle.bin_walks.specs.{Draws.IsDrawn, Emission.emission, Emission.config_of, Law.IsWalked, Walks.nothing_kept}
 use Rattle.bin_walks.proofs.Law.{emitted_lists_walk_law}
 use Rattle.list_law.proofs.Start.{walks_so}
@@ -48,14 +48,14 @@ some_raised f j m grounds has =
     let it : IsWalked bin declared table handles layout =
     emitted_lists_walk_law bin declared table handles layout grounds.settled.limits.bin grounds.settled.limits.declared (layout_is_low f j m grounds)
     (λ number below. buffer_low f.mem_size f.regions f.buffers grounds.settled.sound number) (grounds.settled.bin has) in
-    let config = config_of layout (seen_before (passed bin)).tiles_x (seen_before (passed bin)).tiles_y in
+    let config = config_of layout (seen_before (packets_passed bin)).tiles_x (seen_before (packets_passed bin)).tiles_y in
     let cut : packets (bin_list_of f j) ≡ list = ap packets (bin_is f j has ∙ it.text) ∙ packets_walk config (IsDrawn table handles layout (states_of (packets bin))) nothing_kept list it.walks in
     subst (λ (ps : List (List ℕ)). 1 ≤ raised_by 0 ps) (sym cut) (emission_raises bin declared table handles layout (grounds.settled.bin has))
 
 grid_there : (f : FileModel) (j : ℕ) (b : Bool) → has_bin f j ≡ b → is_some (grid_of f j) ≡ b
 unfolding grid_of
-grid_there f j true has = ap (λ b. is_some (if b then Some (grid_from (seen_before (passed (job_of f j).bin))) else None)) has
-grid_there f j false none = ap (λ b. is_some (if b then Some (grid_from (seen_before (passed (job_of f j).bin))) else None)) none
+grid_there f j true has = ap (λ b. is_some (if b then Some (grid_from (seen_before (packets_passed (job_of f j).bin))) else None)) has
+grid_there f j false none = ap (λ b. is_some (if b then Some (grid_from (seen_before (packets_passed (job_of f j).bin))) else None)) none
 
 raised_by_bin : (f : FileModel) (j : ℕ) (m : List ℕ) (b : Bool) → Grounds f j m → has_bin f j ≡ b → one_if (is_some (grid_of f j)) ≤ raised_by 0 (packets (bin_list_of f j))
 raised_by_bin f j m true grounds has =

@@ -1,14 +1,14 @@
 -- The emitted binner list of an accepted job raises the semaphore: its last packets are an increment and a flush.
 use Rattle.std.proofs.Common.{◌≡◌, ◌≤◌, ℕ, ◌+◌, ◌==◌, ◌&&◌, Bool, true, false, List, [], ◌∷◌, None, if◌then◌else◌, refl, sym, ◌∙◌, ap, subst, arith}
 use Rattle.std.proofs.lemmas.Bool.{and_parts, eqb-true}
-use Rattle.field_words.specs.Questions.{first_of, answered}
-use Rattle.field_words.proofs.{Questions.none_stands, Nones.rest_none, Nones.none_answered}
+use Rattle.field_words.specs.Questions.{first_of, with_answers}
+use Rattle.field_words.proofs.{Questions.none_broken, Nones.rest_none, Nones.none_answered}
 use Rattle.relocation.specs.declared.layout.Layout.{Layout}
 use Rattle.packets.specs.Opcode.{flush, increment_semaphore, buffer_handles, indexed_primitive_list, gl_shader_state, tile_binning_mode}
 use Rattle.buffer_table.specs.Table.{TableModel}
 use Rattle.bin_list.specs.{declared.seen.Seen.Seen, Emitted.packet_text, Emitted.index_text, Emitted.state_text, Emitted.config_text}
-use Rattle.bin_list.specs.{Faults.fault, Packets.opcode, Packets.packets, Packets.passed, Packets.onto}
-use Rattle.bin_list.specs.Rules.{GivenModel, given_of, asked, end_questions, questions_of, bin_questions}
+use Rattle.bin_list.specs.{Faults.fault, Packets.opcode, Packets.packets, Packets.packets_passed, Packets.onto}
+use Rattle.bin_list.specs.Rules.{GivenModel, given_of, questions_of_packets, end_questions, questions_of, bin_questions}
 use Rattle.bin_list.specs.Seen.{seen_before, last_opcode, before_last}
 use Rattle.bin_walks.specs.Emission.{emission}
 use Rattle.served_law.specs.Raises.{raised_by}
@@ -76,21 +76,21 @@ all_raise given layout [] ends = absurd (no_packet ends.flushes)
 all_raise given layout (one ∷ []) ends = absurd (no_packet_before ends.increment)
 all_raise given layout (one ∷ two ∷ later) ends = raises given layout [] one two later ends 0
 
--- so it is where no rule of binner lists stands
+-- so it is where no rule of binner lists is broken
 ends_so : (seen : Seen) → first_of (end_questions seen) ≡ None → (seen.before_last ≡ increment_semaphore) × (seen.last ≡ flush)
 unfolding end_questions
 ends_so seen none =
-    let asked = none_stands (end_questions seen) none in
+    let asked = none_broken (end_questions seen) none in
     let two : (seen.before_last == increment_semaphore && seen.last == flush) ≡ true = grind (arith, asked.1.0) in
     let parts = and_parts (seen.before_last == increment_semaphore) (seen.last == flush) two in
     (eqb-true seen.before_last increment_semaphore parts.0, eqb-true seen.last flush parts.1)
 
 pub emission_raises : (list : List ℕ) (declared : ℕ) (table : TableModel) (handles : List ℕ) (layout : Layout) → first_of (bin_questions list declared table handles) ≡ None → 1 ≤ raised_by 0 (emission (given_of list declared table handles) layout [] (packets list))
-unfolding passed questions_of seen_before
+unfolding packets_passed questions_of seen_before
 emission_raises list declared table handles layout none =
     let given = given_of list declared table handles in
     let all = onto [] (packets list) in
     let end : first_of (end_questions (seen_before all)) ≡ None =
-    none_answered (fault given.size) (end_questions (seen_before all)) (rest_none (asked given all) (answered (fault given.size) (end_questions (seen_before all))) none) in
-    let told = ends_so (seen_before all) end in
-    all_raise given layout (packets list) (record { increment = told.0; flushes = told.1 })
+    none_answered (fault given.size) (end_questions (seen_before all)) (rest_none (questions_of_packets given all) (with_answers (fault given.size) (end_questions (seen_before all))) none) in
+    let report = ends_so (seen_before all) end in
+    all_raise given layout (packets list) (record { increment = report.0; flushes = report.1 })

@@ -5,6 +5,6 @@ use Rattle.job_format.specs.{File.IsWellFormed, File.Fits, Model.FileModel}
 use Rattle.job_check.specs.Faults.{place_stages}
 use Rattle.promises.specs.Finished.{FileFinishes}
 
--- The jobs of each file finish in which no rule stands.
+-- The jobs of each file finish in which no rule is broken.
 abbrev pub FilesFinish : Type 0
 FilesFinish = (f : FileModel) → IsWellFormed f → Fits f → first_of (place_stages f) ≡ None → FileFinishes f

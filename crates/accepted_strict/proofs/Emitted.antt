@@ -5,8 +5,8 @@ use Rattle.std.proofs.lemmas.Bool.{eqb-true, true≢false}
 use Rattle.std.proofs.lemmas.List.{append_cancel_left, get_or_append_left, get_or-take, length-append, length-drop, length-take, take_all, take-append-le}
 use Rattle.std.specs.Prelude.{min, ◌-◌}
 use Rattle.std.specs.Int.{to_le_bytes, w32}
-use Rattle.field_words.specs.{Pieces.joined, Questions.first_of, Questions.answered, Words.u32_at, Writes.with_bytes}
-use Rattle.field_words.proofs.{Nones.front_none, Nones.rest_none, Nones.none_answered, Questions.answered_none, Questions.none_stands, Questions.passes, Questions.stands_none}
+use Rattle.field_words.specs.{Pieces.joined_texts, Questions.first_of, Questions.with_answers, Words.u32_at, Writes.with_bytes}
+use Rattle.field_words.proofs.{Nones.front_none, Nones.rest_none, Nones.none_answered, Questions.answered_none, Questions.none_broken, Questions.passes, Questions.first_none}
 use Rattle.relocation.specs.declared.layout.Layout.{Layout}
 use Rattle.packets.specs.Opcode.{start_tile_binning, indexed_primitive_list, array_primitive_list, primitive_list_format, gl_shader_state, tile_binning_mode, buffer_handles}
 use Rattle.packets.specs.Length.{bin_length}
@@ -24,10 +24,10 @@ some_long packet whole =
     let known = whole.known in
     omega (arith, long, known)
 
-joined_some : (packet : List ℕ) (packets : List (List ℕ)) → IsWhole packet → joined (packet ∷ packets) ≡ [] → ⊥
+joined_some : (packet : List ℕ) (packets : List (List ℕ)) → IsWhole packet → joined_texts (packet ∷ packets) ≡ [] → ⊥
 joined_some packet packets whole is =
     let some = some_long packet whole in
-    let long = sym (length-append packet (joined packets)) ∙ ap length is in
+    let long = sym (length-append packet (joined_texts packets)) ∙ ap length is in
     omega (arith, some, long)
 
 first_byte : (packet rest : List ℕ) → 1 ≤ length packet → slice_index (packet ++ rest) 0 ≡ opcode packet
@@ -44,13 +44,13 @@ front_same packet other rest more whole beside is =
     let long : length packet ≡ length other = whole.whole ∙ (ap bin_length code ∙ sym beside.whole) in
     sym (take_front packet rest) ∙ (ap (λ n. take n (packet ++ rest)) long ∙ (ap (λ bytes. take (length other) bytes) is ∙ take_front other more))
 
-pub joined_once : (packets others : List (List ℕ)) → AllWhole packets → AllWhole others → joined packets ≡ joined others → packets ≡ others
+pub joined_once : (packets others : List (List ℕ)) → AllWhole packets → AllWhole others → joined_texts packets ≡ joined_texts others → packets ≡ others
 joined_once [] [] whole beside is = refl
 joined_once [] (other ∷ others) whole beside is = absurd (joined_some other others beside.0 (sym is))
 joined_once (packet ∷ packets) [] whole beside is = absurd (joined_some packet packets whole.0 is)
 joined_once (packet ∷ packets) (other ∷ others) whole beside is =
-    let same : packet ≡ other = front_same packet other (joined packets) (joined others) whole.0 beside.0 is in
-    let later : joined packets ≡ joined others = append_cancel_left other (joined packets) (joined others) (ap (λ p. p ++ joined packets) (sym same) ∙ is) in
+    let same : packet ≡ other = front_same packet other (joined_texts packets) (joined_texts others) whole.0 beside.0 is in
+    let later : joined_texts packets ≡ joined_texts others = append_cancel_left other (joined_texts packets) (joined_texts others) (ap (λ p. p ++ joined_texts packets) (sym same) ∙ is) in
     ap (λ p. p ∷ packets) same ∙ ap (λ ps. other ∷ ps) (joined_once packets others whole.1 beside.1 later)
 
 -- What stays of a packet: its opcode, and the byte behind that, but for the two kinds that are written anew.
@@ -182,16 +182,16 @@ record AsksNone (earlier : List (List ℕ)) (p : List ℕ) (later : List (List �
 asks_none : (earlier : List (List ℕ)) (p : List ℕ) (later : List (List ℕ)) → first_of (asked_from earlier (p ∷ later)) ≡ None → AsksNone earlier p later
 unfolding packet_questions
 asks_none earlier p later none =
-    let asked = answered (list_fault (place earlier)) (packet_questions (course_before earlier) p) in
-    let stands = none_stands (packet_questions (course_before earlier) p) (none_answered (list_fault (place earlier)) (packet_questions (course_before earlier) p) (front_none asked (asked_from (p ∷ earlier) later) none)) in
-    record { kind = stands.0; count = stands.1.0; format = stands.1.1.0; rest = rest_none asked (asked_from (p ∷ earlier) later) none }
+    let asked = with_answers (list_fault (place earlier)) (packet_questions (course_before earlier) p) in
+    let broken = none_broken (packet_questions (course_before earlier) p) (none_answered (list_fault (place earlier)) (packet_questions (course_before earlier) p) (front_none asked (asked_from (p ∷ earlier) later) none)) in
+    record { kind = broken.0; count = broken.1.0; format = broken.1.1.0; rest = rest_none asked (asked_from (p ∷ earlier) later) none }
 
 none_asked : (earlier : List (List ℕ)) (p : List ℕ) (later : List (List ℕ)) → AsksNone earlier p later → first_of (asked_from earlier (p ∷ later)) ≡ None
 unfolding packet_questions
 none_asked earlier p later none =
     let questions = packet_questions (course_before earlier) p in
-    let front = answered_none (list_fault (place earlier)) questions (stands_none questions (none.kind, (none.count, (none.format, tt)))) in
-    passes (answered (list_fault (place earlier)) questions) (asked_from (p ∷ earlier) later) front ∙ none.rest
+    let front = answered_none (list_fault (place earlier)) questions (first_none questions (none.kind, (none.count, (none.format, tt)))) in
+    passes (with_answers (list_fault (place earlier)) questions) (asked_from (p ∷ earlier) later) front ∙ none.rest
 
 by_drop : (b : Bool) (texts : List (List ℕ)) (text : List ℕ) (rest : List (List ℕ)) → AllWhole (if b then rest else text ∷ rest) → (b ≡ true → AllWhole rest → first_of (asked_from texts rest) ≡ None)
     → (b ≡ false → IsWhole text → AllWhole rest → first_of (asked_from texts (text ∷ rest)) ≡ None) → first_of (asked_from texts (if b then rest else text ∷ rest)) ≡ None

@@ -2,8 +2,8 @@
 use Rattle.std.proofs.Common.{◌≡◌, ◌≤◌, ◌<◌, ℕ, suc, ◌+◌, ◌*◌, false, List, [], ◌∷◌, length, None, inl, inr, sym, ◌∙◌, ap, subst, arith}
 use Rattle.std.proofs.lemmas.Bool.{cases_lt}
 use Rattle.std.specs.Prelude.{slice_index_or}
-use Rattle.field_words.specs.{Questions.first_of, Questions.each, Questions.answered, Words.u32_at}
-use Rattle.field_words.proofs.{Nones.front_none, Nones.rest_none, Nones.each_none, Questions.none_stands}
+use Rattle.field_words.specs.{Questions.first_of, Questions.each, Questions.with_answers, Words.u32_at}
+use Rattle.field_words.proofs.{Nones.front_none, Nones.rest_none, Nones.each_none, Questions.none_broken}
 use Rattle.buffer_table.proofs.Named.{code_is}
 use Rattle.packets.specs.StateWord.{attribute_count}
 use Rattle.bin_list.specs.declared.state.State.{State}
@@ -26,9 +26,9 @@ pub record HandlesFit (f : FileModel) (j at : ℕ) : Type 0 where
 handles_fit : (f : FileModel) (j at word : ℕ) → first_of (record_questions f j at word) ≡ None → HandlesFit f j at
 unfolding record_questions use_questions
 handles_fit f j at word none =
-    let front = front_none (use_questions f j at) (answered (selection_refused f j (record_at at word)) (selection_questions (job_of f j).records (record_at at word) (attribute_count word))) none in
-    let stands = none_stands (use_questions f j at) front in
-    record { fragment = stands.0; vertex = stands.1.0; coordinate = stands.1.1.0 }
+    let front = front_none (use_questions f j at) (with_answers (selection_refused f j (record_at at word)) (selection_questions (job_of f j).records (record_at at word) (attribute_count word))) none in
+    let broken = none_broken (use_questions f j at) front in
+    record { fragment = broken.0; vertex = broken.1.0; coordinate = broken.1.1.0 }
 
 from_fit : (f : FileModel) (j n k : ℕ) (rest : List State) → first_of (records_from f j (record_source (input_for f j) n) rest) ≡ None → ((i : ℕ) → i < length rest → slice_index_or rest i no_state ≡ state_at (input_for f j) (n + i))
     → n ≤ k → k < n + length rest → HandlesFit f j (record_source (input_for f j) k)

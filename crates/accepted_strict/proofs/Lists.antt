@@ -1,12 +1,12 @@
 -- The emitted binner list of each job of a strict file breaks no strict rule.
 use Rattle.std.proofs.Common.{◌≡◌, ◌<◌, ℕ, Bool, true, false, List, [], ◌∷◌, length, None, refl, sym, ◌∙◌, ap, subst, arith}
 use Rattle.std.specs.Prelude.{unwrap_or}
-use Rattle.field_words.specs.{Pieces.joined, Questions.first_of, Questions.each}
+use Rattle.field_words.specs.{Pieces.joined_texts, Questions.first_of, Questions.each}
 use Rattle.field_words.proofs.Nones.{front_none, rest_none, each_none, none_answered}
 use Rattle.bin_list.specs.{Packets.packets, Rules.given_of}
 use Rattle.bin_walks.specs.{Walks.Drawing, Walks.Kept, Walks.Tame, Walks.Walks, Walks.kept_after, Walks.nothing_kept, Law.IsWalked, Emission.emission, Emission.config_of}
 use Rattle.bin_walks.specs.Draws.{IsDrawn}
-use Rattle.bin_list.specs.{Packets.passed, Seen.seen_before, States.states_of}
+use Rattle.bin_list.specs.{Packets.packets_passed, Seen.seen_before, States.states_of}
 use Rattle.packets.specs.declared.config.Config.{Config}
 use Rattle.bin_walks.proofs.Law.{emitted_lists_walk_law}
 use Rattle.job_format.specs.Model.{FileModel}
@@ -43,18 +43,18 @@ all_whole : (f : FileModel) (j : ℕ) (m : List ℕ) → Grounds f j m → has_b
 all_whole f j m grounds has =
     let bin : List ℕ = (job_of f j).bin in
     let layout = layout_of f j in
-    let seen = seen_before (passed bin) in
+    let seen = seen_before (packets_passed bin) in
     let it = walked f j m grounds has in
     walks_whole (config_of layout seen.tiles_x seen.tiles_y) (IsDrawn (table_of f) (job_of f j).handles layout (states_of (packets bin))) nothing_kept (emission (given_of bin (job_of f j).declared (table_of f) (job_of f j).handles) layout [] (packets bin)) it.walks
 
 -- its packets are those of the file's list that emission keeps, which are primitives of its states
-same_packets : (f : FileModel) (j : ℕ) (m : List ℕ) (list : List (List ℕ)) → (grounds : Grounds f j m) → (has : has_bin f j ≡ true) → bin_list_of f j ≡ joined list → AllWhole list
+same_packets : (f : FileModel) (j : ℕ) (m : List ℕ) (list : List (List ℕ)) → (grounds : Grounds f j m) → (has : has_bin f j ≡ true) → bin_list_of f j ≡ joined_texts list → AllWhole list
     → emission (given_of (job_of f j).bin (job_of f j).declared (table_of f) (job_of f j).handles) (layout_of f j) [] (packets (job_of f j).bin) ≡ list
 same_packets f j m list grounds has text whole =
     let it = walked f j m grounds has in
     joined_once (emission (given_of (job_of f j).bin (job_of f j).declared (table_of f) (job_of f j).handles) (layout_of f j) [] (packets (job_of f j).bin)) list (all_whole f j m grounds has) whole (sym it.text ∙ (sym (bin_is f j has) ∙ text))
 
-some_strict : (f : FileModel) (j : ℕ) (m : List ℕ) (list : List (List ℕ)) → FileStrict f → Grounds f j m → has_bin f j ≡ true → bin_list_of f j ≡ joined list → AllWhole list → IsListStrict list
+some_strict : (f : FileModel) (j : ℕ) (m : List ℕ) (list : List (List ℕ)) → FileStrict f → Grounds f j m → has_bin f j ≡ true → bin_list_of f j ≡ joined_texts list → AllWhole list → IsListStrict list
 unfolding list_questions
 some_strict f j m list strict grounds has text whole =
     let bin : List ℕ = (job_of f j).bin in
@@ -65,7 +65,7 @@ none_listed : (f : FileModel) (j : ℕ) → has_bin f j ≡ false → bin_list_o
 unfolding bin_list_of
 none_listed f j none = rw none refl
 
-list_by : (f : FileModel) (j : ℕ) (m : List ℕ) (list : List (List ℕ)) (has : Bool) → has_bin f j ≡ has → FileStrict f → Grounds f j m → bin_list_of f j ≡ joined list → AllWhole list → IsListStrict list
+list_by : (f : FileModel) (j : ℕ) (m : List ℕ) (list : List (List ℕ)) (has : Bool) → has_bin f j ≡ has → FileStrict f → Grounds f j m → bin_list_of f j ≡ joined_texts list → AllWhole list → IsListStrict list
 list_by f j m list true has strict grounds text whole = some_strict f j m list strict grounds has text whole
 list_by f j m list false has strict grounds text whole = subst IsListStrict (joined_once [] list tt whole (sym (none_listed f j has) ∙ text)) refl
 
@@ -77,19 +77,19 @@ record_there : (f : FileModel) (j : ℕ) (m : List ℕ) → FileStrict f → (gr
 unfolding states_in
 record_there f j m strict grounds has word packet drawn kind = record_selects f j m word drawn.state strict grounds has drawn.is_state
 
-some_select : (f : FileModel) (j : ℕ) (m : List ℕ) (list : List (List ℕ)) → FileStrict f → Grounds f j m → has_bin f j ≡ true → bin_list_of f j ≡ joined list → AllWhole list → Walks (config_for f j) (λ word packet. selects_missing m word ≡ false) nothing_kept list
+some_select : (f : FileModel) (j : ℕ) (m : List ℕ) (list : List (List ℕ)) → FileStrict f → Grounds f j m → has_bin f j ≡ true → bin_list_of f j ≡ joined_texts list → AllWhole list → Walks (config_for f j) (λ word packet. selects_missing m word ≡ false) nothing_kept list
 unfolding layout_of config_for
 some_select f j m list strict grounds has text whole =
     let bin : List ℕ = (job_of f j).bin in
     let layout = layout_of f j in
-    let seen = seen_before (passed bin) in
+    let seen = seen_before (packets_passed bin) in
     let emitted = emission (given_of bin (job_of f j).declared (table_of f) (job_of f j).handles) layout [] (packets bin) in
     let it = walked f j m grounds has in
     let walks : Walks (config_of layout seen.tiles_x seen.tiles_y) (λ word packet. selects_missing m word ≡ false) nothing_kept emitted =
     walks_so (config_of layout seen.tiles_x seen.tiles_y) (IsDrawn (table_of f) (job_of f j).handles layout (states_of (packets bin))) (λ word packet. selects_missing m word ≡ false) (record_there f j m strict grounds has) nothing_kept emitted it.walks in
     subst (λ (ps : List (List ℕ)). Walks (config_for f j) (λ word packet. selects_missing m word ≡ false) nothing_kept ps) (same_packets f j m list grounds has text whole) walks
 
-select_by : (f : FileModel) (j : ℕ) (m : List ℕ) (list : List (List ℕ)) (has : Bool) → has_bin f j ≡ has → FileStrict f → Grounds f j m → bin_list_of f j ≡ joined list → AllWhole list → Walks (config_for f j) (λ word packet. selects_missing m word ≡ false) nothing_kept list
+select_by : (f : FileModel) (j : ℕ) (m : List ℕ) (list : List (List ℕ)) (has : Bool) → has_bin f j ≡ has → FileStrict f → Grounds f j m → bin_list_of f j ≡ joined_texts list → AllWhole list → Walks (config_for f j) (λ word packet. selects_missing m word ≡ false) nothing_kept list
 select_by f j m list true has strict grounds text whole = some_select f j m list strict grounds has text whole
 select_by f j m list false has strict grounds text whole =
     subst (λ (ps : List (List ℕ)). Walks (config_for f j) (λ word packet. selects_missing m word ≡ false) nothing_kept ps) (joined_once [] list tt whole (sym (none_listed f j has) ∙ text)) tt

@@ -4,9 +4,9 @@ use Rattle.std.proofs.lemmas.Bool.{cases_lt, or_from}
 use Rattle.std.proofs.lemmas.List.{get_or-drop, length-drop}
 use Rattle.std.proofs.Math.Seq.{drop-cons}
 use Rattle.std.specs.Int.{from_le_bytes, w32}
-use Rattle.field_words.specs.{Questions.first_of, Questions.answered, Questions.each, Words.IsBytes, Words.u32_at}
+use Rattle.field_words.specs.{Questions.first_of, Questions.with_answers, Questions.each, Words.IsBytes, Words.u32_at}
 use Rattle.field_words.proofs.Nones.{front_none, rest_none, each_none, none_answered}
-use Rattle.field_words.proofs.Questions.{none_stands}
+use Rattle.field_words.proofs.Questions.{none_broken}
 use Rattle.packets.specs.StateWord.{attribute_count}
 use Rattle.bin_list.specs.declared.state.State.{State}
 use Rattle.bin_walks.specs.Draws.{IsStateAt}
@@ -111,8 +111,8 @@ record_asked f j k i at (state ∷ later) rest source from below none =
 none_past : (records : List ℕ) (from attributes : ℕ) → first_of (selection_questions records from attributes) ≡ None → (selects_past (slice_index records (from + 14)) attributes ≡ false) × (selects_past (slice_index records (from + 26)) attributes ≡ false)
 unfolding selection_questions
 none_past records from attributes none =
-    let stands = none_stands (selection_questions records from attributes) none in
-    (stands.0, stands.1.0)
+    let broken = none_broken (selection_questions records from attributes) none in
+    (broken.0, broken.1.0)
 
 job_asked : (f : FileModel) (j : ℕ) → FileStrict f → j < length f.jobs → first_of (records_from f j 0 (input_for f j).states) ≡ None
 unfolding strict_stages job_stages records_stage input_for
@@ -131,7 +131,7 @@ source_selects f j k strict inside below =
     let asked = record_asked f j k 0 0 input.states refl refl (omega arith) below (job_asked f j strict inside) in
     let questions = selection_questions (job_of f j).records (record_at at word) (attribute_count word) in
     none_past (job_of f j).records (record_at at word) (attribute_count word)
-    (none_answered (selection_refused f j (record_at at word)) questions (rest_none (use_questions f j at) (answered (selection_refused f j (record_at at word)) questions) asked))
+    (none_answered (selection_refused f j (record_at at word)) questions (rest_none (use_questions f j at) (with_answers (selection_refused f j (record_at at word)) questions) asked))
 
 found_in : (f : FileModel) (j word : ℕ) (state : State) → IsStateAt (layout_of f j) 0 (states_in f j) word state → StateFound (input_for f j) (layout_of f j) word state
 unfolding input_for

@@ -3,10 +3,10 @@
 use Rattle.std.proofs.Common.{◌≡◌, ℕ, Bool, true, false, if◌then◌else◌, List, ◌∷◌, Option, Some, None, refl, ◌∙◌, ap, append-nil, arith, rules}
 use Rattle.std.proofs.{lemmas.Bool.false≢true, lemmas.List.Elements.filter-append}
 use Rattle.std.specs.Prelude.{IfSome, drop, ◌==◌, option_map, unwrap_or, is_none}
-use Rattle.qpu_machine.specs.Qpu.{active_of, woken_slot, queue_with, settled, oldest, queue_of, with_result, dropped, given, served, in_first, in_other}
+use Rattle.qpu_machine.specs.Qpu.{active_of, woken_slot, queue_with, after_turn, oldest, queue_of, with_result, after_drop, result_given, after_service, in_first, in_other}
 use Rattle.qpu_machine.specs.{declared.state.Asked.Asked, declared.state.Qpu.Qpu, declared.state.Request.Request}
 use Rattle.qpu_machine.specs.declared.state.Thread.{Thread}
-use Rattle.apart_law.specs.Part.{Part, seen, requests_of, part_of}
+use Rattle.apart_law.specs.Part.{Part, thread_seen, requests_of, part_of}
 use Rattle.apart_law.specs.Tied.{RestsFresh, IsTied}
 use Rattle.promises.specs.Trail.{Client}
 
@@ -16,20 +16,20 @@ some_same x y e = ap (λ o. unwrap_or o x) e
 pub some_none : {X : Type 0} (x : X) → Some x ≡ None → ⊥
 some_none x e = false≢true (ap (λ o. is_none o) e)
 
-pub sees : (mine : Client) (t : Thread) → mine t.job ≡ true → seen mine (Some t) ≡ Some t
+pub sees : (mine : Client) (t : Thread) → mine t.job ≡ true → thread_seen mine (Some t) ≡ Some t
 sees mine t own = ap (λ b. if b then Some t else None) own
 
-pub sees_none : (mine : Client) (t : Thread) → mine t.job ≡ false → seen mine (Some t) ≡ None
+pub sees_none : (mine : Client) (t : Thread) → mine t.job ≡ false → thread_seen mine (Some t) ≡ None
 sees_none mine t others = ap (λ b. if b then Some t else None) others
 
 -- what changes a thread but not its job
 seen_by : (f : Thread → Thread) (t : Thread) (own : Bool) → (if own then Some (f t) else None) ≡ option_map f (if own then Some t else None)
 seen_by f t own = search (rules, arith)
 
-seen_map : (mine : Client) (f : Thread → Thread) → ((t : Thread) → (f t).job ≡ t.job) → (slot : Option Thread) → seen mine (option_map f slot) ≡ option_map f (seen mine slot)
+seen_map : (mine : Client) (f : Thread → Thread) → ((t : Thread) → (f t).job ≡ t.job) → (slot : Option Thread) → thread_seen mine (option_map f slot) ≡ option_map f (thread_seen mine slot)
 seen_map mine f same slot = search (rules, arith, seen_by)
 
-seen_woken : (mine : Client) (over : Bool) (slot : Option Thread) → seen mine (woken_slot over slot) ≡ woken_slot over (seen mine slot)
+seen_woken : (mine : Client) (over : Bool) (slot : Option Thread) → thread_seen mine (woken_slot over slot) ≡ woken_slot over (thread_seen mine slot)
 seen_woken mine over slot = search (rules, arith, seen_map)
 
 -- a thread that is fresh is the same after it is woken
@@ -68,17 +68,17 @@ part_settled second job own over asked p = record {
 }
 
 pub settled_part : (mine : Client) (q : Qpu) (job : ℕ) (own : Option Thread) (over : Bool) (asked : Option Asked) → mine job ≡ true
-    → part_of mine (settled q job own over asked) ≡ part_settled q.second job (seen mine own) over asked (part_of mine q)
-unfolding settled
+    → part_of mine (after_turn q job own over asked) ≡ part_settled q.second job (thread_seen mine own) over asked (part_of mine q)
+unfolding after_turn
 settled_part mine q job own over asked is = search (rules, arith, chosen_of, seen_woken, asked_own)
 
-other_settled_by : (mine : Client) (q : Qpu) (second : Bool) (job : ℕ) (own : Option Thread) (over : Bool) (asked : Option Asked) → mine job ≡ false → seen mine own ≡ None → RestsFresh (record q { second = second })
-    → seen mine (active_of (record q { second = second })) ≡ None → part_of mine (settled (record q { second = second }) job own over asked) ≡ part_of mine q
-unfolding settled
+other_settled_by : (mine : Client) (q : Qpu) (second : Bool) (job : ℕ) (own : Option Thread) (over : Bool) (asked : Option Asked) → mine job ≡ false → thread_seen mine own ≡ None → RestsFresh (record q { second = second })
+    → thread_seen mine (active_of (record q { second = second })) ≡ None → part_of mine (after_turn (record q { second = second }) job own over asked) ≡ part_of mine q
+unfolding after_turn
 other_settled_by mine q second job own over asked others none fresh active = search (rules, arith, woken_same, asked_other)
 
-pub other_settled : (mine : Client) (q : Qpu) (job : ℕ) (own : Option Thread) (over : Bool) (asked : Option Asked) → mine job ≡ false → seen mine own ≡ None → RestsFresh q → seen mine (active_of q) ≡ None
-    → part_of mine (settled q job own over asked) ≡ part_of mine q
+pub other_settled : (mine : Client) (q : Qpu) (job : ℕ) (own : Option Thread) (over : Bool) (asked : Option Asked) → mine job ≡ false → thread_seen mine own ≡ None → RestsFresh q → thread_seen mine (active_of q) ≡ None
+    → part_of mine (after_turn q job own over asked) ≡ part_of mine q
 other_settled mine q job own over asked others none fresh active = other_settled_by mine q q.second job own over asked others none fresh active
 
 -- the oldest request goes
@@ -101,16 +101,16 @@ own_dropped_by : (mine : Client) (zero : Bool) (a b : List Request) (r : Request
     × (requests_of mine (if zero then b else drop 1 b) ≡ (if zero then requests_of mine b else drop 1 (requests_of mine b)))
 own_dropped_by mine zero a b r is own = search (rules, arith, own_drops)
 
-pub dropped_part : (mine : Client) (q : Qpu) (tmu : ℕ) (r : Request) → oldest (queue_of q tmu) ≡ Some r → mine r.job ≡ true → part_of mine (dropped q tmu) ≡ part_dropped tmu (part_of mine q)
-unfolding dropped
+pub dropped_part : (mine : Client) (q : Qpu) (tmu : ℕ) (r : Request) → oldest (queue_of q tmu) ≡ Some r → mine r.job ≡ true → part_of mine (after_drop q tmu) ≡ part_dropped tmu (part_of mine q)
+unfolding after_drop
 dropped_part mine q tmu r is own = search (rules, arith, own_dropped_by)
 
 other_dropped_by : (mine : Client) (zero : Bool) (a b : List Request) (r : Request) → oldest (if zero then a else b) ≡ Some r → mine r.job ≡ false
     → (requests_of mine (if zero then drop 1 a else a) ≡ requests_of mine a) × (requests_of mine (if zero then b else drop 1 b) ≡ requests_of mine b)
 other_dropped_by mine zero a b r is others = search (rules, arith, other_drops)
 
-pub other_dropped : (mine : Client) (q : Qpu) (tmu : ℕ) (r : Request) → oldest (queue_of q tmu) ≡ Some r → mine r.job ≡ false → part_of mine (dropped q tmu) ≡ part_of mine q
-unfolding dropped
+pub other_dropped : (mine : Client) (q : Qpu) (tmu : ℕ) (r : Request) → oldest (queue_of q tmu) ≡ Some r → mine r.job ≡ false → part_of mine (after_drop q tmu) ≡ part_of mine q
+unfolding after_drop
 other_dropped mine q tmu r is others = search (rules, arith, other_dropped_by)
 
 -- a thread gets a result
@@ -122,11 +122,11 @@ part_given tmu second row p = record {
   queue1 = p.queue1;
 }
 
-seen_given : (mine : Client) (tmu : ℕ) (row : Option (List ℕ)) (slot : Option Thread) → seen mine (option_map (with_result tmu row) slot) ≡ option_map (with_result tmu row) (seen mine slot)
+seen_given : (mine : Client) (tmu : ℕ) (row : Option (List ℕ)) (slot : Option Thread) → thread_seen mine (option_map (with_result tmu row) slot) ≡ option_map (with_result tmu row) (thread_seen mine slot)
 seen_given mine tmu row slot = seen_map mine (with_result tmu row) (λ t. refl) slot
 
-given_by : (mine : Client) (q : Qpu) (tmu : ℕ) (second : Bool) (row : Option (List ℕ)) → part_of mine (given q tmu second row) ≡ part_given tmu second row (part_of mine q)
-unfolding given
+given_by : (mine : Client) (q : Qpu) (tmu : ℕ) (second : Bool) (row : Option (List ℕ)) → part_of mine (result_given q tmu second row) ≡ part_given tmu second row (part_of mine q)
+unfolding result_given
 given_by mine q tmu second row = search (rules, arith, seen_given)
 
 none_given : (tmu : ℕ) (second : Bool) (row : Option (List ℕ)) (p : Part) → (if second then p.other else p.first) ≡ None → part_given tmu second row p ≡ p
@@ -136,24 +136,24 @@ none_given tmu second row p none = search (rules, arith)
 abbrev pub part_served : ℕ → Request → Option (List ℕ) → Part → Part
 part_served tmu request row p = part_given tmu request.second row (part_dropped tmu p)
 
-pub served_part : (mine : Client) (q : Qpu) (tmu : ℕ) (r : Request) (row : Option (List ℕ)) → oldest (queue_of q tmu) ≡ Some r → mine r.job ≡ true → part_of mine (served q tmu r row) ≡ part_served tmu r row (part_of mine q)
-served_part mine q tmu r row is own = given_by mine (dropped q tmu) tmu r.second row ∙ ap (part_given tmu r.second row) (dropped_part mine q tmu r is own)
+pub served_part : (mine : Client) (q : Qpu) (tmu : ℕ) (r : Request) (row : Option (List ℕ)) → oldest (queue_of q tmu) ≡ Some r → mine r.job ≡ true → part_of mine (after_service q tmu r row) ≡ part_served tmu r row (part_of mine q)
+served_part mine q tmu r row is own = given_by mine (after_drop q tmu) tmu r.second row ∙ ap (part_given tmu r.second row) (dropped_part mine q tmu r is own)
 
 -- a request of another client's job is tied to a thread of that job, or to none
-tied_none : (mine : Client) (slot : Option Thread) (job : ℕ) → IfSome slot (λ t. t.job ≡ job) → mine job ≡ false → seen mine slot ≡ None
+tied_none : (mine : Client) (slot : Option Thread) (job : ℕ) → IfSome slot (λ t. t.job ≡ job) → mine job ≡ false → thread_seen mine slot ≡ None
 tied_none mine slot job tied others = search (rules, arith, sees_none)
 
-pub other_served : (mine : Client) (q : Qpu) (tmu : ℕ) (r : Request) (row : Option (List ℕ)) → oldest (queue_of q tmu) ≡ Some r → mine r.job ≡ false → IsTied q r → part_of mine (served q tmu r row) ≡ part_of mine q
+pub other_served : (mine : Client) (q : Qpu) (tmu : ℕ) (r : Request) (row : Option (List ℕ)) → oldest (queue_of q tmu) ≡ Some r → mine r.job ≡ false → IsTied q r → part_of mine (after_service q tmu r row) ≡ part_of mine q
 other_served mine q tmu r row is others tied = search (rules, arith, chosen_of, tied_none, given_by, other_dropped, none_given)
 
 -- a program starts
 abbrev pub part_in : Bool → Option Thread → Part → Part
 part_in second slot p = record { first = if second then p.first else slot; other = if second then slot else p.other; queue0 = p.queue0; queue1 = p.queue1 }
 
-pub in_first_part : (mine : Client) (q : Qpu) (t : Thread) → part_of mine (in_first q t) ≡ part_in false (seen mine (Some t)) (part_of mine q)
+pub in_first_part : (mine : Client) (q : Qpu) (t : Thread) → part_of mine (in_first q t) ≡ part_in false (thread_seen mine (Some t)) (part_of mine q)
 unfolding in_first
 in_first_part mine q t = refl
 
-pub in_other_part : (mine : Client) (q : Qpu) (t : Thread) → part_of mine (in_other q t) ≡ part_in true (seen mine (Some t)) (part_of mine q)
+pub in_other_part : (mine : Client) (q : Qpu) (t : Thread) → part_of mine (in_other q t) ≡ part_in true (thread_seen mine (Some t)) (part_of mine q)
 unfolding in_other
 in_other_part mine q t = refl

@@ -7,7 +7,7 @@ use Rattle.qpu_machine.specs.Qpu.{takes_first, takes_other, in_first, in_other, 
 use Rattle.qpu_machine.specs.{declared.state.Qpu.Qpu, declared.state.Thread.Thread, Start.thread_of}
 use Rattle.qpu_machine.proofs.Starts.{finds, found_in}
 use Rattle.machine.specs.Step.{with_launch}
-use Rattle.apart_law.specs.Part.{Part, seen, part_of}
+use Rattle.apart_law.specs.Part.{Part, thread_seen, part_of}
 use Rattle.promises.specs.Trail.{Client, slot_for}
 use Rattle.apart_law.proofs.Parts.{part_in, in_first_part, in_other_part, sees_none}
 
@@ -16,11 +16,11 @@ abbrev placed : Client → Option Slot → Option Thread → List Part → List 
 placed mine None slot parts = parts
 placed mine (Some place) slot parts = slice_set parts place.qpu (part_in place.second slot (slice_index_or parts place.qpu (part_of mine idle_qpu)))
 
-in_slot_part : (mine : Client) (second : Bool) (q : Qpu) (t : Thread) → part_of mine (in_slot second q t) ≡ part_in second (seen mine (Some t)) (part_of mine q)
+in_slot_part : (mine : Client) (second : Bool) (q : Qpu) (t : Thread) → part_of mine (in_slot second q t) ≡ part_in second (thread_seen mine (Some t)) (part_of mine q)
 in_slot_part mine second q t = search (rules, arith, in_other_part, in_first_part)
 
 started_placed : (mine : Client) (threaded : Bool) (t : Thread) (qpus : List Qpu) (place : Option Slot) → slot_from threaded 0 qpus ≡ place
-    → map (part_of mine) (started_in threaded t qpus) ≡ placed mine place (seen mine (Some t)) (map (part_of mine) qpus)
+    → map (part_of mine) (started_in threaded t qpus) ≡ placed mine place (thread_seen mine (Some t)) (map (part_of mine) qpus)
 started_placed mine threaded t qpus None is = search (rules, arith, finds)
 started_placed mine threaded t qpus (Some place) is =
     let found = found_in threaded qpus place is in
@@ -28,7 +28,7 @@ started_placed mine threaded t qpus (Some place) is =
     ap (map (part_of mine)) (found.starts t)
     ∙ (map-set (part_of mine) qpus place.qpu (in_slot place.second q t)
     ∙ ap (λ p. slice_set (map (part_of mine) qpus) place.qpu p)
-    (in_slot_part mine place.second q t ∙ ap (part_in place.second (seen mine (Some t))) (sym (get_or-map (part_of mine) qpus place.qpu idle_qpu))))
+    (in_slot_part mine place.second q t ∙ ap (part_in place.second (thread_seen mine (Some t))) (sym (get_or-map (part_of mine) qpus place.qpu idle_qpu))))
 
 -- in two machines whose parts are alike the same starts in the same slot
 pub launches_alike : (mine : Client) (j : ℕ) (launch : Option Launch) (us vs : List Qpu) → map (part_of mine) us ≡ map (part_of mine) vs → slot_for launch us ≡ slot_for launch vs
@@ -36,7 +36,7 @@ pub launches_alike : (mine : Client) (j : ℕ) (launch : Option Launch) (us vs :
 launches_alike mine j launch us vs alike same = search (rules, arith, started_placed)
 
 -- a slot that takes a program is idle
-idle_none : (mine : Client) (slot : Option Thread) → is_none slot ≡ true → seen mine slot ≡ None
+idle_none : (mine : Client) (slot : Option Thread) → is_none slot ≡ true → thread_seen mine slot ≡ None
 idle_none mine slot idle = search (rules, arith, false≢true)
 
 first_idle : (threaded : Bool) (q : Qpu) → takes_first threaded q ≡ true → is_none q.first ≡ true

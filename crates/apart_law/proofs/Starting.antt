@@ -3,8 +3,8 @@ use Rattle.std.proofs.Common.{◌≡◌, ℕ, Bool, true, false, if◌then◌els
 use Rattle.std.proofs.lemmas.Bool.{false≢true}
 use Rattle.std.specs.Prelude.{is_some, option_map}
 use Rattle.machine_plan.specs.{declared.launch.Free.Free, declared.launch.Launch.Launch, declared.launch.Slot.Slot, declared.who.Who.Who}
-use Rattle.machine_plan.specs.{World.mapped}
-use Rattle.machine_plan.specs.Plan.{Plan, Done, carried}
+use Rattle.machine_plan.specs.{World.plan_mapped}
+use Rattle.machine_plan.specs.Plan.{Plan, Done, outcome_of}
 use Rattle.machine_plan.proofs.Worlds.{handed, carried_mapped}
 use Rattle.list_machine.specs.declared.state.Program.TheVariants.{Coordinate}
 use Rattle.list_machine.specs.Renderer.{renderer_plan, plan_in, found_plan, choice_plan, program_plan}
@@ -33,7 +33,7 @@ own_launch launch = launch
 -- the plan does the same whichever threads are free, where what it comes to starts in the same slot
 abbrev SameStart : {R : Type 0} → (R → Option Launch) → Who → List ℕ → (us vs : List Qpu) → (one other : Plan R) → Type 0
 SameStart launch who m us vs one other =
-    starts launch (carried who one m).result us ≡ starts launch (carried who other m).result vs → carried who one m ≡ carried who other m
+    starts launch (outcome_of who one m).result us ≡ starts launch (outcome_of who other m).result vs → outcome_of who one m ≡ outcome_of who other m
 
 abbrev start_by : Bool → Program → Bool → ℕ → Plan (Option Launch)
 start_by can program threaded word = if can then launch_plan program threaded word else Done None
@@ -51,7 +51,7 @@ start_alike : (program : Program) (word : ℕ) (who : Who) (m : List ℕ) (us vs
 unfolding start_plan
 start_alike program word who m us vs = search (rules, arith, start_as_alike)
 
--- the same where the program that is started is handed on
+-- the launch where the program that is started is handed on
 launch_handed : (put : Option Launch → Turned) → ((launch : Option Launch) → (put launch).launch ≡ launch) → (result : Option (Option Launch)) (qpus : List Qpu)
     → starts own_launch result qpus ≡ starts (λ (turned : Turned). turned.launch) (option_map put result) qpus
 launch_handed put same result qpus = search (rules, arith)
@@ -60,12 +60,12 @@ abbrev launch_of_turned : Turned → Option Launch
 launch_of_turned turned = turned.launch
 
 handed_alike : (put : Option Launch → Turned) → ((launch : Option Launch) → (put launch).launch ≡ launch) → (who : Who) (m : List ℕ) (us vs : List Qpu) (one other : Plan (Option Launch))
-    → SameStart own_launch who m us vs one other → SameStart launch_of_turned who m us vs (mapped put one) (mapped put other)
+    → SameStart own_launch who m us vs one other → SameStart launch_of_turned who m us vs (plan_mapped put one) (plan_mapped put other)
 handed_alike put same who m us vs one other alike starts_same = search (rules, arith, carried_mapped, launch_handed, handed)
 
 -- the binner's step
 binner_due : (s : Lists) (w : Work) (due : Bool) (rest : Plan Turned) (who : Who) (m : List ℕ) (us vs : List Qpu)
-    → SameStart launch_of_turned who m us vs (if due then mapped (started_with s w) (start_plan Coordinate (free_in us) w.word) else rest) (if due then mapped (started_with s w) (start_plan Coordinate (free_in vs) w.word) else rest)
+    → SameStart launch_of_turned who m us vs (if due then plan_mapped (started_with s w) (start_plan Coordinate (free_in us) w.word) else rest) (if due then plan_mapped (started_with s w) (start_plan Coordinate (free_in vs) w.word) else rest)
 binner_due s w true rest who m us vs = search (rules, arith, handed_alike, start_alike)
 binner_due s w false rest who m us vs = λ same. refl
 
@@ -79,8 +79,8 @@ slot_is result qpus = search (rules, arith)
 
 abbrev pub DoesSame : Who → List ℕ → (us vs : List Qpu) → (Free → Plan Turned) → Type 0
 DoesSame who m us vs plan =
-    slot_for (launch_in (carried who (plan (free_in us)) m).result) us ≡ slot_for (launch_in (carried who (plan (free_in vs)) m).result) vs
-    → carried who (plan (free_in us)) m ≡ carried who (plan (free_in vs)) m
+    slot_for (launch_in (outcome_of who (plan (free_in us)) m).result) us ≡ slot_for (launch_in (outcome_of who (plan (free_in vs)) m).result) vs
+    → outcome_of who (plan (free_in us)) m ≡ outcome_of who (plan (free_in vs)) m
 
 same_does : (who : Who) (m : List ℕ) (us vs : List Qpu) (plan : Free → Plan Turned) → SameStart launch_of_turned who m us vs (plan (free_in us)) (plan (free_in vs)) → DoesSame who m us vs plan
 same_does who m us vs plan alike same = search (rules, arith, slot_is)
@@ -91,7 +91,7 @@ binner_does_same s words who m us vs = same_does who m us vs (λ free. binner_pl
 
 -- the renderer's step
 program_alike : (s : Lists) (program : Program) (word : ℕ) (who : Who) (m : List ℕ) (us vs : List Qpu)
-    → SameStart launch_of_turned who m us vs (mapped (turned_to s) (start_plan program (free_in us) word)) (mapped (turned_to s) (start_plan program (free_in vs) word))
+    → SameStart launch_of_turned who m us vs (plan_mapped (turned_to s) (start_plan program (free_in us) word)) (plan_mapped (turned_to s) (start_plan program (free_in vs) word))
 program_alike s program word who m us vs = search (rules, arith, handed_alike, start_alike)
 
 abbrev four_ways : (vertex first second : Bool) → (a b c d : Plan Turned) → Plan Turned

@@ -4,7 +4,7 @@ use Rattle.std.proofs.{lemmas.Bool.and_parts, lemmas.Bool.false≢true, lemmas.L
 use Rattle.std.specs.Prelude.{IfSome, option_map}
 use Rattle.machine_plan.specs.{declared.launch.Launch.Launch, Regions.Every}
 use Rattle.machine_plan.proofs.Runs.{every-append, every-weaker}
-use Rattle.qpu_machine.specs.Qpu.{active_of, is_of, queued, has_none, woken_slot, queue_with, settled, with_result, dropped, given, served, slot_of, takes_first, takes_other, in_first, in_other, started_in, idle_qpu}
+use Rattle.qpu_machine.specs.Qpu.{active_of, is_of, queue_count, has_none, woken_slot, queue_with, after_turn, with_result, after_drop, result_given, after_service, slot_of, takes_first, takes_other, in_first, in_other, started_in, idle_qpu}
 use Rattle.qpu_machine.specs.{declared.state.Asked.Asked, declared.state.Qpu.Qpu, declared.state.Request.Request}
 use Rattle.qpu_machine.specs.declared.state.Thread.{Thread}
 use Rattle.machine.specs.Step.{with_launch}
@@ -39,29 +39,29 @@ queue_tied p tmu second job asked requests own all = search (rules, arith, chose
 own_stays : (job : ℕ) (slot own : Option Thread) (t : Thread) → slot ≡ Some t → t.job ≡ job → IsOf job own → JobStays slot own
 own_stays job slot own t is same of j tied = search (rules, arith, some_none, some_same)
 
-settled_by : (q : Qpu) (second : Bool) (own : Option Thread) (over : Bool) (asked : Option Asked) (t : Thread) → active_of (record q { second = second }) ≡ Some t → IsOf t.job own → QpuTied q → QpuTied (settled (record q { second = second }) t.job own over asked)
-unfolding settled
+settled_by : (q : Qpu) (second : Bool) (own : Option Thread) (over : Bool) (asked : Option Asked) (t : Thread) → active_of (record q { second = second }) ≡ Some t → IsOf t.job own → QpuTied q → QpuTied (after_turn (record q { second = second }) t.job own over asked)
+unfolding after_turn
 settled_by q true own over asked t is of tied = search (rules, arith, stays_woken, own_stays, queue_tied, tied_stays)
 settled_by q false own over asked t is of tied = search (rules, arith, own_stays, stays_woken, queue_tied, tied_stays)
 
-pub settled_tied : (q : Qpu) (own : Option Thread) (over : Bool) (asked : Option Asked) (t : Thread) → active_of q ≡ Some t → IsOf t.job own → QpuTied q → QpuTied (settled q t.job own over asked)
+pub settled_tied : (q : Qpu) (own : Option Thread) (over : Bool) (asked : Option Asked) (t : Thread) → active_of q ≡ Some t → IsOf t.job own → QpuTied q → QpuTied (after_turn q t.job own over asked)
 settled_tied q own over asked t is of tied = settled_by q q.second own over asked t is of tied
 
 -- a step of a TMU
-pub dropped_tied : (q : Qpu) (tmu : ℕ) → QpuTied q → QpuTied (dropped q tmu)
-unfolding dropped
+pub dropped_tied : (q : Qpu) (tmu : ℕ) → QpuTied q → QpuTied (after_drop q tmu)
+unfolding after_drop
 dropped_tied q tmu tied = search (rules, arith, chosen, drop_every)
 
 given_stays : (second : Bool) (tmu : ℕ) (row : Option (List ℕ)) (first other : Option Thread)
     → (JobStays first (if second then first else option_map (with_result tmu row) first)) × (JobStays other (if second then option_map (with_result tmu row) other else other))
 given_stays second tmu row first other = search (rules, arith, stays_mapped)
 
-given_tied : (q : Qpu) (tmu : ℕ) (second : Bool) (row : Option (List ℕ)) → QpuTied q → QpuTied (given q tmu second row)
-unfolding given
+given_tied : (q : Qpu) (tmu : ℕ) (second : Bool) (row : Option (List ℕ)) → QpuTied q → QpuTied (result_given q tmu second row)
+unfolding result_given
 given_tied q tmu second row tied = search (rules, arith, given_stays, tied_stays)
 
-pub served_tied : (q : Qpu) (tmu : ℕ) (r : Request) (row : Option (List ℕ)) → QpuTied q → QpuTied (served q tmu r row)
-served_tied q tmu r row tied = given_tied (dropped q tmu) tmu r.second row (dropped_tied q tmu tied)
+pub served_tied : (q : Qpu) (tmu : ℕ) (r : Request) (row : Option (List ℕ)) → QpuTied q → QpuTied (after_service q tmu r row)
+served_tied q tmu r row tied = given_tied (after_drop q tmu) tmu r.second row (dropped_tied q tmu tied)
 
 -- A program starts in a slot that no request names.
 abbrev IsOther : Bool → Request → Type 0
@@ -70,10 +70,10 @@ IsOther second r = is_of second r ≡ false
 none_by : (second : Bool) (r : Request) (rest : ℕ) (here : Bool) → is_of second r ≡ here → (if here then 1 else 0) + rest ≡ 0 → (IsOther second r) × (rest ≡ 0)
 none_by second r rest here is none = search (rules, arith)
 
-none_of : (second : Bool) (requests : List Request) → queued second requests ≡ 0 → Every (IsOther second) requests
+none_of : (second : Bool) (requests : List Request) → queue_count second requests ≡ 0 → Every (IsOther second) requests
 none_of second [] none = tt
 none_of second (r ∷ requests) none =
-    let both = none_by second r (queued second requests) (is_of second r) refl (sym (sum_by-cons (λ (x : Request). if is_of second x then 1 else 0) r requests) ∙ none) in
+    let both = none_by second r (queue_count second requests) (is_of second r) refl (sym (sum_by-cons (λ (x : Request). if is_of second x then 1 else 0) r requests) ∙ none) in
     (both.0, none_of second requests both.1)
 
 none_queued : (second : Bool) (q : Qpu) → has_none second q ≡ true → (Every (IsOther second) q.queue0.items) × (Every (IsOther second) q.queue1.items)

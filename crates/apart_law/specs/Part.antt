@@ -13,17 +13,17 @@ pub record Part : Type 0 where
   pub queue0 : List Request
   pub queue1 : List Request
 
-abbrev pub seen : Client → Option Thread → Option Thread
-seen mine None = None
-seen mine (Some t) = if mine t.job then Some t else None
+abbrev pub thread_seen : Client → Option Thread → Option Thread
+thread_seen mine None = None
+thread_seen mine (Some t) = if mine t.job then Some t else None
 
 abbrev pub requests_of : Client → List Request → List Request
 requests_of mine requests = filter (λ r. mine r.job) requests
 
 abbrev pub part_of : Client → Qpu → Part
 part_of mine q = record {
-  first = seen mine q.first;
-  other = seen mine q.other;
+  first = thread_seen mine q.first;
+  other = thread_seen mine q.other;
   queue0 = requests_of mine q.queue0.items;
   queue1 = requests_of mine q.queue1.items;
 }

@@ -34,17 +34,17 @@ without_starts entry = record entry { starts = None }
 
 -- The client's binner has a primitive whose vertices are done, for two tiles, in an allocation from place 256 on. The word chooses the
 -- tile that gets an item.
-abbrev pub allocated : List Interval
-allocated = record { place = 256; size = 512 } ∷ []
+abbrev pub allocation : List Interval
+allocation = record { place = 256; size = 512 } ∷ []
 
-abbrev pub tiled : State
-tiled = one_job [] (tiling 512 0 [])
+abbrev pub tiling_state : State
+tiling_state = one_job [] (tiling 512 0 [])
 
 abbrev pub puts_on : ℕ → Event
 puts_on tile = record { unit = TheBinner; words = tile ∷ [] }
 
 abbrev pub WordsAreNeeded : Type 0
-WordsAreNeeded = Refutes without_words client allocated tiled tiled (puts_on 0) (puts_on 1)
+WordsAreNeeded = Refutes without_words client allocation tiling_state tiling_state (puts_on 0) (puts_on 1)
 
 -- Both threads of processor 0 are the client's, at two places of code that does nothing. The one that is active reads its instruction.
 abbrev pub code_bytes : List Interval

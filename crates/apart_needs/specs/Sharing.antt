@@ -2,7 +2,7 @@
 -- own jobs takes a step. Job 0 is the client's, and has nothing to do. Job 1 is another one's, and draws into the client's bytes.
 use Rattle.std.specs.Prelude.{◌≡◌, ℕ, ◌==◌, List, [], ◌∷◌}
 use Rattle.field_words.specs.declared.access.Access.{Access}
-use Rattle.machine_plan.specs.{Regions.Interval, Regions.Rights, Runs.reached}
+use Rattle.machine_plan.specs.{Regions.Interval, Regions.Rights, Runs.state_reached}
 use Rattle.machine.specs.{declared.job.Start.Start, State.State, State.start_of, Step.Event, Step.IsRun, Step.step}
 use Rattle.promises.specs.{Trail.Client, Trail.trail_of, Apart.Beginning, Apart.EndAlike, Apart.regions_of}
 use Rattle.machine_law.specs.Apart.{BeginsSoundly}
@@ -37,8 +37,8 @@ two_jobs =
     record { bin_place = 0; bin_len = 0; render_place = 0; render_len = 0 }
     ∷ record { bin_place = 16; bin_len = 0; render_place = 16; render_len = 12 } ∷ []
 
-abbrev pub shared : Beginning
-shared = record { rights = shared_rights; plains = λ j. []; memory = shared_memory; starts = two_jobs }
+abbrev pub shared_beginning : Beginning
+shared_beginning = record { rights = shared_rights; plains = λ j. []; memory = shared_memory; starts = two_jobs }
 
 abbrev pub sharing : State
 sharing = start_of shared_memory two_jobs
@@ -56,8 +56,8 @@ stored_accesses = of_job_1 (reads TheRenderer 16 11) ∷ of_job_1 (reads TheRend
 -- The beginning is sound, and so it is its own neighbour in all but that nothing is shared. From there a run of no step and the run that
 -- draws have the same trail of the client. Yet they don't end alike to it.
 pub record SharingIsSeen : Type 0 where
-  pub begins : BeginsSoundly shared
+  pub begins : BeginsSoundly shared_beginning
   pub rests : IsRun sharing [] [] sharing
-  pub draws : IsRun sharing stores stored_accesses (reached step sharing stores)
+  pub draws : IsRun sharing stores stored_accesses (state_reached step sharing stores)
   pub trails : trail_of client sharing [] ≡ trail_of client sharing stores
-  pub differ : EndAlike client (regions_of client 0 shared_rights) [] stored_accesses sharing (reached step sharing stores) → ⊥
+  pub differ : EndAlike client (regions_of client 0 shared_rights) [] stored_accesses sharing (state_reached step sharing stores) → ⊥

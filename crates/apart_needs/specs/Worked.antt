@@ -5,7 +5,7 @@ use Rattle.field_words.specs.declared.access.Actor.{Actor}
 use Rattle.field_words.specs.declared.access.Actor.TheVariants.{Binner as TheBinner, Renderer as TheRenderer, Qpu as TheQpu, Tmu as TheTmu}
 use Rattle.list_machine.specs.Lists.{Lists}
 use Rattle.list_machine.specs.declared.state.Item.{Item}
-use Rattle.machine.specs.{State.State, Step.enabled, Step.step}
+use Rattle.machine.specs.{State.State, Step.is_enabled, Step.step}
 use Rattle.qpu_machine.specs.declared.state.Ask.TheVariants.{Direct}
 use Rattle.qpu_machine.specs.declared.state.Request.{Request}
 use Rattle.qpu_machine.specs.declared.state.Qpu.{Qpu}
@@ -15,7 +15,7 @@ use Rattle.apart_needs.specs.States.{reads, writes, state, one_job, no_lists, ne
 -- In this state the unit may step. With these choice words its step does these accesses, in order, and the machine is then in the
 -- next state.
 pub record Steps (s : State) (unit : Actor) (words : List ℕ) (found : List Access) (next : State) : Type 0 where
-  pub may : enabled s unit ≡ true
+  pub may : is_enabled s unit ≡ true
   pub accesses : (step s (record { unit = unit; words = words })).accesses ≡ found
   pub last : (step s (record { unit = unit; words = words })).state ≡ next
 
@@ -46,14 +46,14 @@ RendererStores = Steps
 abbrev pub moves_uniform : ℕ
 moves_uniform = 2 ^ 60 + 2 ^ 49 + 32 * 2 ^ 38 + 39 * 2 ^ 32 + 21 * 2 ^ 24 + 32 * 2 ^ 18 + 39 * 2 ^ 12 + 6 * 2 ^ 9 + 6 * 2 ^ 6
 
-abbrev pub worked : Thread
-worked = record (new_thread false 0 8) { fresh = false }
+abbrev pub worked_thread : Thread
+worked_thread = record (new_thread false 0 8) { fresh = false }
 
 abbrev pub QpuReadsUniform : Type 0
 QpuReadsUniform = Steps
-    (state (bytes moves_uniform ++ (5 ∷ 1 ∷ 0 ∷ 0 ∷ [])) [] (running worked)) (TheQpu 0) []
+    (state (bytes moves_uniform ++ (5 ∷ 1 ∷ 0 ∷ 0 ∷ [])) [] (running worked_thread)) (TheQpu 0) []
     (reads (TheQpu 0) 0 8 ∷ reads (TheQpu 0) 8 4 ∷ [])
-    (state (bytes moves_uniform ++ (5 ∷ 1 ∷ 0 ∷ 0 ∷ [])) [] (running (record worked {
+    (state (bytes moves_uniform ++ (5 ∷ 1 ∷ 0 ∷ 0 ∷ [])) [] (running (record worked_thread {
       place = 8;
       uniforms = 12;
       acc = replicate 16 261 ∷ replicate 5 (replicate 16 0);
@@ -70,9 +70,9 @@ asking = record { second = false; job = 0; ask = Direct (7 ∷ 0 ∷ replicate 1
 
 abbrev pub TmuServes : Type 0
 TmuServes = Steps
-    (state two_words [] (record (running worked) { queue0 = record { items = asking ∷ [] } })) (TheTmu 0 0) []
+    (state two_words [] (record (running worked_thread) { queue0 = record { items = asking ∷ [] } })) (TheTmu 0 0) []
     (reads (TheTmu 0 0) 4 4 ∷ reads (TheTmu 0 0) 0 4 ∷ replicate 14 (reads (TheTmu 0 0) 1000 4))
-    (state two_words [] (running (record worked { results0 = record { items = Some (258 ∷ 1 ∷ replicate 14 0) ∷ [] } })))
+    (state two_words [] (running (record worked_thread { results0 = record { items = Some (258 ∷ 1 ∷ replicate 14 0) ∷ [] } })))
 
 -- a step of each unit
 pub record WorkedSteps : Type 0 where

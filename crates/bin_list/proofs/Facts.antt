@@ -1,27 +1,27 @@
--- What follows where no rule of a list stands.
+-- What follows where no rule of a list is broken.
 use Rattle.std.proofs.Common.{◌≡◌, ℕ, ◌+◌, ◌*◌, ◌<◌, ◌≤◌, Bool, true, false, List, [], ◌∷◌, Option, Some, None, length, refl, sym, ap, arith, ◌∙◌}
 use Rattle.std.proofs.{lemmas.List.Elements.All-cons, lemmas.Bool.eqb-true}
 use Rattle.std.specs.Prelude.{if◌then◌else◌, ◌==◌, All, slice_index}
-use Rattle.field_words.specs.{Words.u32_at, Questions.first_of, Questions.answered}
-use Rattle.field_words.proofs.{Questions.none_stands, Nones.front_none, Nones.rest_none, Nones.none_answered}
+use Rattle.field_words.specs.{Words.u32_at, Questions.first_of, Questions.with_answers}
+use Rattle.field_words.proofs.{Questions.none_broken, Nones.front_none, Nones.rest_none, Nones.none_answered}
 use Rattle.packets.specs.Opcode.{start_tile_binning, gl_shader_state, tile_binning_mode}
 use Rattle.tile_memory.specs.Slots.{slot_fits}
-use Rattle.bin_list.specs.Rules.{GivenModel, cut_questions, kind_questions, start_questions, state_questions, config_questions, packet_questions, asked}
+use Rattle.bin_list.specs.Rules.{GivenModel, cut_questions, kind_questions, start_questions, state_questions, config_questions, packet_questions, questions_of_packets}
 use Rattle.bin_list.specs.{declared.seen.Seen.Seen, declared.state.State.State, Packets.opcode, Packets.onto, Faults.fault}
 use Rattle.bin_list.specs.Seen.{latest, is_there, byte_of, states_in, seen_before}
 use Rattle.bin_list.specs.States.{greatest, state, states_of}
 
--- Where no rule of the list stands, none of a front of it does.
-pub onto_none : (given : GivenModel) (earlier later : List (List ℕ)) → first_of (asked given (onto earlier later)) ≡ None → first_of (asked given earlier) ≡ None
+-- Where no rule of the list is broken, none of a front of it is.
+pub onto_none : (given : GivenModel) (earlier later : List (List ℕ)) → first_of (questions_of_packets given (onto earlier later)) ≡ None → first_of (questions_of_packets given earlier) ≡ None
 onto_none given earlier [] none = none
 onto_none given earlier (p ∷ later) none =
-    front_none (asked given earlier) _ (onto_none given (p ∷ earlier) later none)
+    front_none (questions_of_packets given earlier) _ (onto_none given (p ∷ earlier) later none)
 
 -- so at each packet
-pub packet_none : (given : GivenModel) (earlier : List (List ℕ)) (p : List ℕ) → first_of (asked given (p ∷ earlier)) ≡ None
+pub packet_none : (given : GivenModel) (earlier : List (List ℕ)) (p : List ℕ) → first_of (questions_of_packets given (p ∷ earlier)) ≡ None
     → first_of (packet_questions given (seen_before earlier) p) ≡ None
 packet_none given earlier p none =
-    none_answered (fault _) (packet_questions given (seen_before earlier) p) (rest_none (asked given earlier) (answered (fault _) (packet_questions given (seen_before earlier) p)) none)
+    none_answered (fault _) (packet_questions given (seen_before earlier) p) (rest_none (questions_of_packets given earlier) (with_answers (fault _) (packet_questions given (seen_before earlier) p)) none)
 
 pub kind_none : (given : GivenModel) (seen : Seen) (p : List ℕ) → first_of (packet_questions given seen p) ≡ None → first_of (kind_questions given seen p) ≡ None
 unfolding packet_questions
@@ -43,14 +43,14 @@ kind_config given seen p is = rw is refl
 pub start_fine : (given : GivenModel) (seen : Seen) (p : List ℕ) → first_of (packet_questions given seen p) ≡ None → opcode p ≡ start_tile_binning → seen.configured ≡ true
 unfolding start_questions
 start_fine given seen p none is =
-    let asked = none_stands (start_questions seen) (sym (ap first_of (kind_start given seen p is)) ∙ kind_none given seen p none) in
+    let asked = none_broken (start_questions seen) (sym (ap first_of (kind_start given seen p is)) ∙ kind_none given seen p none) in
     grind (arith, asked.1.0)
 
 pub state_fine : (given : GivenModel) (seen : Seen) (p : List ℕ) → first_of (packet_questions given seen p) ≡ None → opcode p ≡ gl_shader_state
     → (seen.states < given.declared) × (u32_at p 1 < 16)
 unfolding state_questions
 state_fine given seen p none is =
-    let asked = none_stands (state_questions given seen p) (sym (ap first_of (kind_state given seen p is)) ∙ kind_none given seen p none) in
+    let asked = none_broken (state_questions given seen p) (sym (ap first_of (kind_state given seen p is)) ∙ kind_none given seen p none) in
     (grind (arith, asked.0), grind (arith, asked.1.0))
 
 pub record IsGrid (across down : ℕ) : Type 0 where
@@ -62,7 +62,7 @@ pub config_fine : (given : GivenModel) (seen : Seen) (p : List ℕ) → first_of
     → IsGrid (slice_index p 13) (slice_index p 14)
 unfolding config_questions
 config_fine given seen p none is =
-    let asked = none_stands (config_questions seen p) (sym (ap first_of (kind_config given seen p is)) ∙ kind_none given seen p none) in
+    let asked = none_broken (config_questions seen p) (sym (ap first_of (kind_config given seen p is)) ∙ kind_none given seen p none) in
     record { some_across = grind (arith, asked.1.0); some_down = grind (arith, asked.1.0); room = grind (arith, asked.1.1.1.0) }
 
 -- The states: no more than declared, each with a word below 16.
@@ -70,7 +70,7 @@ count_if : (b : Bool) (n declared : ℕ) → n ≤ declared → (b ≡ true → 
 count_if true n declared few less = let l = less refl in omega arith
 count_if false n declared few less = few
 
-pub few_states : (given : GivenModel) (earlier : List (List ℕ)) → first_of (asked given earlier) ≡ None → states_in earlier ≤ given.declared
+pub few_states : (given : GivenModel) (earlier : List (List ℕ)) → first_of (questions_of_packets given earlier) ≡ None → states_in earlier ≤ given.declared
 unfolding seen_before
 few_states given [] none = omega arith
 few_states given (p ∷ earlier) none =
@@ -93,7 +93,7 @@ all_if : (P : State → Type 0) (b : Bool) (s : State) (ss : List State) → (b 
 all_if P true s ss here rest = All-cons P s ss (here refl) rest
 all_if P false s ss here rest = rest
 
-pub low_words : (given : GivenModel) (earlier later : List (List ℕ)) → first_of (asked given (onto earlier later)) ≡ None → All (λ s. s.word < 16) (states_of later)
+pub low_words : (given : GivenModel) (earlier later : List (List ℕ)) → first_of (questions_of_packets given (onto earlier later)) ≡ None → All (λ s. s.word < 16) (states_of later)
 low_words given earlier [] none = λ k d below. absurd (omega arith)
 low_words given earlier (p ∷ later) none =
     all_if (λ s. s.word < 16) (opcode p == gl_shader_state) (state (u32_at p 1) (greatest later)) (states_of later)
@@ -107,7 +107,7 @@ grid_if : (b : Bool) (p : List ℕ) (o : Option (List ℕ)) → (b ≡ true → 
 grid_if true p o here before there = here refl
 grid_if false p o here before there = before there
 
-pub has_grid : (given : GivenModel) (earlier : List (List ℕ)) → first_of (asked given earlier) ≡ None → is_there (latest tile_binning_mode earlier) ≡ true
+pub has_grid : (given : GivenModel) (earlier : List (List ℕ)) → first_of (questions_of_packets given earlier) ≡ None → is_there (latest tile_binning_mode earlier) ≡ true
     → IsGrid (byte_of 13 (latest tile_binning_mode earlier)) (byte_of 14 (latest tile_binning_mode earlier))
 has_grid given [] none there = cc
 has_grid given (p ∷ earlier) none there =
@@ -124,7 +124,7 @@ start_if : (b : Bool) (p : List ℕ) (o : Option (List ℕ)) (T : Type 0) → (b
 start_if true p o T here before there = here refl
 start_if false p o T here before there = before there
 
-pub configured : (given : GivenModel) (earlier : List (List ℕ)) → first_of (asked given earlier) ≡ None → is_there (latest start_tile_binning earlier) ≡ true
+pub configured : (given : GivenModel) (earlier : List (List ℕ)) → first_of (questions_of_packets given earlier) ≡ None → is_there (latest start_tile_binning earlier) ≡ true
     → is_there (latest tile_binning_mode earlier) ≡ true
 unfolding seen_before
 configured given [] none there = cc

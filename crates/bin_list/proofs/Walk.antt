@@ -2,15 +2,15 @@
 use Rattle.std.proofs.Common.{◌≡◌, ◌≢◌, ◌⊎◌, inl, inr, ℕ, zero, suc, ◌+◌, ◌≤◌, ◌<◌, Bool, true, false, List, [], ◌∷◌, ◌++◌, Option, Some, None, IsSome, length, take, drop, refl, sym, ap, subst, arith, ◌∙◌, length-append}
 use Rattle.std.proofs.{lemmas.List.places, lemmas.Bool.eqb-false, lemmas.Bool.eqb-true}
 use Rattle.std.specs.Prelude.{if◌then◌else◌, ◌==◌}
-use Rattle.field_words.specs.{Questions.first_of, Questions.answered, Writes.with_bytes}
+use Rattle.field_words.specs.{Questions.first_of, Questions.with_answers, Writes.with_bytes}
 use Rattle.field_words.proofs.Questions.{passes, stops, answered_none, answered_some}
 use Rattle.field_words.proofs.Writes.{length-with_bytes, with_nothing, with_two}
 use Rattle.relocation.specs.declared.layout.Layout.{Layout}
 use Rattle.packets.specs.{Opcode.halt, Opcode.gl_shader_state, Length.bin_length, Length.bin_taken}
 use Rattle.bin_list.specs.{declared.fault.ListFault.ListFault, declared.seen.Seen.Seen, declared.state.State.State, Faults.fault}
-use Rattle.bin_list.specs.Packets.{opcode, front_packet, behind, cut, packets, onto, passed}
+use Rattle.bin_list.specs.Packets.{opcode, front_packet, behind, front_packets, packets, onto, packets_passed}
 use Rattle.bin_list.specs.Seen.{is_there, byte_of, word_of, place, states_in, seen_before, seen_after}
-use Rattle.bin_list.specs.{declared.check.Read.Read, declared.rule.BinRule.BinRule, Rules.GivenModel, Rules.packet_questions, Rules.asked}
+use Rattle.bin_list.specs.{declared.check.Read.Read, declared.rule.BinRule.BinRule, Rules.GivenModel, Rules.packet_questions, Rules.questions_of_packets}
 use Rattle.bin_list.specs.{Fine.IsBounded, States.states_of, Collected.all_states, Emitted.packet_text, Emitted.texts}
 use Rattle.bin_list.specs.Info.{IsRead, MeetsState}
 
@@ -48,7 +48,7 @@ front_some bytes some = take_some (bin_taken (opcode bytes)) bytes (taken_some (
 
 -- One packet is cut.
 pub record IsCut (n : ℕ) (fuel : ℕ) (rest : List ℕ) : Type 0 where
-  pub is : cut fuel rest ≡ front_packet rest ∷ cut n (behind rest)
+  pub is : front_packets fuel rest ≡ front_packet rest ∷ front_packets n (behind rest)
   pub enough : length (behind rest) ≤ n
 
 pub cut_step : (fuel : ℕ) (rest : List ℕ) → 1 ≤ length rest → length rest ≤ fuel → (n : ℕ) × IsCut n fuel rest
@@ -58,7 +58,7 @@ cut_step (suc n) (o ∷ body) some enough =
     let whole = front_behind (o ∷ body) in
     let one = front_some (o ∷ body) some in (n, record { is = refl; enough = omega arith })
 
-pub cut_nothing : (fuel : ℕ) (rest : List ℕ) → length rest ≡ 0 → cut fuel rest ≡ []
+pub cut_nothing : (fuel : ℕ) (rest : List ℕ) → length rest ≡ 0 → front_packets fuel rest ≡ []
 cut_nothing zero rest none = refl
 cut_nothing (suc n) [] none = refl
 cut_nothing (suc n) (o ∷ body) none = absurd (omega arith)
@@ -81,27 +81,27 @@ unfolding seen_before seen_after
 seen_step p earlier = simp (there_if, byte_if, word_if)
 
 -- What stands at a packet stands in the whole list: what is asked before comes first.
-asked_onto : (given : GivenModel) (earlier later : List (List ℕ)) (f : ListFault) → first_of (asked given earlier) ≡ Some f
-    → first_of (asked given (onto earlier later)) ≡ Some f
+asked_onto : (given : GivenModel) (earlier later : List (List ℕ)) (f : ListFault) → first_of (questions_of_packets given earlier) ≡ Some f
+    → first_of (questions_of_packets given (onto earlier later)) ≡ Some f
 asked_onto given earlier [] f some = some
 asked_onto given earlier (p ∷ later) f some =
-    asked_onto given (p ∷ earlier) later f (stops (asked given earlier) (answered (fault (place earlier)) (packet_questions given (seen_before earlier) p)) f some)
+    asked_onto given (p ∷ earlier) later f (stops (questions_of_packets given earlier) (with_answers (fault (place earlier)) (packet_questions given (seen_before earlier) p)) f some)
 
 -- How far the walk has come: which packets were read, and which the bytes that are left are cut into.
 pub record IsUnderway (given : GivenModel) (layout : Layout) (list window rest : List ℕ) (seen : Seen) (end : ℕ) (out : List ℕ) (done : List State) (current : Option State) : Type 0 where
   pub earlier : List (List ℕ)
   pub fuel : ℕ
   pub enough : length rest ≤ fuel
-  pub whole : onto earlier (cut fuel rest) ≡ passed list
+  pub whole : onto earlier (front_packets fuel rest) ≡ packets_passed list
   pub seen_is : seen ≡ seen_before earlier
-  pub fine : first_of (asked given earlier) ≡ None
+  pub fine : first_of (questions_of_packets given earlier) ≡ None
   pub bounded : IsBounded seen
   pub inside : seen.at + length rest ≤ length list
   pub bytes : out ≡ with_bytes window layout.bin (texts given layout earlier)
   pub end_is : end ≡ layout.bin + length (texts given layout earlier)
   pub near : length (texts given layout earlier) ≤ seen.at
   pub room : length out ≡ length window
-  pub states : all_states done current (cut fuel rest) ≡ states_of (packets list)
+  pub states : all_states done current (front_packets fuel rest) ≡ states_of (packets list)
   pub begun : IsSome current → 1 ≤ seen.states
 
 none_some : IsSome {T = State} None → ⊥
@@ -110,7 +110,7 @@ none_some some = cc
 pub begins : {given : GivenModel} {layout : Layout} {list window : List ℕ} {seen : Seen} {end : ℕ} {done : List State} {current : Option State}
     → layout.bin + length list ≤ length window → seen ≡ seen_before [] → end ≡ layout.bin → done ≡ [] → current ≡ None
     → IsUnderway given layout list window list seen end window done current
-unfolding packets passed seen_before
+unfolding packets packets_passed seen_before
 begins {layout} {list} {window} {current} room nothing first none_done none =
     record {
       earlier = [];
@@ -125,24 +125,24 @@ begins {layout} {list} {window} {current} room nothing first none_done none =
       end_is = omega arith;
       near = omega arith;
       room = refl;
-      states = ap (λ d. all_states d current (cut (length list) list)) none_done ∙ ap (λ o. all_states [] o (cut (length list) list)) none;
+      states = ap (λ d. all_states d current (front_packets (length list) list)) none_done ∙ ap (λ o. all_states [] o (front_packets (length list) list)) none;
       begun = λ some. absurd (none_some (subst IsSome none some));
     }
 
 -- the rules of the packet at the front, by what was seen
 here_asked : (given : GivenModel) (earlier : List (List ℕ)) (seen : Seen) (p : List ℕ) (rule : BinRule) → seen ≡ seen_before earlier
-    → first_of (packet_questions given seen p) ≡ Some rule → first_of (asked given earlier) ≡ None → first_of (asked given (p ∷ earlier)) ≡ Some (fault seen.at rule)
+    → first_of (packet_questions given seen p) ≡ Some rule → first_of (questions_of_packets given earlier) ≡ None → first_of (questions_of_packets given (p ∷ earlier)) ≡ Some (fault seen.at rule)
 unfolding seen_before
 here_asked given earlier seen p rule is some fine =
     let at : seen.at ≡ place earlier = ap (λ s. s.at) is in
-    passes (asked given earlier) (answered (fault (place earlier)) (packet_questions given (seen_before earlier) p)) fine
+    passes (questions_of_packets given earlier) (with_answers (fault (place earlier)) (packet_questions given (seen_before earlier) p)) fine
     ∙ answered_some (fault (place earlier)) (packet_questions given (seen_before earlier) p) rule (subst (λ s. first_of (packet_questions given s p) ≡ Some rule) is some)
     ∙ ap (λ n. Some (fault n rule)) (sym at)
 
 here_fine : (given : GivenModel) (earlier : List (List ℕ)) (seen : Seen) (p : List ℕ) → seen ≡ seen_before earlier
-    → first_of (packet_questions given seen p) ≡ None → first_of (asked given earlier) ≡ None → first_of (asked given (p ∷ earlier)) ≡ None
+    → first_of (packet_questions given seen p) ≡ None → first_of (questions_of_packets given earlier) ≡ None → first_of (questions_of_packets given (p ∷ earlier)) ≡ None
 here_fine given earlier seen p is none fine =
-    passes (asked given earlier) (answered (fault (place earlier)) (packet_questions given (seen_before earlier) p)) fine
+    passes (questions_of_packets given earlier) (with_answers (fault (place earlier)) (packet_questions given (seen_before earlier) p)) fine
     ∙ answered_none (fault (place earlier)) (packet_questions given (seen_before earlier) p) (subst (λ s. first_of (packet_questions given s p) ≡ None) is none)
 
 -- the packet at the front fits the window
@@ -151,16 +151,16 @@ pub room_fits : {given : GivenModel} {layout : Layout} {list window rest : List 
     → (packet behind : List ℕ) → length packet + length behind ≤ length rest → end + length packet ≤ length out
 room_fits under room packet behind fits = omega (arith, under.end_is, under.near, under.inside, under.room, room)
 
--- A rule that stands at the packet at the front is the first of all.
+-- A rule that is broken at the packet at the front is the first of all.
 pub stops_at : {given : GivenModel} {layout : Layout} {list window rest : List ℕ} {seen : Seen} {end : ℕ} {out : List ℕ} {done : List State} {current : Option State}
     → IsUnderway given layout list window rest seen end out done current → 1 ≤ length rest
     → (rule : BinRule) → first_of (packet_questions given seen (front_packet rest)) ≡ Some rule
-    → first_of (asked given (passed list)) ≡ Some (fault seen.at rule)
-stops_at {given} {list = list} {rest} {seen} under some rule stands =
+    → first_of (questions_of_packets given (packets_passed list)) ≡ Some (fault seen.at rule)
+stops_at {given} {list = list} {rest} {seen} under some rule broken =
     let step = cut_step under.fuel rest some under.enough in
-    let here = here_asked given under.earlier seen (front_packet rest) rule under.seen_is stands under.fine in
-    ap (λ l. first_of (asked given l)) (sym under.whole ∙ ap (onto under.earlier) step.1.is)
-    ∙ asked_onto given (front_packet rest ∷ under.earlier) (cut step.0 (behind rest)) (fault seen.at rule) here
+    let here = here_asked given under.earlier seen (front_packet rest) rule under.seen_is broken under.fine in
+    ap (λ l. first_of (questions_of_packets given l)) (sym under.whole ∙ ap (onto under.earlier) step.1.is)
+    ∙ asked_onto given (front_packet rest ∷ under.earlier) (front_packets step.0 (behind rest)) (fault seen.at rule) here
 
 -- A state packet adds one to the states, and no packet takes one away.
 states_grow : (b : Bool) (n : ℕ) → n ≤ (if b then n + 1 else n)
@@ -211,8 +211,8 @@ goes_on {given} {layout} {list} {window} {rest} {seen} {end} {out} {done} {curre
       fuel = n;
       enough = omega (arith, left, step.1.enough);
       whole =
-          ap (λ p. onto (p ∷ earlier) (cut n rest2)) packet_is
-          ∙ ap (λ r. onto (front_packet rest ∷ earlier) (cut n r)) rest2_is
+          ap (λ p. onto (p ∷ earlier) (front_packets n rest2)) packet_is
+          ∙ ap (λ r. onto (front_packet rest ∷ earlier) (front_packets n r)) rest2_is
           ∙ sym (ap (onto earlier) step.1.is) ∙ under.whole;
       seen_is = seen2_is ∙ ap (λ s. seen_after s packet) under.seen_is ∙ sym (seen_step packet earlier);
       fine = here_fine given earlier seen packet under.seen_is none under.fine;
@@ -228,9 +228,9 @@ goes_on {given} {layout} {list} {window} {rest} {seen} {end} {out} {done} {curre
       near = omega (arith, at2, same, short, total, under.near);
       room = ap length puts ∙ length-with_bytes out end (packet_text given layout seen packet) (omega (arith, same, total, fits, under.end_is, under.room)) ∙ under.room;
       states =
-          ap (λ r. all_states done2 current2 (cut n r)) rest2_is
-          ∙ states (cut n (behind rest))
-          ∙ ap (λ p. all_states done current (p ∷ cut n (behind rest))) packet_is
+          ap (λ r. all_states done2 current2 (front_packets n r)) rest2_is
+          ∙ states (front_packets n (behind rest))
+          ∙ ap (λ p. all_states done current (p ∷ front_packets n (behind rest))) packet_is
           ∙ sym (ap (all_states done current) step.1.is) ∙ under.states;
       begun = λ now.
           let grown : seen2.states ≡ (seen_after seen packet).states = ap (λ s. s.states) seen2_is in
@@ -240,24 +240,24 @@ goes_on {given} {layout} {list} {window} {rest} {seen} {end} {out} {done} {curre
           ];
     }
 
--- Where a state is in view, one was passed, and no rule stands up to it.
+-- Where a state is in view, one was passed, and no rule is broken up to it.
 pub meets : {given : GivenModel} {layout : Layout} {list window rest : List ℕ} {seen : Seen} {end : ℕ} {out : List ℕ} {done : List State} {current : Option State}
     → IsUnderway given layout list window rest seen end out done current → IsSome current → MeetsState given list
 unfolding seen_before
 meets {rest} {seen} under some =
     let one : 1 ≤ seen.states = under.begun some in
     let is : seen.states ≡ states_in under.earlier = ap (λ s. s.states) under.seen_is in
-    record { earlier = under.earlier; later = cut under.fuel rest; whole = under.whole; fine = under.fine; some = omega (arith, one, is) }
+    record { earlier = under.earlier; later = front_packets under.fuel rest; whole = under.whole; fine = under.fine; some = omega (arith, one, is) }
 
--- Nothing is left: no rule stands, and the whole was read and written.
+-- Nothing is left: no rule is broken, and the whole was read and written.
 pub through : {given : GivenModel} {layout : Layout} {list window rest out : List ℕ} (read : Read)
     → IsUnderway given layout list window rest read.seen read.end out read.states.done.items read.states.current → length rest ≡ 0
-    → (first_of (asked given (passed list)) ≡ None) × IsRead given layout list read × (out ≡ with_bytes window layout.bin (texts given layout (passed list)))
+    → (first_of (questions_of_packets given (packets_passed list)) ≡ None) × IsRead given layout list read × (out ≡ with_bytes window layout.bin (texts given layout (packets_passed list)))
 through {given} {layout} {list} {window} read under none =
-    let empty : cut under.fuel _ ≡ [] = cut_nothing under.fuel _ none in
-    let all : under.earlier ≡ passed list = sym (ap (onto under.earlier) empty) ∙ under.whole in
+    let empty : front_packets under.fuel _ ≡ [] = cut_nothing under.fuel _ none in
+    let all : under.earlier ≡ packets_passed list = sym (ap (onto under.earlier) empty) ∙ under.whole in
     let near : length (texts given layout under.earlier) ≤ length list = omega (arith, under.near, under.inside) in (
-      ap (λ e. first_of (asked given e)) (sym all) ∙ under.fine,
+      ap (λ e. first_of (questions_of_packets given e)) (sym all) ∙ under.fine,
       record {
         seen = under.seen_is ∙ ap seen_before all;
         end = under.end_is ∙ ap (λ e. layout.bin + length (texts given layout e)) all;

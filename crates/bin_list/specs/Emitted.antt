@@ -6,7 +6,7 @@ use Rattle.buffer_table.specs.Table.{TableModel}
 use Rattle.relocation.specs.declared.layout.Layout.{Layout}
 use Rattle.packets.specs.Opcode.{indexed_primitive_list, gl_shader_state, tile_binning_mode, buffer_handles}
 use Rattle.tile_memory.specs.Slots.{alloc_offset}
-use Rattle.bin_list.specs.{declared.seen.Seen.Seen, Packets.opcode, Packets.passed, Seen.seen_before, Rules.GivenModel, Rules.given_of, Rules.index_buffer}
+use Rattle.bin_list.specs.{declared.seen.Seen.Seen, Packets.opcode, Packets.packets_passed, Seen.seen_before, Rules.GivenModel, Rules.given_of, Rules.index_buffer}
 
 -- the address of the indexes, an offset in their buffer, becomes a place in memory
 unfoldable pub index_text : GivenModel → Seen → List ℕ → List ℕ
@@ -39,4 +39,4 @@ texts given layout (packet ∷ earlier) = texts given layout earlier ++ packet_t
 
 -- the emitted list
 abbrev pub bin_text : List ℕ → ℕ → TableModel → List ℕ → Layout → List ℕ
-bin_text list declared table handles layout = texts (given_of list declared table handles) layout (passed list)
+bin_text list declared table handles layout = texts (given_of list declared table handles) layout (packets_passed list)

@@ -8,7 +8,7 @@ use Rattle.tile_memory.specs.Slots.{alloc_offset}
 use Rattle.relocation.specs.declared.layout.Layout.{Layout}
 use Rattle.bin_list.specs.{declared.seen.Seen.Seen, Packets.opcode, Packets.front_packet, Packets.behind, Rules.GivenModel, Rules.index_buffer}
 
--- The packet is whole; indexes are read from a Plain buffer, and begin inside it; the indexes of an array primitive fit a
+-- The packet is whole; indexes are read from a data buffer, and begin inside it; the indexes of an array primitive fit a
 -- word; a tile slot has room for the grid; a shader state is one of those that the job declares.
 pub record IsFine (given : GivenModel) (seen : Seen) (packet : List ℕ) : Type 0 where
   pub whole : bin_length (opcode packet) ≤ length packet

@@ -7,4 +7,4 @@ pub mod Packets
 pub mod Rules
 pub mod Seen
 pub mod States
-pub mod Told
+pub mod Report

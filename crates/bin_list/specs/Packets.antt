@@ -15,14 +15,14 @@ unfoldable pub behind : List ℕ → List ℕ
 behind bytes = if opcode bytes == halt then [] else drop (bin_taken (opcode bytes)) bytes
 
 -- the packets at the front, n at most
-abbrev pub cut : ℕ → List ℕ → List (List ℕ)
-cut zero bytes = []
-cut (suc n) [] = []
-cut (suc n) (o ∷ body) = front_packet (o ∷ body) ∷ cut n (behind (o ∷ body))
+abbrev pub front_packets : ℕ → List ℕ → List (List ℕ)
+front_packets zero bytes = []
+front_packets (suc n) [] = []
+front_packets (suc n) (o ∷ body) = front_packet (o ∷ body) ∷ front_packets n (behind (o ∷ body))
 
 -- The packets of a list, up to its end or to a halt: each has a byte, so that there are no more packets than bytes.
 unfoldable pub packets : List ℕ → List (List ℕ)
-packets list = cut (length list) list
+packets list = front_packets (length list) list
 
 -- What stands before a packet is a list of packets, the nearest first.
 abbrev pub onto : List (List ℕ) → List (List ℕ) → List (List ℕ)
@@ -30,5 +30,5 @@ onto earlier [] = earlier
 onto earlier (packet ∷ later) = onto (packet ∷ earlier) later
 
 -- what stands before the list's end
-unfoldable pub passed : List ℕ → List (List ℕ)
-passed list = onto [] (packets list)
+unfoldable pub packets_passed : List ℕ → List (List ℕ)
+packets_passed list = onto [] (packets list)

@@ -1,13 +1,13 @@
 -- The rules of a binner list. Each is a question at a packet, or at the list's end; the order of the questions is that
 -- of refusal, by place and then by number.
 use Rattle.std.specs.Prelude.{ℕ, ◌+◌, ◌*◌, ◌/◌, ◌^◌, not, ◌||◌, ◌&&◌, nat_lt, nat_le, ◌==◌, List, [], ◌∷◌, ◌++◌, length, slice_index, is_some, bit_and, if◌then◌else◌}
-use Rattle.field_words.specs.{Words.u32_at, Questions.Question, Questions.Ask, Questions.answered}
+use Rattle.field_words.specs.{Words.u32_at, Questions.Question, Questions.Ask, Questions.with_answers}
 use Rattle.buffer_table.specs.{declared.buffer.Buffer.Buffer, Table.TableModel, Table.buffer_at, Handles.data_of}
 use Rattle.packets.specs.Opcode.{flush, start_tile_binning, increment_semaphore, indexed_primitive_list, array_primitive_list, gl_shader_state, tile_binning_mode}
 use Rattle.packets.specs.Length.{bin_length}
 use Rattle.tile_memory.specs.Slots.{slot_fits}
 use Rattle.bin_list.specs.declared.rule.BinRule.TheVariants.{UnknownOpcode, CutOff, FlushNotLast, SecondStart, StartWithoutConfig, IncrementNotLast, PrimitiveWithoutState, PrimitiveWithoutStart, NoIndexBuffer, IndexesOutside, IndexOverflow, UndeclaredState, StateBits, SecondConfig, NoTiles, ConfigFlags, TooManyTiles, NoStart, NoEnd}
-use Rattle.bin_list.specs.{declared.fault.ListFault.ListFault, declared.rule.BinRule.BinRule, declared.seen.Seen.Seen, Faults.fault, Packets.opcode, Packets.passed, Seen.place, Seen.seen_before}
+use Rattle.bin_list.specs.{declared.fault.ListFault.ListFault, declared.rule.BinRule.BinRule, declared.seen.Seen.Seen, Faults.fault, Packets.opcode, Packets.packets_passed, Seen.place, Seen.seen_before}
 
 -- What a list is checked against: its length, the number of shader states that its job declares, and the job's
 -- buffers and handles.
@@ -54,7 +54,7 @@ index_size packet = if slice_index packet 1 / 16 == 0 then 1 else 2
 unfoldable pub indexes_end : List ℕ → ℕ
 indexes_end packet = u32_at packet 6 + u32_at packet 2 * index_size packet
 
--- B9: the index buffer's handle names no Plain buffer
+-- B9: the index buffer's handle names no data buffer
 -- B10: the indexes end past the buffer
 unfoldable pub index_questions : GivenModel → Seen → List ℕ → List (Question BinRule)
 index_questions given seen packet =
@@ -105,18 +105,18 @@ end_questions seen =
     ∷ (Ask (not (seen.before_last == increment_semaphore && seen.last == flush)) NoEnd ∷ [])
 
 -- the rules of each of these packets, which come the nearest first
-abbrev pub asked : GivenModel → List (List ℕ) → List (Question ListFault)
-asked given [] = []
-asked given (packet ∷ earlier) =
-    asked given earlier ++ answered (fault (place earlier)) (packet_questions given (seen_before earlier) packet)
+abbrev pub questions_of_packets : GivenModel → List (List ℕ) → List (Question ListFault)
+questions_of_packets given [] = []
+questions_of_packets given (packet ∷ earlier) =
+    questions_of_packets given earlier ++ with_answers (fault (place earlier)) (packet_questions given (seen_before earlier) packet)
 
 -- all rules, and at the end those of the whole list
 unfoldable pub questions_of : GivenModel → List (List ℕ) → List (Question ListFault)
-questions_of given all = asked given all ++ answered (fault given.size) (end_questions (seen_before all))
+questions_of given all = questions_of_packets given all ++ with_answers (fault given.size) (end_questions (seen_before all))
 
 -- all rules of a list
 abbrev pub given_of : List ℕ → ℕ → TableModel → List ℕ → GivenModel
 given_of list declared table handles = record { size = length list; declared = declared; table = table; handles = handles }
 
 abbrev pub bin_questions : List ℕ → ℕ → TableModel → List ℕ → List (Question ListFault)
-bin_questions list declared table handles = questions_of (given_of list declared table handles) (passed list)
+bin_questions list declared table handles = questions_of (given_of list declared table handles) (packets_passed list)

@@ -62,7 +62,7 @@ seen_before earlier = record {
   tiles_y = byte_of 14 (latest tile_binning_mode earlier);
 }
 
--- the same one packet later
+-- what is seen one packet later
 unfoldable pub seen_after : Seen → List ℕ → Seen
 seen_after seen packet = record {
   at = seen.at + length packet;
@@ -77,6 +77,6 @@ seen_after seen packet = record {
   tiles_y = (if opcode packet == tile_binning_mode then slice_index packet 14 else seen.tiles_y);
 }
 
--- the same where the packet tells nothing to later ones but its length and its opcode
+-- what is seen behind a packet that tells later ones nothing but its length and its opcode
 unfoldable pub seen_past : Seen → List ℕ → Seen
 seen_past seen packet = record seen { at = seen.at + length packet; last = opcode packet; before_last = seen.last }

@@ -3,17 +3,17 @@ ghost use Rattle.field_words.specs.declared.stop.Stop.TheVariants.{Fault, NoMemo
 ghost use Rattle.field_words.specs.Sizes.{most_list};
 ghost use Rattle.buffer_table.specs.Table.{most_place};
 ghost use Rattle.std.specs.Prelude.{◌≡◌, ◌≤◌, ◌+◌, Err, [], length, OnOk, IfOk};
-ghost use Rattle.field_words.specs.Questions.{Answers, answered, first_of};
+ghost use Rattle.field_words.specs.Questions.{Answers, with_answers, first_of};
 ghost use Rattle.field_words.specs.Writes.{with_bytes};
 ghost use Rattle.buffer_table.specs.Handles.{AreNumbersOf};
-ghost use Rattle.bin_list.specs.Packets.{passed};
+ghost use Rattle.bin_list.specs.Packets.{packets_passed};
 ghost use Rattle.bin_list.specs.Seen.{seen_before};
 ghost use Rattle.bin_list.specs.Faults.{fault, IsUpTo};
-ghost use Rattle.bin_list.specs.Rules.{asked, end_questions, given_of, bin_questions};
+ghost use Rattle.bin_list.specs.Rules.{questions_of_packets, end_questions, given_of, bin_questions};
 ghost use Rattle.bin_list.specs.Fine.{IsLow};
 ghost use Rattle.bin_list.specs.Emitted.{texts, bin_text};
 ghost use Rattle.bin_list.specs.Info.{IsInfo, IsInfoOf, IsRead, MeetsState};
-ghost use Rattle.bin_list.specs.Told.{IsSoundInfo};
+ghost use Rattle.bin_list.specs.Report.{IsSoundInfo};
 ghost use Rattle.field_words.specs.Least.{NamesLeast};
 
 use crate::cut::{plain_front, split_front, split_plain};
@@ -50,10 +50,11 @@ fn read_packets(
     requires few { given.now.declared ≤ 65536 }
     requires low { IsLow layout.now }
     requires room { layout.now.bin + length list.now ≤ length out.old }
-    ensures answers { Answers (asked given.now (passed list.now))
+    ensures answers { Answers (questions_of_packets given.now (packets_passed list.now))
         (λ read. IsRead given.now layout.now list.now read) result }
     ensures put { OnOk result (out.new
-        ≡ with_bytes out.old layout.now.bin (texts given.now layout.now (passed list.now))) }
+        ≡ with_bytes out.old layout.now.bin
+        (texts given.now layout.now (packets_passed list.now))) }
     ensures memory { result ≡ Err OutOfMemory → MeetsState given.now list.now }
 {
     let mut states = States::new(alloc, given.declared);
@@ -92,12 +93,13 @@ fn finish(
 ) -> Result<BinInfo, Stop<ListFault>>
     requires size { given.now.size ≡ length list.now }
     requires short { length list.now ≤ most_list }
-    requires fine { first_of (asked given.now (passed list.now)) ≡ None }
+    requires fine { first_of (questions_of_packets given.now (packets_passed list.now)) ≡ None }
     requires read { IsRead given.now layout.now list.now read }
-    ensures answers { Answers (answered (fault given.now.size) (end_questions (seen_before (passed list.now))))
+    ensures answers { Answers (with_answers (fault given.now.size)
+        (end_questions (seen_before (packets_passed list.now))))
         (λ info. IsInfoOf given.now layout.now list.now info) result }
     ensures sound { IfOk result (λ info. IsSoundInfo given.now.declared info) }
-    ensures memory { result ≡ Err OutOfMemory → 1 ≤ (seen_before (passed list.now)).states }
+    ensures memory { result ≡ Err OutOfMemory → 1 ≤ (seen_before (packets_passed list.now)).states }
 {
     let Read { seen, end, states } = read;
     if let Some(rule) = end_fault(&seen) {
@@ -119,8 +121,8 @@ fn finish(
 /// no other byte changes. `declared` is the number of shader states that the job declares. The places in `layout` are put
 /// in: that of the records, of the tile slot, and of the region itself.
 ///
-/// The fault is the first rule that stands, by place and then by number; then `out` may hold any bytes. Memory is taken for
-/// the states alone, so want of memory is answered only where no rule stands up to the list's first shader state.
+/// The fault is the first broken rule, by place and then by number; then `out` may hold any bytes. Memory is taken for
+/// the states alone, so want of memory is answered only where no rule is broken up to the list's first shader state.
 pub fn check_bin(
     alloc: Global,
     list: &[u8],

@@ -2,7 +2,7 @@
 
 use crate::state::State;
 
-/// A binner list in which no rule stands: its grid in tiles, its shader states in order, and the length of the emitted
+/// A binner list in which no rule is broken: its grid in tiles, its shader states in order, and the length of the emitted
 /// list in bytes.
 #[derive(Debug, Drop)]
 pub struct BinInfo {

@@ -1,7 +1,7 @@
 //! Checking and relocating a binner list, which an untrusted client wrote.
 //!
 //! The list is cut into packets by the table of the crate `packets`, and each packet is asked the rules of its kind, which
-//! speak of what stands before it. `check_bin` names the first rule that stands, by place and then by number, or writes the
+//! speak of what stands before it. `check_bin` names the first broken rule, by place and then by number, or writes the
 //! list that the hardware is given: addresses of indexes, shader records and tile memory are put in. It tells the grid of
 //! tiles and the shader states, which the next stage checks.
 #![tactic(auto)]

@@ -21,7 +21,7 @@ pub enum BinRule {
     PrimitiveWithoutState,
     /// A primitive has no start of binning before it.
     PrimitiveWithoutStart,
-    /// The handle of the index buffer names no Plain buffer.
+    /// The handle of the index buffer names no data buffer.
     NoIndexBuffer,
     /// The indexes end past their buffer.
     IndexesOutside,

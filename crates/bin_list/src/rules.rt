@@ -24,7 +24,7 @@ use packets::opcode::{
 };
 use tile_memory::slot_fits;
 
-/// B1 and B2. The packet is whole where neither stands.
+/// B1 and B2. The packet is whole where neither is broken.
 #[tactic(auto, unfolding(crate::specs::Rules::cut_questions))]
 fn cut_fault(packet: &[u8]) -> Option<BinRule>
     requires { 1 ≤ length packet.now }
@@ -91,7 +91,7 @@ fn primitive_fault(seen: &Seen) -> Option<BinRule>
     None
 }
 
-/// The buffer that the indexes come from. `None` comes exactly where its handle names no Plain buffer.
+/// The buffer that the indexes come from. `None` comes exactly where its handle names no data buffer.
 #[inline(always)]
 #[tactic(auto, unfolding(crate::specs::Rules::index_buffer))]
 pub(crate) fn index_buffer(given: &Given, seen: &Seen) -> Option<Buffer>
@@ -127,7 +127,7 @@ fn indexes_end(packet: &[u8]) -> u64
     u64::from(word_at(packet, 6)) + u64::from(word_at(packet, 2)) * index_size(packet)
 }
 
-/// B9 and B10. Where neither stands, the indexes begin inside a Plain buffer.
+/// B9 and B10. Where neither is broken, the indexes begin inside a data buffer.
 #[tactic(auto, unfolding(crate::specs::Rules::index_questions))]
 fn index_fault(given: &Given, seen: &Seen, packet: &[u8]) -> Option<BinRule>
     requires { 14 ≤ length packet.now }
@@ -248,7 +248,7 @@ fn kind_fault(given: &Given, seen: &Seen, packet: &[u8]) -> Option<BinRule>
     }
 }
 
-/// The first rule that stands at this packet.
+/// The first broken rule at this packet.
 #[tactic(auto, unfolding(crate::specs::Rules::packet_questions), using(field_words::proofs::Questions::passes, field_words::proofs::Questions::stops))]
 pub(crate) fn packet_fault(given: &Given, seen: &Seen, packet: &[u8]) -> Option<BinRule>
     requires { 1 ≤ length packet.now }

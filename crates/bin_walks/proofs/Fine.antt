@@ -1,9 +1,9 @@
--- What a packet promises of which no rule stands.
+-- What a packet promises in which no rule is broken.
 use Rattle.std.proofs.Common.{◌≡◌, ◌≢◌, ℕ, ◌+◌, ◌*◌, ◌<◌, ◌≤◌, ◌^◌, Bool, true, false, List, ◌++◌, None, length, is_some, refl, sym, ap, arith, ◌∙◌, nat_lt}
 use Rattle.std.proofs.lemmas.Bool.{eqb-false, eqb-true}
 use Rattle.std.specs.Prelude.{if◌then◌else◌, ◌==◌}
 use Rattle.field_words.specs.{Words.u32_at, Questions.first_of}
-use Rattle.field_words.proofs.{Questions.none_stands, Nones.front_none, Nones.rest_none}
+use Rattle.field_words.proofs.{Questions.none_broken, Nones.front_none, Nones.rest_none}
 use Rattle.buffer_table.specs.Handles.{IsData, data_of}
 use Rattle.buffer_table.proofs.Named.{data_named}
 use Rattle.packets.specs.Opcode.{flush, indexed_primitive_list, array_primitive_list, tile_binning_mode}
@@ -16,7 +16,7 @@ pub cut_fine : (given : GivenModel) (seen : Seen) (p : List ℕ) → first_of (p
     → (bin_length (opcode p) ≢ 0) × (bin_length (opcode p) ≤ length p)
 unfolding packet_questions cut_questions
 cut_fine given seen p none =
-    let asked = none_stands (cut_questions p) (front_none (cut_questions p) (kind_questions given seen p) none) in
+    let asked = none_broken (cut_questions p) (front_none (cut_questions p) (kind_questions given seen p) none) in
     (eqb-false (bin_length (opcode p)) 0 asked.0, grind (arith, asked.1.0))
 
 taken_if : (b : Bool) (n : ℕ) → (n == 0) ≡ b → n ≢ 0 → (if b then 1 else n) ≡ n
@@ -44,7 +44,7 @@ kind_array given seen p is = rw is refl
 pub flush_fine : (given : GivenModel) (seen : Seen) (p : List ℕ) → first_of (packet_questions given seen p) ≡ None → opcode p ≡ flush → seen.at + 1 ≡ given.size
 unfolding flush_questions
 flush_fine given seen p none is =
-    let asked = none_stands (flush_questions given seen) (sym (ap first_of (kind_flush given seen p is)) ∙ kind_none given seen p none) in
+    let asked = none_broken (flush_questions given seen) (sym (ap first_of (kind_flush given seen p is)) ∙ kind_none given seen p none) in
     let b : (seen.at + 1 == given.size) ≡ true = grind (arith, asked.0) in
     eqb-true (seen.at + 1) given.size b
 
@@ -55,7 +55,7 @@ pub record IsPrimitiveFine (seen : Seen) : Type 0 where
 primitive_fine : (seen : Seen) → first_of (primitive_questions seen) ≡ None → IsPrimitiveFine seen
 unfolding primitive_questions
 primitive_fine seen none =
-    let asked = none_stands (primitive_questions seen) none in
+    let asked = none_broken (primitive_questions seen) none in
     let some : seen.states ≢ 0 = eqb-false seen.states 0 asked.0 in
     record { states = omega arith; started = grind (arith, asked.1.0) }
 
@@ -72,7 +72,7 @@ pub indexed_fine : (given : GivenModel) (seen : Seen) (p : List ℕ) → first_o
 unfolding index_questions indexes_end
 indexed_fine given seen p none is =
     let all : first_of (primitive_questions seen ++ index_questions given seen p) ≡ None = sym (ap first_of (kind_indexed given seen p is)) ∙ kind_none given seen p none in
-    let asked = none_stands (index_questions given seen p) (rest_none (primitive_questions seen) (index_questions given seen p) all) in
+    let asked = none_broken (index_questions given seen p) (rest_none (primitive_questions seen) (index_questions given seen p) all) in
     let found : is_some (data_of given.table given.handles seen.index_handle) ≡ true = grind (arith, asked.0) in
     record {
       primitive = primitive_fine seen (front_none (primitive_questions seen) (index_questions given seen p) all);
@@ -88,7 +88,7 @@ pub array_fine : (given : GivenModel) (seen : Seen) (p : List ℕ) → first_of 
 unfolding array_questions
 array_fine given seen p none is =
     let all : first_of (primitive_questions seen ++ array_questions p) ≡ None = sym (ap first_of (kind_array given seen p is)) ∙ kind_none given seen p none in
-    let asked = none_stands (array_questions p) (rest_none (primitive_questions seen) (array_questions p) all) in
+    let asked = none_broken (array_questions p) (rest_none (primitive_questions seen) (array_questions p) all) in
     record {
       primitive = primitive_fine seen (front_none (primitive_questions seen) (array_questions p) all);
       fits = grind (arith, asked.0);
@@ -98,5 +98,5 @@ array_fine given seen p none is =
 pub config_first : (given : GivenModel) (seen : Seen) (p : List ℕ) → first_of (packet_questions given seen p) ≡ None → opcode p ≡ tile_binning_mode → seen.configured ≡ false
 unfolding config_questions
 config_first given seen p none is =
-    let asked = none_stands (config_questions seen p) (sym (ap first_of (kind_config given seen p is)) ∙ kind_none given seen p none) in
+    let asked = none_broken (config_questions seen p) (sym (ap first_of (kind_config given seen p is)) ∙ kind_none given seen p none) in
     asked.0

@@ -1,7 +1,7 @@
 -- The walk over the emitted list.
 use Rattle.std.proofs.Common.{◌≡◌, ◌≢◌, inl, inr, ℕ, zero, suc, ◌+◌, ◌*◌, ◌%◌, ◌<◌, ◌≤◌, ◌^◌, max, Bool, true, false, List, [], ◌∷◌, ◌++◌, Option, Some, None, length, refl, sym, ap, subst, arith, ◌∙◌, append_assoc, append-nil, take, drop, get_or, eq-eqb}
 use Rattle.std.proofs.{lemmas.Bool.eqb-true, lemmas.Bool.false≢true, lemmas.List.places}
-use Rattle.field_words.specs.{Sizes.most_list, Sizes.slot_size, Words.u32_at, Questions.first_of, Pieces.joined, Writes.with_bytes}
+use Rattle.field_words.specs.{Sizes.most_list, Sizes.slot_size, Words.u32_at, Questions.first_of, Pieces.joined_texts, Writes.with_bytes}
 use Rattle.std.specs.{Prelude.if◌then◌else◌, Prelude.◌==◌, Prelude.slice_index, Int.to_le_bytes, Int.w32}
 use Rattle.field_words.proofs.Numbers.{rounded}
 use Rattle.buffer_table.specs.Table.{buffer_at, most_place}
@@ -12,8 +12,8 @@ use Rattle.packets.specs.StateWord.{attribute_count, is_extended, record_size, r
 use Rattle.tile_memory.specs.Slots.{alloc_offset, slot_fits}
 use Rattle.bin_list.specs.Seen.{latest, is_there, byte_of, last_opcode, place, states_in, records_in, seen_before}
 use Rattle.bin_list.specs.{declared.seen.Seen.Seen, declared.state.State.State, Fine.IsLow}
-use Rattle.bin_list.specs.Packets.{opcode, front_packet, behind, cut, onto}
-use Rattle.bin_list.specs.Rules.{GivenModel, index_buffer, index_size, packet_questions, asked}
+use Rattle.bin_list.specs.Packets.{opcode, front_packet, behind, front_packets, onto}
+use Rattle.bin_list.specs.Rules.{GivenModel, index_buffer, index_size, packet_questions, questions_of_packets}
 use Rattle.bin_list.specs.States.{draws_to, greatest, state, states_of}
 use Rattle.bin_list.specs.Emitted.{index_text, state_text, config_text, packet_text, texts}
 use Rattle.bin_list.proofs.Facts.{onto_none, packet_none, start_fine, config_fine, state_fine}
@@ -24,7 +24,7 @@ use Rattle.bin_walks.proofs.Texts.{addressed, state_opcode, state_long, state_wo
 use Rattle.bin_walks.proofs.Fine.{cut_fine, taken_is, flush_fine, indexed_fine, array_fine, config_first}
 
 -- The emitted list is its packets joined.
-joined_if : (b : Bool) (x : List ℕ) (xs : List (List ℕ)) → joined (if b then xs else x ∷ xs) ≡ (if b then [] else x) ++ joined xs
+joined_if : (b : Bool) (x : List ℕ) (xs : List (List ℕ)) → joined_texts (if b then xs else x ∷ xs) ≡ (if b then [] else x) ++ joined_texts xs
 joined_if true x xs = refl
 joined_if false x xs = refl
 
@@ -37,14 +37,14 @@ unfolding packet_text
 dropped given layout seen p = text_if (opcode p == buffer_handles) _
 
 pub texts_joined : (given : GivenModel) (layout : Layout) (earlier later : List (List ℕ))
-    → texts given layout (onto earlier later) ≡ texts given layout earlier ++ joined (emission given layout earlier later)
+    → texts given layout (onto earlier later) ≡ texts given layout earlier ++ joined_texts (emission given layout earlier later)
 texts_joined given layout earlier [] = sym (append-nil (texts given layout earlier))
 texts_joined given layout earlier (p ∷ later) =
     let text = packet_text given layout (seen_before earlier) p in
     let rest = emission given layout (p ∷ earlier) later in
     texts_joined given layout (p ∷ earlier) later
-    ∙ append_assoc (texts given layout earlier) text (joined rest)
-    ∙ ap (λ t. texts given layout earlier ++ (t ++ joined rest)) (sym (dropped given layout (seen_before earlier) p))
+    ∙ append_assoc (texts given layout earlier) text (joined_texts rest)
+    ∙ ap (λ t. texts given layout earlier ++ (t ++ joined_texts rest)) (sym (dropped given layout (seen_before earlier) p))
     ∙ ap (λ t. texts given layout earlier ++ t) (sym (joined_if (opcode p == buffer_handles) text rest))
 
 -- How the packets of a list are cut: each has a byte, no more than its opcode says, and nothing is read behind a halt.
@@ -108,7 +108,7 @@ no_second true there is none = let no = none refl in absurd (false≢true (sym n
 no_second false there is none = refl
 
 -- The one configuration: none comes behind it.
-kept_config : (given : GivenModel) (earlier later : List (List ℕ)) → first_of (asked given (onto earlier later)) ≡ None → is_there (latest tile_binning_mode earlier) ≡ true
+kept_config : (given : GivenModel) (earlier later : List (List ℕ)) → first_of (questions_of_packets given (onto earlier later)) ≡ None → is_there (latest tile_binning_mode earlier) ≡ true
     → latest tile_binning_mode (onto earlier later) ≡ latest tile_binning_mode earlier
 unfolding seen_before
 kept_config given earlier [] none there = refl
@@ -136,10 +136,10 @@ pub record Goes (layout : Layout) (config : Config) (all : List State) (earlier 
   pub states : (word : ℕ) (s : State) → IsStateAt layout (records_in earlier) (states_of later) word s → IsStateAt layout 0 all word s
 
 -- one packet on, by what its opcode is
-config_if : (b : Bool) (p : List ℕ) (o : Option (List ℕ)) (told config : Config) (before : Option Config)
-    → (b ≡ true → told ≡ config) → (is_there o ≡ true → before ≡ Some config) → is_there (if b then Some p else o) ≡ true → (if b then Some told else before) ≡ Some config
-config_if true p o told config before here there is = ap Some (here refl)
-config_if false p o told config before here there is = there is
+config_if : (b : Bool) (p : List ℕ) (o : Option (List ℕ)) (report config : Config) (before : Option Config)
+    → (b ≡ true → report ≡ config) → (is_there o ≡ true → before ≡ Some config) → is_there (if b then Some p else o) ≡ true → (if b then Some report else before) ≡ Some config
+config_if true p o report config before here there is = ap Some (here refl)
+config_if false p o report config before here there is = there is
 
 started_if : (b : Bool) (p : List ℕ) (o : Option (List ℕ)) (before : Bool) → (is_there o ≡ true → before ≡ true) → is_there (if b then Some p else o) ≡ true → (if b then true else before) ≡ true
 started_if true p o before there is = refl
@@ -159,20 +159,20 @@ max_right : (m n k : ℕ) → max m n ≤ k → n ≤ k
 max_right m n k le = omega arith
 
 -- the word that is kept behind this packet, and its state
-view_if : (layout : Layout) (all : List State) (later : List (List ℕ)) (b : Bool) (n records told : ℕ) (s : State) (ss : List State) (before : Option ℕ) (drawn : ℕ) (kept : Kept)
-    → (b ≡ true → told ≡ layout.place + layout.records + records + s.word % 16) → s.max_index ≡ greatest later
+view_if : (layout : Layout) (all : List State) (later : List (List ℕ)) (b : Bool) (n records report : ℕ) (s : State) (ss : List State) (before : Option ℕ) (drawn : ℕ) (kept : Kept)
+    → (b ≡ true → report ≡ layout.place + layout.records + records + s.word % 16) → s.max_index ≡ greatest later
     → ((word : ℕ) (t : State) → IsStateAt layout records (if b then s ∷ ss else ss) word t → IsStateAt layout 0 all word t)
-    → kept.word ≡ (if b then Some told else before)
+    → kept.word ≡ (if b then Some report else before)
     → (1 ≤ n → (word : ℕ) × ((t : State) × ((before ≡ Some word) × (IsStateAt layout 0 all word t × ((if b then 0 else max drawn (greatest later)) ≤ t.max_index)))))
     → 1 ≤ (if b then n + 1 else n) → InView layout all later kept
-view_if layout all later true n records told s ss before drawn kept here most lift is old some =
-    record { word = told; most = s; kept_word = is; is_state = lift told s (inl (here refl, refl)); upto = omega (arith, most) }
-view_if layout all later false n records told s ss before drawn kept here most lift is old some =
+view_if layout all later true n records report s ss before drawn kept here most lift is old some =
+    record { word = report; most = s; kept_word = is; is_state = lift report s (inl (here refl, refl)); upto = omega (arith, most) }
+view_if layout all later false n records report s ss before drawn kept here most lift is old some =
     let o = old some in
     let le = o.1.1.1.1 in
     record { word = o.0; most = o.1.0; kept_word = is ∙ o.1.1.0; is_state = o.1.1.1.0; upto = max_right drawn (greatest later) o.1.0.max_index le }
 
--- The same opcode, and so the same choices.
+-- A packet of the same opcode leads to the same choices.
 step : (given : GivenModel) (layout : Layout) (config : Config) (all : List State) (earlier later : List (List ℕ)) (p text : List ℕ) (kept : Kept)
     → Goes layout config all earlier (p ∷ later) kept
     → opcode text ≡ opcode p
@@ -180,21 +180,21 @@ step : (given : GivenModel) (layout : Layout) (config : Config) (all : List Stat
     → (opcode p ≡ gl_shader_state → u32_at text 1 ≡ layout.place + layout.records + records_in earlier + u32_at p 1 % 16)
     → Goes layout config all (p ∷ earlier) later (kept_after kept text)
 unfolding kept_after
-step given layout config all earlier later p text kept goes same told_config told_word =
+step given layout config all earlier later p text kept goes same report_config report_word =
     let same_state : (opcode text == gl_shader_state) ≡ (opcode p == gl_shader_state) = ap (λ o. o == gl_shader_state) same in
     let same_config : (opcode text == tile_binning_mode) ≡ (opcode p == tile_binning_mode) = ap (λ o. o == tile_binning_mode) same in
     let same_start : (opcode text == start_tile_binning) ≡ (opcode p == start_tile_binning) = ap (λ o. o == start_tile_binning) same in
     record {
       view = λ some.
           view_if layout all later (opcode p == gl_shader_state) (states_in earlier) (records_in earlier) (u32_at text 1) (state (u32_at p 1) (greatest later)) (states_of later) kept.word (draws_to p)
-          (kept_after kept text) (λ is. told_word (eqb-true (opcode p) gl_shader_state is)) refl goes.states
+          (kept_after kept text) (λ is. report_word (eqb-true (opcode p) gl_shader_state is)) refl goes.states
           (ap (λ b. if b then Some (u32_at text 1) else kept.word) same_state)
           (λ one. let v = goes.view one in (v.word, (v.most, (v.kept_word, (v.is_state, v.upto)))))
           some;
       config_is = λ there.
           ap (λ b. if b then Some (config_in text) else kept.config) same_config
           ∙ config_if (opcode p == tile_binning_mode) p (latest tile_binning_mode earlier) (config_in text) config kept.config
-          (λ is. told_config (eqb-true (opcode p) tile_binning_mode is)) goes.config_is there;
+          (λ is. report_config (eqb-true (opcode p) tile_binning_mode is)) goes.config_is there;
       started_is = λ there.
           ap (λ b. if b then true else kept.started) same_start
           ∙ started_if (opcode p == start_tile_binning) p (latest start_tile_binning earlier) kept.started goes.started_is there;
@@ -291,8 +291,8 @@ is_text given layout seen p premises none whole kept =
     (λ yes.
     let is = eqb-true (opcode p) indexed_primitive_list yes in
     let long : bin_length (opcode p) ≡ 14 = ap bin_length is ∙ long_indexed in
-    let told = addressed p ((index_buffer given seen).place + u32_at p 6) (whole ∙ long) (low_indexes given layout seen p premises none is) in
-    record { same = told.same_opcode; long = told.long ∙ sym long })
+    let report = addressed p ((index_buffer given seen).place + u32_at p 6) (whole ∙ long) (low_indexes given layout seen p premises none is) in
+    record { same = report.same_opcode; long = report.long ∙ sym long })
     (λ yes.
     let is = eqb-true (opcode p) gl_shader_state yes in
     record { same = state_opcode layout seen p ∙ sym is; long = state_long layout seen p ∙ sym (ap bin_length is ∙ long_state) })
@@ -323,12 +323,12 @@ draw_indexed given layout config all earlier later p kept premises none whole go
     let view = goes.view fine.primitive.states in
     let b = buffer_at given.table.buffers (slice_index given.handles seen.index_handle) in
     let n = b.place + u32_at p 6 in
-    let told = addressed p n (whole ∙ ap bin_length is ∙ long_indexed) (low_indexes given layout seen p premises none is) in
+    let report = addressed p n (whole ∙ ap bin_length is ∙ long_indexed) (low_indexes given layout seen p premises none is) in
     let text : List ℕ = with_bytes p 6 (to_le_bytes w32 n) in
-    let here : opcode text ≡ indexed_primitive_list = told.same_opcode ∙ is in
-    let draws : draws_to text ≡ draws_to p = draws_indexed text here ∙ told.most ∙ sym (draws_indexed p is) in
+    let here : opcode text ≡ indexed_primitive_list = report.same_opcode ∙ is in
+    let draws : draws_to text ≡ draws_to p = draws_indexed text here ∙ report.most ∙ sym (draws_indexed p is) in
     let most : draws_to p ≤ view.most.max_index = drawn_most p later view.most.max_index (ap (λ o. o == gl_shader_state) is) view.upto in
-    let count : u32_at text 2 * index_size text ≡ u32_at p 2 * index_size p = ap (λ c. c * index_size text) told.count ∙ ap (λ w. u32_at p 2 * w) told.wide in
+    let count : u32_at text 2 * index_size text ≡ u32_at p 2 * index_size p = ap (λ c. c * index_size text) report.count ∙ ap (λ w. u32_at p 2 * w) report.wide in
     let inside : u32_at p 6 + u32_at p 2 * index_size p ≤ b.size = fine.inside in
     record {
       word = view.word;
@@ -341,8 +341,8 @@ draw_indexed given layout config all earlier later p kept premises none whole go
         indexes = λ yes. record {
           handle = seen.index_handle;
           buffer = fine.buffer;
-          from = omega (arith, told.address);
-          upto = omega (arith, told.address, count, inside);
+          from = omega (arith, report.address);
+          upto = omega (arith, report.address, count, inside);
         };
         array = λ yes. absurd (let e : indexed_primitive_list ≡ array_primitive_list = sym here ∙ yes in omega (arith, e));
       };
@@ -372,7 +372,7 @@ draw_array given layout config all earlier later p kept none goes is =
 -- What is known of the whole list, while the packets before these have been read.
 pub record Known (given : GivenModel) (layout : Layout) (config : Config) (earlier later : List (List ℕ)) : Type 0 where
   pub premises : Premises given layout
-  pub fine : first_of (asked given (onto earlier later)) ≡ None
+  pub fine : first_of (questions_of_packets given (onto earlier later)) ≡ None
   pub cuts : AreCut later
   pub some : AreSome earlier
   pub inside : place (onto earlier later) ≤ given.size
@@ -449,27 +449,27 @@ tame given layout config all earlier later p kept known goes other =
     let R : ℕ → List ℕ → Type 0 = IsDrawn given.table given.handles layout all in
     let none : first_of (packet_questions given seen p) ≡ None = packet_none given earlier p (onto_none given (p ∷ earlier) later known.fine) in
     let whole = whole_packet given seen p known.cuts.1 none in
-    let told = is_text given layout seen p known.premises none whole other in
+    let report = is_text given layout seen p known.premises none whole other in
     let cut = cut_fine given seen p none in
     record {
-      whole = told.long ∙ sym (ap bin_length told.same);
-      known = λ zero_long. cut.0 (sym (ap bin_length told.same) ∙ zero_long);
-      no_halt = λ is. no_halt given layout config earlier later p known (sym told.same ∙ is);
-      no_handles = λ is. let e : (opcode p == buffer_handles) ≡ true = ap (λ o. o == buffer_handles) (sym told.same ∙ is) in false≢true (sym other ∙ e);
+      whole = report.long ∙ sym (ap bin_length report.same);
+      known = λ zero_long. cut.0 (sym (ap bin_length report.same) ∙ zero_long);
+      no_halt = λ is. no_halt given layout config earlier later p known (sym report.same ∙ is);
+      no_handles = λ is. let e : (opcode p == buffer_handles) ≡ true = ap (λ o. o == buffer_handles) (sym report.same ∙ is) in false≢true (sym other ∙ e);
       configures = λ is.
-          let here = sym told.same ∙ is in
+          let here = sym report.same ∙ is in
           let grid = config_fine given seen p none here in
           ap config_in (config_is given layout seen p here)
           ∙ config_read layout p known.premises.low.slot (room_of (slice_index p 13 * slice_index p 14) grid.room)
           ∙ one_config given layout config earlier later p known here;
-      starts = λ is. goes.config_is (start_fine given seen p none (sym told.same ∙ is));
+      starts = λ is. goes.config_is (start_fine given seen p none (sym report.same ∙ is));
       indexed = λ is.
-          let here = sym told.same ∙ is in
+          let here = sym report.same ∙ is in
           subst (Drawing R kept) (sym (index_is given layout seen p here)) (draw_indexed given layout config all earlier later p kept known.premises none whole goes here);
       array = λ is.
-          let here = sym told.same ∙ is in
+          let here = sym report.same ∙ is in
           subst (Drawing R kept) (sym (array_is given layout seen p here)) (draw_array given layout config all earlier later p kept none goes here);
-      closes = λ is. goes.config_is (before_flush given layout config earlier later p known none whole (sym told.same ∙ is));
+      closes = λ is. goes.config_is (before_flush given layout config earlier later p known none whole (sym report.same ∙ is));
     }
 
 next_kept : (given : GivenModel) (layout : Layout) (config : Config) (all : List State) (earlier later : List (List ℕ)) (p : List ℕ) (kept : Kept)
@@ -480,10 +480,10 @@ next_kept given layout config all earlier later p kept known goes other =
     let seen = seen_before earlier in
     let none : first_of (packet_questions given seen p) ≡ None = packet_none given earlier p (onto_none given (p ∷ earlier) later known.fine) in
     let whole = whole_packet given seen p known.cuts.1 none in
-    let told = is_text given layout seen p known.premises none whole other in
+    let report = is_text given layout seen p known.premises none whole other in
     let it = tame given layout config all earlier later p kept known goes other in
-    step given layout config all earlier later p (packet_text given layout seen p) kept goes told.same
-    (λ is. it.configures (told.same ∙ is))
+    step given layout config all earlier later p (packet_text given layout seen p) kept goes report.same
+    (λ is. it.configures (report.same ∙ is))
     (λ is. ap (λ t. u32_at t 1) (state_is given layout seen p is) ∙ state_word layout seen p (state_fits given layout config earlier later p known none is))
 
 walks_if : (config : Config) (R : ℕ → List ℕ → Type 0) (kept : Kept) (b : Bool) (x : List ℕ) (xs : List (List ℕ))
@@ -522,18 +522,18 @@ front_short o body =
     let e : bin_taken (opcode (take (bin_taken o) (o ∷ body))) ≡ bin_taken o = ap bin_taken (head_take (bin_taken o) o body (taken_some o)) in
     omega arith
 
-halt_if : (b : Bool) (n : ℕ) (rest : List ℕ) → b ≡ true → cut n (if b then [] else rest) ≡ []
+halt_if : (b : Bool) (n : ℕ) (rest : List ℕ) → b ≡ true → front_packets n (if b then [] else rest) ≡ []
 halt_if true zero rest is = refl
 halt_if true (suc n) rest is = refl
 halt_if false n rest is = absurd (false≢true is)
 
-cut_behind : (n : ℕ) (o : ℕ) (body : List ℕ) → opcode (front_packet (o ∷ body)) ≡ halt → cut n (behind (o ∷ body)) ≡ []
+cut_behind : (n : ℕ) (o : ℕ) (body : List ℕ) → opcode (front_packet (o ∷ body)) ≡ halt → front_packets n (behind (o ∷ body)) ≡ []
 unfolding front_packet behind
 cut_behind n o body is =
     let some = taken_some o in
     halt_if (o == halt) n (drop (bin_taken o) (o ∷ body)) (eq-eqb o halt (sym (head_take (bin_taken o) o body some) ∙ is))
 
-pub are_cut : (n : ℕ) (bytes : List ℕ) → AreCut (cut n bytes)
+pub are_cut : (n : ℕ) (bytes : List ℕ) → AreCut (front_packets n bytes)
 are_cut zero bytes = tt
 are_cut (suc n) [] = tt
 are_cut (suc n) (o ∷ body) = (front_some (o ∷ body) (omega arith), front_short o body, cut_behind n o body, are_cut n (behind (o ∷ body)))

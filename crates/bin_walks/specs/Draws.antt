@@ -13,7 +13,7 @@ IsStateAt layout at [] word state = ⊥
 IsStateAt layout at (first ∷ later) word state =
     ((word ≡ layout.place + layout.records + at + first.word % 16) × (state ≡ first)) ⊎ IsStateAt layout (at + record_room first.word) later word state
 
--- the indexes lie in a Plain buffer that a handle of the job names
+-- the indexes lie in a data buffer that a handle of the job names
 pub record AreIndexesInside (table : TableModel) (handles : List ℕ) (packet : List ℕ) : Type 0 where
   pub handle : ℕ
   pub buffer : IsData table handles handle

@@ -2,14 +2,14 @@
 use Rattle.std.proofs.{Common.◌≡◌, Common.ℕ, Common.◌≤◌, Common.List, Common.None, Common.arith, Common.◌∙◌, lemmas.Bool.Decides.nat_tests}
 use Rattle.std.proofs.lemmas.Grind.{common_steps}
 use Rattle.field_words.specs.Questions.{first_of}
-use Rattle.field_words.proofs.{Questions.none_stands, Questions.passes, Nones.front_none, Nones.rest_none}
+use Rattle.field_words.proofs.{Questions.none_broken, Questions.passes, Nones.front_none, Nones.rest_none}
 use Rattle.buffer_table.specs.{declared.buffer.Buffer.Buffer, declared.buffer.Regions.Regions}
 use Rattle.buffer_table.specs.Table.{items_of, memory_within, items_questions, all_within, table_within}
 
 memory_laxer : (small large memory : ℕ) → small ≤ large → first_of (memory_within small memory) ≡ None → first_of (memory_within large memory) ≡ None
 unfolding memory_within
 memory_laxer small large memory order none =
-    let asked = none_stands (memory_within small memory) none in
+    let asked = none_broken (memory_within small memory) none in
     grind (arith, common_steps, nat_tests, asked.0, order)
 
 pub laxer : (small large memory : ℕ) (r : Regions) (buffers : List Buffer) → small ≤ large → first_of (table_within small memory r buffers) ≡ None

@@ -2,7 +2,7 @@
 use Rattle.std.proofs.Common.{◌≡◌, ◌<◌, ℕ, Bool, true, false, not, ◌&&◌, nat_lt, if◌then◌else◌, List, length, slice_index, Some, None, is_some, refl, ap, subst, arith}
 use Rattle.std.proofs.lemmas.Bool.{and_parts, ltb-true}
 use Rattle.field_words.specs.Questions.{first_of}
-use Rattle.field_words.proofs.{Questions.none_stands, Nones.each_none}
+use Rattle.field_words.proofs.{Questions.none_broken, Nones.each_none}
 use Rattle.buffer_table.specs.Handles.{handle_questions, handles_questions, AreNumbersOf, IsNamed, IsData, IsCode, is_plain, is_named, data_of, code_of}
 use Rattle.buffer_table.specs.{declared.buffer.Kind.Kind, declared.buffer.Kind.TheVariants.Plain, declared.buffer.Kind.TheVariants.Code}
 use Rattle.buffer_table.specs.Table.{TableModel, buffer_at}
@@ -12,10 +12,10 @@ unfolding handles_questions handle_questions
 are_numbers t client numbers none i inside =
     let here : first_of (handle_questions t client numbers i) ≡ None =
     each_none (handle_questions t client numbers) 0 (length numbers) i none (omega arith) (omega (arith, inside)) in
-    let asked = none_stands (handle_questions t client numbers i) here in
+    let asked = none_broken (handle_questions t client numbers i) here in
     grind (arith, asked.0)
 
--- A handle that names a Plain buffer, and one that names a Code buffer.
+-- A handle that names a data buffer, and one that names a Code buffer.
 plain_kind : (kind : Kind) → is_plain kind ≡ true → kind ≡ Plain
 plain_kind Plain is = refl
 plain_kind Code is = absurd (cc)

@@ -3,7 +3,7 @@ use Rattle.std.proofs.Common.{◌≡◌, ℕ, suc, ◌+◌, ◌-◌, ◌<◌, �
 use Rattle.std.proofs.lemmas.List.{get_or-take, get_or-map, get_or_default, length-map}
 use Rattle.std.proofs.{lemmas.Bool.ltb-false, lemmas.Bool.Decides.nat_tests, lemmas.List.Folds.list_any_at, lemmas.Grind.common_steps}
 use Rattle.field_words.specs.Questions.{first_of, each}
-use Rattle.field_words.proofs.{Questions.none_stands, Nones.front_none, Nones.rest_none, Nones.each_none}
+use Rattle.field_words.proofs.{Questions.none_broken, Nones.front_none, Nones.rest_none, Nones.each_none}
 use Rattle.buffer_table.specs.Table.{TableModel, items_of, item_at, no_item, buffer_at, past_end, buffer_item, shares, shares_with_first, is_off_page, most_place, memory_within, item_questions, all_within, table_within}
 use Rattle.buffer_table.specs.{declared.buffer.Buffer.Buffer, declared.buffer.Regions.Regions, declared.item.Item.Item}
 use Rattle.buffer_table.specs.Sound.{IsSoundItem, IsSound, IsSoundBuffer, AreApart}
@@ -12,7 +12,7 @@ use Rattle.buffer_table.specs.Sound.{IsSoundItem, IsSound, IsSoundBuffer, AreApa
 pub sound_item : (memory : ℕ) (items : List Item) (k : ℕ) → first_of (item_questions memory items k) ≡ None → IsSoundItem memory (item_at items k)
 unfolding item_questions is_off_page
 sound_item memory items k none =
-    let asked = none_stands (item_questions memory items k) none in
+    let asked = none_broken (item_questions memory items k) none in
     record { place = grind (arith, asked.0); size = grind (arith, asked.0); not_empty = grind (arith, asked.0); inside = grind (arith, asked.1.0); content = grind (arith, asked.1.1.1.0) }
 
 -- one that passes M2 has a byte
@@ -32,14 +32,14 @@ apart_of memory x y none sound_x sound_y =
 -- An item that passes M4 has no byte of an earlier one.
 pub apart_item : (memory : ℕ) (items : List Item) (k : ℕ) → first_of (item_questions memory items k) ≡ None → shares_with_first (item_at items k) items k ≡ false
 unfolding item_questions
-apart_item memory items k none = let asked = none_stands (item_questions memory items k) none in grind (arith, asked.1.1.0)
+apart_item memory items k none = let asked = none_broken (item_questions memory items k) none in grind (arith, asked.1.1.0)
 
 -- Of an item that passes M4, every earlier one is apart.
 apart_items : (memory : ℕ) (items : List Item) (j k : ℕ) → first_of (item_questions memory items k) ≡ None → j < k → k < length items
     → shares (item_at items k) (item_at items j) ≡ false
 unfolding item_questions
 apart_items memory items j k none before inside =
-    let asked = none_stands (item_questions memory items k) none in
+    let asked = none_broken (item_questions memory items k) none in
     grind (arith, common_steps, asked.1.1.0, list_any_at (shares (item_at items k)) (take k items) j no_item, get_or-take k items j no_item)
 
 -- A memory that passes M1.
@@ -47,14 +47,14 @@ pub memory_limit : (limit memory : ℕ) (r : Regions) (buffers : List Buffer) �
 unfolding all_within memory_within
 memory_limit limit memory r buffers none =
     let items : List Item = items_of r buffers in
-    let first = none_stands (memory_within limit memory) (front_none (memory_within limit memory) (each (item_questions memory items) 0 (length items)) none) in
+    let first = none_broken (memory_within limit memory) (front_none (memory_within limit memory) (each (item_questions memory items) 0 (length items)) none) in
     grind (arith, first.0)
 
 pub sound_within : (limit memory : ℕ) (r : Regions) (buffers : List Buffer) → limit ≤ most_place → first_of (table_within limit memory r buffers) ≡ None → IsSound memory r buffers
 unfolding all_within memory_within
 sound_within limit memory r buffers low none =
     let items : List Item = items_of r buffers in
-    let first = none_stands (memory_within limit memory) (front_none (memory_within limit memory) (each (item_questions memory items) 0 (length items)) none) in
+    let first = none_broken (memory_within limit memory) (front_none (memory_within limit memory) (each (item_questions memory items) 0 (length items)) none) in
     let rest = rest_none (memory_within limit memory) (each (item_questions memory items) 0 (length items)) none in
     let at : (k : ℕ) → k < length items → first_of (item_questions memory items k) ≡ None = λ k below. each_none (item_questions memory items) 0 (length items) k rest (omega arith) (omega (arith, below)) in
     let good : (k : ℕ) → k < length items → IsSoundItem memory (item_at items k) = λ k below. sound_item memory items k (at k below) in
@@ -67,7 +67,7 @@ sound_within limit memory r buffers low none =
           apart_of memory (item_at items j) (item_at items k) (apart_items memory items j k (at k below) before below) (good j (omega arith)) (good k below);
     }
 
--- The same where the buffers are told by another name.
+-- A sound table, where the buffers have another name.
 pub sound_copy : (limit memory : ℕ) (r : Regions) (buffers copy : List Buffer) → limit ≤ most_place → first_of (table_within limit memory r buffers) ≡ None → copy ≡ buffers → IsSound memory r copy
 sound_copy limit memory r buffers copy low none same = subst (IsSound memory r) (sym same) (sound_within limit memory r buffers low none)
 

@@ -21,7 +21,7 @@ AreNumbersOf t handles = (i : ℕ) → i < length handles → slice_index handle
 abbrev pub IsNamed : TableModel → List ℕ → ℕ → Type 0
 IsNamed t handles i = (i < length handles) × (slice_index handles i < length t.buffers)
 
--- it names a Plain buffer, or a Code buffer
+-- it names a data buffer, or a Code buffer
 abbrev pub IsData : TableModel → List ℕ → ℕ → Type 0
 IsData t handles i = IsNamed t handles i × ((buffer_at t.buffers (slice_index handles i)).kind ≡ Plain)
 

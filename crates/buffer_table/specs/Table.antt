@@ -102,12 +102,12 @@ table_questions = table_within most_memory
 abbrev pub IsUpTo : TableFault → TableFault → Type 0
 IsUpTo one other = NotAfter (one.item, one.number) (other.item, other.number)
 
--- The first rule of a table that stands is the least of all that do.
+-- The first broken rule of a table is the least of all that are.
 abbrev pub FirstIsLeast : Type 0
 FirstIsLeast = (limit memory : ℕ) (r : Regions) (buffers : List Buffer) (fault : TableFault) → first_of (table_within limit memory r buffers) ≡ Some fault
     → IsLeast IsUpTo (table_within limit memory r buffers) fault
 
--- the entry of a buffer; past the end an entry of no bytes that is no Plain buffer
+-- the entry of a buffer; past the end an entry of no bytes that is no data buffer
 abbrev pub past_end : Buffer
 past_end = record { place = 0; size = 0; client = 0; kind = Code; content = 0 }
 

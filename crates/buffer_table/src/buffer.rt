@@ -66,7 +66,7 @@ impl TableRule {
     }
 }
 
-/// The first memory rule that stands: M`number` at `item`. Items are 0 the memory, 1 the lists'
+/// The first broken memory rule: M`number` at `item`. Items are 0 the memory, 1 the lists'
 /// region, 2 the tile region, and 3 + b buffer b.
 #[derive(Clone, Copy, Debug, PartialEq, Eq, Error)]
 #[error("M{number} at item {item} of the memory table")]

@@ -39,7 +39,7 @@ fn handle_fault(table: &Table, client: u32, numbers: &[u32], index: usize) -> Op
     None
 }
 
-/// The first handle at which H1 stands.
+/// The first handle at which H1 is broken.
 fn handles_fault(table: &Table, client: u32, numbers: &[u32]) -> Option<u32>
     requires few { length numbers.now ≤ 1024 }
     ensures { result ≡ first_of (handles_questions table.now client numbers.now) }
@@ -53,7 +53,7 @@ fn handles_fault(table: &Table, client: u32, numbers: &[u32]) -> Option<u32>
 }
 
 impl<'a> Handles<'a> {
-    /// The handles of a job of `client`, which are lent. The fault is the least index at which H1 stands: the
+    /// The handles of a job of `client`, which are lent. The fault is the least index at which H1 is broken: the
     /// number is no buffer's, or the buffer belongs to another client. No memory is taken.
     pub fn make(
         _alloc: Global,
@@ -75,8 +75,8 @@ impl<'a> Handles<'a> {
     }
 }
 
-/// The number of the Plain buffer that a handle names. `None` comes exactly where `index` is
-/// outside the handles or the buffer isn't Plain.
+/// The number of the data buffer that a handle names. `None` comes exactly where `index` is
+/// outside the handles or the buffer is no data buffer.
 #[tactic(auto, unfolding(crate::specs::Handles::data_of))]
 pub fn use_data(table: &Table, handles: &Handles, index: u32) -> Option<usize>
     requires made { AreNumbersOf table.now handles.now }

@@ -14,7 +14,7 @@ use std::marker::Model;
 /// The greatest limit of a memory, in bytes: all that is added to a place below it stays below 2^32.
 pub const MOST_PLACE: u32 = 0xff00_0000;
 
-/// The memory of a job, with its regions and buffers, of which no memory rule stands: all of
+/// The memory of a job, with its regions and buffers, of which no memory rule is broken: all of
 /// them are made of whole pages inside the memory, and no two have a byte in common.
 #[derive(Drop)]
 pub struct Table<'a> {
@@ -108,7 +108,7 @@ impl<'a> Table<'a> {
     }
 }
 
-/// The first memory rule that stands is the least of all that stand, by item and then by number.
+/// The first broken memory rule is the least of all that are broken, by item and then by number.
 pub fn first_fault_is_least()
     ensures { FirstIsLeast }
 {}

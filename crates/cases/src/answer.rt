@@ -3,7 +3,7 @@ use entry::{Ended, Program};
 use job_io::{SteadySource, WriterSink};
 use std::alloc::{AllocError, Global};
 
-/// How a run ended, what it wrote, and what a person was told.
+/// How a run ended, what it wrote, and what a person read.
 #[derive(Drop)]
 pub struct Outcome {
     pub status: u8,

@@ -60,7 +60,7 @@ impl Case {
         )
     }
 
-    /// The same of a line that says what is asked.
+    /// Whether the line says what is asked, which is then read.
     fn read_input<P: Program>(
         &mut self,
         rt: &HostRuntime,
@@ -100,7 +100,7 @@ impl Case {
         Ok(true)
     }
 
-    /// The same of a line that says what is answered.
+    /// Whether the line says what is answered, which is then read.
     fn read_wanted<P: Program>(
         &mut self,
         alloc: Global,
@@ -164,11 +164,11 @@ impl Case {
         };
         let input = self.input.to_vec(alloc)?;
         let got = answer(alloc, program, words.as_str(), input)?;
-        let told = match &self.notice {
+        let is_noticed = match &self.notice {
             Some(notice) => notice.as_str() == got.notice.as_str(),
             None => true,
         };
-        let same = told && got.status == self.status && self.is_output(alloc, &got.output)?;
+        let same = is_noticed && got.status == self.status && self.is_output(alloc, &got.output)?;
         Ok(if same { None } else { Some(got) })
     }
 }

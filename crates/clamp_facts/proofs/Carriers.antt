@@ -5,7 +5,7 @@ use Rattle.qpu_isa.specs.Terms.{names, sets_alone, is_accumulator, is_load_imm, 
 use Rattle.qpu_isa.specs.declared.inst.Reg.{Reg}
 use Rattle.shader_flow.specs.{Bounded.some_in, Flow.word, Flow.checked_of, Flow.is_target, Pending.count_of}
 use Rattle.shader_flow.proofs.Bounded.{some_in_none, some_in_not, last_below_one, last_below_found}
-use Rattle.clamp_facts.specs.Facts.{sets, stays, switches_between, maker_of, is_delayed, carries, if_readable, carrier_of, makes_clamp, made, fact_made, fact_by, fact_at, is_max_at, is_not_negative}
+use Rattle.clamp_facts.specs.Facts.{sets, stays, switches_between, maker_of, is_delayed, carries, if_readable, carrier_of, makes_clamp, fact_of_write, fact_made, fact_by, fact_at, is_max_at, is_not_negative}
 use Rattle.clamp_facts.specs.{declared.fact.Fact.TheVariants.Nothing, Readings.is_from_zero, Readings.value_in}
 use Rattle.clamp_facts.specs.Upkeep.{IsLastNaming, IsCarrier}
 
@@ -141,7 +141,7 @@ pub fact_none : (code : List ℕ) (i : ℕ) (reg : Reg) → None ≡ carrier_of 
 unfolding fact_at
 fact_none code i reg is = ap (fact_by code) (sym is)
 
-pub fact_some : (code : List ℕ) (j i : ℕ) (reg : Reg) → Some j ≡ carrier_of code i reg → fact_at code i reg ≡ made code j
+pub fact_some : (code : List ℕ) (j i : ℕ) (reg : Reg) → Some j ≡ carrier_of code i reg → fact_at code i reg ≡ fact_of_write code j
 unfolding fact_at
 fact_some code j i reg is = ap (fact_by code) (sym is)
 
@@ -163,12 +163,12 @@ zero_made None true clamp k at apart = refl
 zero_made None false true k at apart = refl
 zero_made None false false k at apart = refl
 
-pub value_of_made : (code : List ℕ) (j : ℕ) → value_in (made code j) ≡ loaded_value (word code j)
-unfolding made
+pub value_of_made : (code : List ℕ) (j : ℕ) → value_in (fact_of_write code j) ≡ loaded_value (word code j)
+unfolding fact_of_write
 value_of_made code j = value_made (loaded_value (word code j)) (is_max_with_zero (word code j)) (makes_clamp code j) (count_of code j) j
 
-pub zero_of_made : (code : List ℕ) (j : ℕ) → is_from_zero (made code j) ≡ is_max_with_zero (word code j)
-unfolding made
+pub zero_of_made : (code : List ℕ) (j : ℕ) → is_from_zero (fact_of_write code j) ≡ is_max_with_zero (word code j)
+unfolding fact_of_write
 zero_of_made code j =
     zero_made (loaded_value (word code j)) (is_max_with_zero (word code j)) (makes_clamp code j) (count_of code j) j
     (λ value loads. load_or_max (word code j) value loads)

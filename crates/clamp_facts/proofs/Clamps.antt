@@ -2,7 +2,7 @@
 use Rattle.std.proofs.Common.{◌≡◌, ℕ, Bool, true, false, ◌&&◌, List, Option, Some, None, refl, sym, ap, subst, ◌∙◌, nat_lt}
 use Rattle.std.proofs.lemmas.Bool.{and_parts, and_from, true≢false, lt-ltb, ltb-true, false_from_ne_true}
 use Rattle.std.proofs.{Common.arith, lemmas.Bool.Decides.nat_tests}
-use Rattle.clamp_facts.specs.Facts.{carries, carrier_of, clamps, makes_clamp, is_not_negative, made, fact_made, fact_by, fact_at, is_clamped}
+use Rattle.clamp_facts.specs.Facts.{carries, carrier_of, clamps, makes_clamp, is_not_negative, fact_of_write, fact_made, fact_by, fact_at, is_clamped}
 use Rattle.clamp_facts.specs.{declared.fact.Fact.TheVariants.Clamped, Readings.clamp_in, Readings.has_bound, Upkeep.IsCarrier}
 use Rattle.qpu_isa.specs.Terms.{first_register, passes, is_alu, is_load_imm, has_small, loaded_value, is_max_with_zero, is_min_with_uniform}
 use Rattle.qpu_isa.specs.declared.inst.Reg.{Reg}
@@ -52,15 +52,15 @@ pub clamp_min : (code : List ℕ) (j : ℕ) → makes_clamp code j ≡ true → 
 unfolding makes_clamp
 clamp_min code j clamp = (and_parts (is_min_with_uniform (word code j)) (passes (first_register (word code j)) (is_not_negative code j)) clamp).0
 
-pub made_clamp : (code : List ℕ) (j : ℕ) → makes_clamp code j ≡ true → made code j ≡ Clamped (count_of code j) j
-unfolding made
+pub made_clamp : (code : List ℕ) (j : ℕ) → makes_clamp code j ≡ true → fact_of_write code j ≡ Clamped (count_of code j) j
+unfolding fact_of_write
 made_clamp code j clamp =
     let alone = min_alone (word code j) (clamp_min code j clamp) in
     ap (λ o. fact_made o (is_max_with_zero (word code j)) (makes_clamp code j) (count_of code j) j) alone.0
     ∙ (ap (λ b. fact_made None b (makes_clamp code j) (count_of code j) j) alone.1
     ∙ ap (λ b. fact_made None false b (count_of code j) j) clamp)
 
-pub clamp_of_made : (code : List ℕ) (j : ℕ) → makes_clamp code j ≡ true → clamp_in (made code j) ≡ Some j
+pub clamp_of_made : (code : List ℕ) (j : ℕ) → makes_clamp code j ≡ true → clamp_in (fact_of_write code j) ≡ Some j
 clamp_of_made code j clamp = ap clamp_in (made_clamp code j clamp)
 
 pub no_clamp : (loaded : Option ℕ) (max : Bool) (k at : ℕ) → clamp_in (fact_made loaded max false k at) ≡ None
@@ -68,8 +68,8 @@ no_clamp (Some value) max k at = refl
 no_clamp None true k at = refl
 no_clamp None false k at = refl
 
-pub no_clamp_made : (code : List ℕ) (j : ℕ) → makes_clamp code j ≡ false → clamp_in (made code j) ≡ None
-unfolding made
+pub no_clamp_made : (code : List ℕ) (j : ℕ) → makes_clamp code j ≡ false → clamp_in (fact_of_write code j) ≡ None
+unfolding fact_of_write
 no_clamp_made code j none =
     ap (λ b. clamp_in (fact_made (loaded_value (word code j)) (is_max_with_zero (word code j)) b (count_of code j) j)) none
     ∙ no_clamp (loaded_value (word code j)) (is_max_with_zero (word code j)) (count_of code j) j
@@ -82,8 +82,8 @@ bound_by None true clamp k at bound = cc
 bound_by None false true k at bound = (refl, refl)
 bound_by None false false k at bound = cc
 
-pub bound_made : (code : List ℕ) (j : ℕ) → has_bound (made code j) ≡ true → (makes_clamp code j ≡ true) × (made code j ≡ Clamped (count_of code j) j)
-unfolding made
+pub bound_made : (code : List ℕ) (j : ℕ) → has_bound (fact_of_write code j) ≡ true → (makes_clamp code j ≡ true) × (fact_of_write code j ≡ Clamped (count_of code j) j)
+unfolding fact_of_write
 bound_made code j bound = bound_by (loaded_value (word code j)) (is_max_with_zero (word code j)) (makes_clamp code j) (count_of code j) j bound
 
 pub bound_found : (code : List ℕ) (i : ℕ) (reg : Reg) (o : Option ℕ) → carrier_of code i reg ≡ o → has_bound (fact_by code o) ≡ true

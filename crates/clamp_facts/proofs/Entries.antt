@@ -6,15 +6,15 @@ use Rattle.field_words.specs.Sizes.{most_words}
 use Rattle.qpu_isa.specs.Terms.{is_branch, names, add_names_reg, mul_names_reg, add_names, mul_names, sets_alone, is_accumulator, is_add_packed, is_switch}
 use Rattle.qpu_isa.specs.{declared.inst.Reg.Reg, Word.ws_of, Word.waddr_add_of, Word.waddr_mul_of, Word.cond_add_of}
 use Rattle.qpu_isa.specs.declared.inst.Reg.TheVariants.{A, B, Acc}
-use Rattle.qpu_isa.specs.Told.{IsRegister, is_named}
+use Rattle.qpu_isa.specs.Report.{IsRegister, is_named}
 use Rattle.shader_flow.specs.{Bounded.is_back, Flow.word, Flow.checked_of, Flow.is_target}
-use Rattle.clamp_facts.specs.Facts.{sets, maker_of, made, fact_at, fact_by, carrier_of, if_readable, is_delayed}
-use Rattle.clamp_facts.specs.Table.{Table, no_entry, entry_of, with_entry, blank_table, without_accumulators, seen}
+use Rattle.clamp_facts.specs.Facts.{sets, maker_of, fact_of_write, fact_at, fact_by, carrier_of, if_readable, is_delayed}
+use Rattle.clamp_facts.specs.Table.{Table, no_entry, entry_of, with_entry, blank_table, without_accumulators, fact_seen}
 use Rattle.clamp_facts.specs.Upkeep.{Keeps, IsTableOf, register_at, add_register, mul_register, setter, maker_added, maker_written}
 use Rattle.clamp_facts.specs.{declared.fact.Fact.Fact, declared.fact.Fact.TheVariants.Nothing, declared.fact.Entry.Entry}
 use Rattle.clamp_facts.proofs.Keeping.{is_cut, maker_cut, maker_next}
 
--- the same register
+-- whether both are one register
 abbrev pub same_reg : Reg → Reg → Bool
 same_reg (A m) (A n) = m == n
 same_reg (A m) (B n) = false
@@ -198,7 +198,7 @@ pub sets_inside : (code : List ℕ) (at : ℕ) (reg : Reg) → at < checked_of c
 unfolding sets
 sets_inside code at reg inside = ap (λ b. b && sets_alone (word code at) reg) (lt-ltb at (checked_of code) inside)
 
-pub setter_keeps : (code : List ℕ) (at : ℕ) (reg : Reg) (fact put : Fact) → at < checked_of code → fact ≡ made code at
+pub setter_keeps : (code : List ℕ) (at : ℕ) (reg : Reg) (fact put : Fact) → at < checked_of code → fact ≡ fact_of_write code at
     → put ≡ (if sets_alone (word code at) reg then fact else Nothing) → Keeps code (setter code at reg) (record { fact = put; place = at })
 setter_keeps code at reg fact put inside fact-is put-is =
     elim (cases_Bool (sets_alone (word code at) reg)) [
@@ -223,7 +223,7 @@ same_self (A m) = eq_self m
 same_self (B m) = eq_self m
 same_self (Acc m) = eq_self m
 
-pub add_keeps : (code : List ℕ) (at : ℕ) (r : Reg) (fact put : Fact) (t : Table) → at < checked_of code → fact ≡ made code at
+pub add_keeps : (code : List ℕ) (at : ℕ) (r : Reg) (fact put : Fact) (t : Table) → at < checked_of code → fact ≡ fact_of_write code at
     → Some r ≡ add_register (word code at) → IsRegister r → put ≡ (if sets_alone (word code at) r then fact else Nothing)
     → IsTableOf code (maker_of code at) t → IsTableOf code (maker_added code at) (with_entry t r (record { fact = put; place = at }))
 add_keeps code at r fact put t inside fact-is named small put-is is =
@@ -329,8 +329,8 @@ quiet_keeps code at t none quiet is =
     ∙ and_right (is_accumulator reg) (is_back at 2 (λ k. is_switch (word code k))) quiet))
 
 -- what an entry says is what is known
-pub seen_by : (code : List ℕ) (at : ℕ) (reg : Reg) (o : Option ℕ) (e : Entry) → Keeps code o e → seen e at reg ≡ fact_by code (if_readable at reg o)
-unfolding seen
+pub seen_by : (code : List ℕ) (at : ℕ) (reg : Reg) (o : Option ℕ) (e : Entry) → Keeps code o e → fact_seen e at reg ≡ fact_by code (if_readable at reg o)
+unfolding fact_seen
 seen_by code at reg None e none =
     elim (cases_Bool (is_delayed e.place at reg)) [
       | inl late ↦ ap (λ b. if b then Nothing else e.fact) late
@@ -346,6 +346,6 @@ seen_by code at reg (Some j) e is =
           ∙ sym (ap (λ b. fact_by code (if b then None else Some j)) ready)))
     ]
 
-pub seen_is : (code : List ℕ) (at : ℕ) (reg : Reg) (t : Table) → IsRegister reg → IsTableOf code (maker_of code at) t → seen (entry_of t reg) at reg ≡ fact_at code at reg
+pub seen_is : (code : List ℕ) (at : ℕ) (reg : Reg) (t : Table) → IsRegister reg → IsTableOf code (maker_of code at) t → fact_seen (entry_of t reg) at reg ≡ fact_at code at reg
 unfolding fact_at carrier_of
 seen_is code at reg t small is = seen_by code at reg (maker_of code at reg) (entry_of t reg) (is.each reg small)

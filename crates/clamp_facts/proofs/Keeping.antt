@@ -7,7 +7,7 @@ use Rattle.shader_flow.proofs.Bounded.{some_below-suc, some_below_here, some_bel
 use Rattle.clamp_facts.specs.{Facts.sets, Facts.stays, Facts.switches_between, Facts.maker_of, Upkeep.setter, Upkeep.maker_written}
 use Rattle.clamp_facts.proofs.Carriers.{sets_names}
 
--- what stands in the register can't be told past the instruction at i
+-- what stands in the register can't be known past the instruction at i
 unfoldable pub is_cut : List ℕ → Reg → ℕ → Bool
 is_cut code reg i = is_target code (i + 1) || (is_accumulator reg && is_back i 2 (λ k. is_switch (word code k)))
 

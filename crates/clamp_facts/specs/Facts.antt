@@ -61,12 +61,12 @@ fact_made None true clamp k at = NotNegative
 fact_made None false true k at = Clamped k at
 fact_made None false false k at = Nothing
 
-unfoldable pub made : List ℕ → ℕ → Fact
-made code j = fact_made (loaded_value (word code j)) (is_max_with_zero (word code j)) (makes_clamp code j) (count_of code j) j
+unfoldable pub fact_of_write : List ℕ → ℕ → Fact
+fact_of_write code j = fact_made (loaded_value (word code j)) (is_max_with_zero (word code j)) (makes_clamp code j) (count_of code j) j
 
 abbrev pub fact_by : List ℕ → Option ℕ → Fact
 fact_by code None = Nothing
-fact_by code (Some j) = made code j
+fact_by code (Some j) = fact_of_write code j
 
 -- What is known of the register at i. The facts that the rules ask for are readings of it.
 unfoldable pub fact_at : List ℕ → ℕ → Reg → Fact

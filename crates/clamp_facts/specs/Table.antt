@@ -31,5 +31,5 @@ abbrev pub without_accumulators : Table → Table
 without_accumulators table = record table { acc = replicate 4 no_entry }
 
 -- what an entry says at an index: of a file register, nothing yet in the instruction after it was put
-unfoldable pub seen : Entry → ℕ → Reg → Fact
-seen entry at reg = if is_delayed entry.place at reg then Nothing else entry.fact
+unfoldable pub fact_seen : Entry → ℕ → Reg → Fact
+fact_seen entry at reg = if is_delayed entry.place at reg then Nothing else entry.fact

@@ -1,16 +1,16 @@
 -- How the walk keeps the table, and how the searches look back. No part of what the crate claims.
 use Rattle.std.specs.Prelude.{◌≡◌, ◌≤◌, ◌<◌, ℕ, ◌-◌, Bool, true, false, not, List, length, nat_lt, if◌then◌else◌, Option, None, Some}
 use Rattle.field_words.specs.Sizes.{most_words}
-use Rattle.qpu_isa.specs.{declared.inst.Reg.Reg, Word.ws_of, Word.waddr_add_of, Word.waddr_mul_of, Told.IsRegister, Terms.is_branch, Terms.names, Terms.add_names_reg}
+use Rattle.qpu_isa.specs.{declared.inst.Reg.Reg, Word.ws_of, Word.waddr_add_of, Word.waddr_mul_of, Report.IsRegister, Terms.is_branch, Terms.names, Terms.add_names_reg}
 use Rattle.qpu_isa.specs.declared.inst.Reg.TheVariants.{A, B, Acc}
 use Rattle.shader_flow.specs.{Flow.word, Pending.count_of}
 use Rattle.clamp_facts.specs.{declared.fact.Fact.TheVariants.Nothing, declared.fact.Entry.Entry}
-use Rattle.clamp_facts.specs.{Facts.sets, Facts.maker_of, Facts.made, Facts.carries, Table.Table, Table.entry_of}
+use Rattle.clamp_facts.specs.{Facts.sets, Facts.maker_of, Facts.fact_of_write, Facts.carries, Table.Table, Table.entry_of}
 
 -- an entry for what an instruction made, or for what none made
 abbrev pub Keeps : List ℕ → Option ℕ → Entry → Type 0
 Keeps code None entry = entry.fact ≡ Nothing
-Keeps code (Some j) entry = (entry.fact ≡ made code j) × (entry.place ≡ j)
+Keeps code (Some j) entry = (entry.fact ≡ fact_of_write code j) × (entry.place ≡ j)
 
 -- the table has an entry for each register, by whom made what stands in it, in a shader of at most 8,192 words
 pub record IsTableOf (code : List ℕ) (makers : Reg → Option ℕ) (table : Table) : Type 0 where

@@ -1,6 +1,6 @@
 //! What is known at an instruction.
 ghost use Rattle.std.specs.Prelude.{◌≡◌, ◌+◌};
-ghost use Rattle.qpu_isa.specs.Told.{IsRegister};
+ghost use Rattle.qpu_isa.specs.Report.{IsRegister};
 ghost use Rattle.shader_flow.specs.Flow.{word};
 ghost use Rattle.clamp_facts.specs.Facts.{fact_at};
 

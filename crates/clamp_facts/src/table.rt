@@ -1,8 +1,8 @@
 //! The table of facts.
 ghost use Rattle.std.specs.Prelude.{◌≡◌, ◌<◌, ◌≤◌, ◌+◌};
 ghost use Rattle.field_words.specs.Sizes.{most_words};
-ghost use Rattle.qpu_isa.specs.Told.{IsRegister};
-ghost use Rattle.clamp_facts.specs.Table.{Table, entry_of, with_entry, seen, blank_table, without_accumulators};
+ghost use Rattle.qpu_isa.specs.Report.{IsRegister};
+ghost use Rattle.clamp_facts.specs.Table.{Table, entry_of, with_entry, fact_seen, blank_table, without_accumulators};
 ghost use Rattle.clamp_facts.specs.Facts.{is_delayed};
 
 use crate::fact::{Entry, Fact};
@@ -41,9 +41,9 @@ fn is_delayed(place: u32, at: u32, reg: Reg) -> bool
 }
 
 // What an entry says at `at`.
-#[tactic(auto, unfolding(crate::specs::Table::seen))]
+#[tactic(auto, unfolding(crate::specs::Table::fact_seen))]
 fn seen(entry: Entry, at: u32, reg: Reg) -> Fact
-    ensures { result ≡ seen entry at reg }
+    ensures { result ≡ fact_seen entry at reg }
 {
     if is_delayed(entry.place, at, reg) {
         return Fact::Nothing;
@@ -68,7 +68,7 @@ impl FactTable {
     pub fn get<L: Ledger>(&self, reg: Reg, at: u32, steps: &mut Steps<L>) -> Fact
         requires register { IsRegister reg }
         requires place { at ≤ most_words }
-        ensures fact { result ≡ seen (entry_of self.now reg) at reg }
+        ensures fact { result ≡ fact_seen (entry_of self.now reg) at reg }
         ensures steps { steps.new ≡ steps.old + 1 }
     {
         steps.tick();

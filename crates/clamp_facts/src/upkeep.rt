@@ -1,11 +1,11 @@
 //! Keeping the table on the way up a shader.
 ghost use Rattle.std.specs.Prelude.{◌≡◌, ◌<◌, ◌≤◌, ◌+◌, length, IfSome, if◌then◌else◌};
 ghost use Rattle.qpu_isa.specs.Terms.{is_switch, sets_alone};
-ghost use Rattle.qpu_isa.specs.Told.{IsRegister};
+ghost use Rattle.qpu_isa.specs.Report.{IsRegister};
 ghost use Rattle.shader_flow.specs.Bounded.{is_back};
 ghost use Rattle.shader_flow.specs.Flow.{word, checked_of, IsFlow};
 ghost use Rattle.shader_flow.specs.Pending.{count_of};
-ghost use Rattle.clamp_facts.specs.{Facts.maker_of, Facts.makes_clamp, Facts.made, declared.fact.Fact.TheVariants.Nothing};
+ghost use Rattle.clamp_facts.specs.{Facts.maker_of, Facts.makes_clamp, Facts.fact_of_write, declared.fact.Fact.TheVariants.Nothing};
 ghost use Rattle.clamp_facts.specs.Upkeep.{IsTableOf, register_at, add_register, mul_register, maker_added, maker_written};
 
 use crate::fact::Fact;
@@ -35,9 +35,9 @@ fn is_clamp<L: Ledger>(known: &Known, steps: &mut Steps<L>) -> bool
 }
 
 // The fact that the instruction makes of the register that it sets.
-#[tactic(auto, unfolding(crate::specs::Facts::made))]
+#[tactic(auto, unfolding(crate::specs::Facts::fact_of_write))]
 fn fact_made<L: Ledger>(known: &Known, steps: &mut Steps<L>) -> Fact
-    ensures value { result ≡ made known.now.code known.now.at }
+    ensures value { result ≡ fact_of_write known.now.code known.now.at }
     ensures steps { steps.new ≤ steps.old + 1 }
 {
     let word = known.word();
@@ -103,7 +103,7 @@ fn mul_register(word: u64) -> Option<Reg>
 fn fact_set<L: Ledger>(known: &Known, reg: Reg, steps: &mut Steps<L>) -> Fact
     requires register { IsRegister reg }
     ensures value { result ≡ (if sets_alone (word known.now.code known.now.at) reg
-        then made known.now.code known.now.at else Nothing) }
+        then fact_of_write known.now.code known.now.at else Nothing) }
     ensures steps { steps.new ≤ steps.old + 1 }
 {
     if sets_alone(known.word(), reg) {

@@ -12,7 +12,7 @@ use Rattle.commands.specs.{Answer.text_of, Verdict.image_of, Verdict.IsVerdict, 
 pub image_answers : (bytes text : List ℕ) → refusal_of bytes ≡ None → IsFileOf bytes (file_at bytes) → text ≡ image_of (file_at bytes) → IsCheckAnswer bytes 0 text
 image_answers bytes text none is shown = subst (λ refusal. IsVerdict bytes (all_questions bytes) refusal (λ f out. out ≡ image_of f) 0 text) (sym none) (refl, shown, is)
 
--- The example has one job, of which the lengths are told.
+-- The example has one job, of which the lengths are reported.
 pub some_lengths : (number : ℕ) (bytes memory : List ℕ) (layouts : List Layout) (lengths : List Lengths) → IsFileOf bytes (example number)
     → IsEmitted (file_at bytes) memory layouts lengths → 1 ≤ length lengths
 some_lengths number bytes memory layouts lengths is emitted =
@@ -20,10 +20,10 @@ some_lengths number bytes memory layouts lengths is emitted =
     let long : length lengths ≡ length (example number).jobs = ap length emitted.lengths_are ∙ as_many_lengths (file_at bytes) ∙ ap (λ f. length f.jobs) same in
     subst (λ n. 1 ≤ n) (sym long) is.well_formed.some_job
 
-example_told : (number : ℕ) (bytes memory : List ℕ) (layouts : List Layout) (lengths : List Lengths) (none : Lengths) → IsFileOf bytes (example number)
+example_reported : (number : ℕ) (bytes memory : List ℕ) (layouts : List Layout) (lengths : List Lengths) (none : Lengths) → IsFileOf bytes (example number)
     → IsEmitted (file_at bytes) memory layouts lengths → example_text number (length bytes) memory (get_or lengths 0 none) ≡ text_of number (example number)
 unfolding text_of
-example_told number bytes memory layouts lengths none is emitted =
+example_reported number bytes memory layouts lengths none is emitted =
     let f = example number in
     let same = (read_again bytes f is).1 in
     let one = get_or lengths 0 none in
@@ -33,5 +33,5 @@ example_told number bytes memory layouts lengths none is emitted =
 
 pub example_answered : (number : ℕ) (bytes memory : List ℕ) (layouts : List Layout) (lengths : List Lengths) (none one : Lengths) (text : List ℕ) → IsFileOf bytes (example number)
     → IsEmitted (file_at bytes) memory layouts lengths → one ≡ get_or lengths 0 none → text ≡ example_text number (length bytes) memory one → text ≡ text_of number (example number)
-example_answered number bytes memory layouts lengths none one text is emitted first told =
-    told ∙ ap (example_text number (length bytes) memory) first ∙ example_told number bytes memory layouts lengths none is emitted
+example_answered number bytes memory layouts lengths none one text is emitted first report =
+    report ∙ ap (example_text number (length bytes) memory) first ∙ example_reported number bytes memory layouts lengths none is emitted

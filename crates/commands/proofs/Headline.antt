@@ -9,7 +9,7 @@ use Rattle.job_safety.proofs.Safety.{may_run}
 use Rattle.commands.specs.{declared.command.Command.Command, declared.command.Command.TheVariants.Check, declared.command.Command.TheVariants.StrictCheck, Headline.IsSafelyAccepted}
 use Rattle.commands.specs.{Verdict.image_of, Verdict.IsVerdict, Answer.IsAnswer, Run.IsAnswered}
 
--- status 0 comes only where no rule stands
+-- status 0 comes only where no rule is broken
 by_verdict : (bytes : List ℕ) (found : Option Refusal) (status : ℕ) (text : List ℕ) (before now : Option (List ℕ)) → refusal_of bytes ≡ found → status ≡ 0
     → IsVerdict bytes (all_questions bytes) found (λ f out. out ≡ image_of f) status text → Appends before now text → IsSafelyAccepted bytes before now
 unfolding image_of
@@ -20,7 +20,7 @@ by_verdict bytes (Some refusal) status text before now some zero (is_one, text_i
 by_check : (bytes : List ℕ) (status : ℕ) (before now : Option (List ℕ)) → status ≡ 0 → IsAnswered (IsAnswer Check bytes) status before now → IsSafelyAccepted bytes before now
 by_check bytes status before now zero (text, answer, appends) = by_verdict bytes (refusal_of bytes) status text before now refl zero answer appends
 
--- the same where the strict rules are asked too
+-- it comes only where no rule is broken also where the strict rules are asked too
 strict_none : (bytes : List ℕ) → strict_refusal_of bytes ≡ None → refusal_of bytes ≡ None
 unfolding strict_refusal_of strict_questions refusal_of
 strict_none bytes none = front_none (all_questions bytes) (strict_stages (file_at bytes)) none

@@ -2,7 +2,7 @@
 use Rattle.std.proofs.Common.{◌≡◌, ℕ, zero, suc, ◌+◌, ◌-◌, ◌/◌, ◌%◌, ◌<◌, ◌≤◌, inl, inr, List, [], ◌∷◌, ◌++◌, length, take, drop, drop-cons, length-append, get_or, map, refl, sym, ap, subst, ◌∙◌, append-nil, arith}
 use Rattle.std.proofs.lemmas.List.{length-map}
 use Rattle.std.specs.Prelude.{codes}
-use Rattle.field_words.specs.Writes.{Part, zeros, emitted}
+use Rattle.field_words.specs.Writes.{Part, zeros, memory_emitted}
 use Rattle.buffer_table.specs.{declared.buffer.Buffer.Buffer, declared.item.Item.Item, Sound.IsSound, Sound.IsSoundItem, Sound.AreApart}
 use Rattle.buffer_table.specs.Table.{no_buffer, item_at, items_of, lists_item, buffer_item}
 use Rattle.buffer_table.proofs.Sounds.{item_of_entry}
@@ -11,7 +11,7 @@ use Rattle.relocation.specs.{Layout.region_end, declared.layout.Layout.Layout, d
 use Rattle.job_check.specs.{Emit.content_parts, Emit.memory_of, Emit.all_lengths_of, Jobs.layouts_of, Region.region_of, Region.IsRegion}
 use Rattle.job_check.specs.declared.region.Region.{Region}
 use Rattle.job_check.proofs.{Counted.as_many_layouts, Counted.as_many_lengths, Emission.placed-append, Regions.memory_made}
-use Rattle.dumper.specs.Parts.{part_at, part_end, parts_text, inserted, sorted, Ascend, RowsApart, ApartFrom, AllApart}
+use Rattle.dumper.specs.Parts.{part_at, part_end, parts_text, part_inserted, parts_sorted, Ascend, RowsApart, ApartFrom, AllApart}
 use Rattle.dumper.specs.Text.{rows_text, head_text, accepted_text, AreOfVersion}
 use Rattle.dumper.proofs.Sorting.{rows_of_sorted, emitted_long, ascend_sorted, ascend_more}
 use Rattle.commands.specs.{Verdict.image_of, Reply.rest_text}
@@ -119,28 +119,28 @@ file_apart f sound same fits =
 contents_apart : (f : FileModel) → IsSound f.mem_size f.regions f.buffers → Same f → AllApart f.mem_size (content_parts f.buffers f.contents ++ [])
 contents_apart f sound same = all_apart f.mem_size f.buffers f.contents [] (each_buffer f sound) (buffers_apart f sound) (λ k below bytes few. tt) same tt
 
-memory_is : (f : FileModel) (region : Region) → IsSound f.mem_size f.regions f.buffers → Same f → IsRegion f region → emitted f.mem_size (file_parts f) ≡ memory_of f
+memory_is : (f : FileModel) (region : Region) → IsSound f.mem_size f.regions f.buffers → Same f → IsRegion f region → memory_emitted f.mem_size (file_parts f) ≡ memory_of f
 memory_is f region sound same is =
     let contents = content_parts f.buffers f.contents in
-    let long : length (emitted f.mem_size contents) ≡ f.mem_size =
+    let long : length (memory_emitted f.mem_size contents) ≡ f.mem_size =
     emitted_long f.mem_size contents (subst (AllApart f.mem_size) (append-nil contents) (contents_apart f sound same)) in
-    placed-append (zeros f.mem_size) contents (lists_part f ∷ []) ∙ memory_made f (emitted f.mem_size contents) refl long sound same is.fits is.parts_fit
+    placed-append (zeros f.mem_size) contents (lists_part f ∷ []) ∙ memory_made f (memory_emitted f.mem_size contents) refl long sound same is.fits is.parts_fit
 
 -- By ascending place they end inside the memory.
 pub image_ascends : (f : FileModel) (region : Region) (most : ℕ) → IsSound f.mem_size f.regions f.buffers → Same f → IsRegion f region → f.mem_size ≤ most
-    → Ascend 0 most (sorted (file_parts f))
-image_ascends f region most sound same is small = ascend_more 0 f.mem_size most (sorted (file_parts f)) small (ascend_sorted f.mem_size (file_parts f) (file_apart f sound same is.fits))
+    → Ascend 0 most (parts_sorted (file_parts f))
+image_ascends f region most sound same is small = ascend_more 0 f.mem_size most (parts_sorted (file_parts f)) small (ascend_sorted f.mem_size (file_parts f) (file_apart f sound same is.fits))
 
 -- The head and the lines of the parts are the image.
 pub image_made : (f : FileModel) (region : Region) (parts : List Part) (head : List ℕ) → IsSound f.mem_size f.regions f.buffers → Same f → IsRegion f region
-    → parts ≡ sorted (file_parts f) → head ≡ head_text f.version f.mem_size region.layouts.items region.lengths.items → head ++ rest_text parts ≡ image_of f
+    → parts ≡ parts_sorted (file_parts f) → head ≡ head_text f.version f.mem_size region.layouts.items region.lengths.items → head ++ rest_text parts ≡ image_of f
 unfolding image_of accepted_text rest_text
 image_made f region parts head sound same is parts_are head_is =
     let apart = file_apart f sound same is.fits in
     let memory = memory_is f region sound same is in
     let size : length (memory_of f) ≡ f.mem_size = ap length (sym memory) ∙ emitted_long f.mem_size (file_parts f) apart in
     let whole : f.mem_size % 16 ≡ 0 = omega (arith, sound.pages) in
-    let rows : rows_text (memory_of f) 0 (f.mem_size / 16) ≡ parts_text (sorted (file_parts f)) =
+    let rows : rows_text (memory_of f) 0 (f.mem_size / 16) ≡ parts_text (parts_sorted (file_parts f)) =
     ap (λ m. rows_text m 0 (f.mem_size / 16)) (sym memory) ∙ rows_of_sorted f.mem_size (file_parts f) whole apart in
     let layouts = layouts_of f in
     let lengths = all_lengths_of f in
@@ -151,11 +151,11 @@ image_made f region parts head sound same is parts_are head_is =
 
 -- The parts that were put in order are the file's.
 pub parts_ordered : (f : FileModel) (region : Region) (buffers : List Buffer) (parts : List Part) → IsRegion f region → buffers ≡ f.buffers
-    → parts ≡ sorted (content_parts buffers f.contents ++ part_at f.regions.lists_place region.bytes.items ∷ []) → parts ≡ sorted (file_parts f)
+    → parts ≡ parts_sorted (content_parts buffers f.contents ++ part_at f.regions.lists_place region.bytes.items ∷ []) → parts ≡ parts_sorted (file_parts f)
 parts_ordered f region buffers parts is same are =
     are
-    ∙ ap (λ bs. sorted (content_parts bs f.contents ++ part_at f.regions.lists_place region.bytes.items ∷ [])) same
-    ∙ ap (λ bytes. sorted (content_parts f.buffers f.contents ++ part_at f.regions.lists_place bytes ∷ [])) is.bytes_are
+    ∙ ap (λ bs. parts_sorted (content_parts bs f.contents ++ part_at f.regions.lists_place region.bytes.items ∷ [])) same
+    ∙ ap (λ bytes. parts_sorted (content_parts f.buffers f.contents ++ part_at f.regions.lists_place bytes ∷ [])) is.bytes_are
 
 -- of a version that there is, with layouts and lengths for each job
 pub of_version : (f : FileModel) (layouts : List Layout) (lengths : List Lengths) → IsWellFormed f → layouts ≡ layouts_of f → lengths ≡ all_lengths_of f
@@ -198,14 +198,14 @@ last_taken (z ∷ all) (w ∷ old) (y ∷ new) x left is = last_taken all old ne
 
 -- One part more, before those of later buffers.
 pub one_more : {X : Type 0} (f : X → List ℕ) (buffers : List Buffer) (all : List X) (n : ℕ) (d : Buffer) (x : X) (tail parts new : List Part) → n < length buffers
-    → drop n all ≡ x ∷ drop (suc n) all → parts ≡ sorted (content_parts (drop (suc n) buffers) (map f (drop (suc n) all)) ++ tail)
-    → new ≡ inserted (part_at (get_or buffers n d).place (f x)) parts → new ≡ sorted (content_parts (drop n buffers) (map f (drop n all)) ++ tail)
-unfolding content_parts sorted
+    → drop n all ≡ x ∷ drop (suc n) all → parts ≡ parts_sorted (content_parts (drop (suc n) buffers) (map f (drop (suc n) all)) ++ tail)
+    → new ≡ part_inserted (part_at (get_or buffers n d).place (f x)) parts → new ≡ parts_sorted (content_parts (drop n buffers) (map f (drop n all)) ++ tail)
+unfolding content_parts parts_sorted
 one_more f buffers all n d x tail parts new below next are put =
     let here : drop n buffers ≡ get_or buffers n d ∷ drop (suc n) buffers = drop-cons buffers n d below in
-    put ∙ ap (inserted (part_at (get_or buffers n d).place (f x))) are ∙ sym (λ i. sorted (content_parts (here i) (map f (next i)) ++ tail))
+    put ∙ ap (part_inserted (part_at (get_or buffers n d).place (f x))) are ∙ sym (λ i. parts_sorted (content_parts (here i) (map f (next i)) ++ tail))
 
 pub first_part : {X : Type 0} (f : X → List ℕ) (buffers : List Buffer) (all : List X) (n : ℕ) (part : Part) → length buffers ≤ n
-    → inserted part [] ≡ sorted (content_parts (drop n buffers) (map f (drop n all)) ++ part ∷ [])
-unfolding content_parts sorted
-first_part f buffers all n part past = ap (λ (bs : List Buffer). sorted (content_parts bs (map f (drop n all)) ++ part ∷ [])) (sym (drop_none buffers n past))
+    → part_inserted part [] ≡ parts_sorted (content_parts (drop n buffers) (map f (drop n all)) ++ part ∷ [])
+unfolding content_parts parts_sorted
+first_part f buffers all n part past = ap (λ (bs : List Buffer). parts_sorted (content_parts bs (map f (drop n all)) ++ part ∷ [])) (sym (drop_none buffers n past))

@@ -1,5 +1,5 @@
 pub mod Headline
-pub mod Told
+pub mod Report
 pub mod Appending
 pub mod Checked
 pub mod Images

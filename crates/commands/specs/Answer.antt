@@ -36,7 +36,7 @@ IsAnswer (Untile picture) bytes status text = IsUntileAnswer picture bytes statu
 IsAnswer (Tile picture) bytes status text = IsTileAnswer picture bytes status text
 IsAnswer (Level part) bytes status text = IsLevelAnswer part bytes status text
 
--- `gen` makes the example of a number and checks it, as `check` does: no rule stands for it. It says how long the file and the
+-- `gen` makes the example of a number and checks it, as `check` does: no rule is broken by it. It says how long the file and the
 -- emitted lists are and what the bytes of the memory add up to.
 unfoldable pub text_of : ℕ → FileModel → List ℕ
 text_of number f = example_text number (length (file_text f)) (memory_of f) (lengths_of f 0)

@@ -1,9 +1,9 @@
--- Why a command refuses, as a person is told, or the notes of a shader that it accepts: a function of the refusal and of what was read.
+-- Why a command refuses, as a person reads it, or the notes of a shader that it accepts: a function of the refusal and of what was read.
 use Rattle.std.specs.Prelude.{◌≡◌, ℕ, ◌*◌, ◌%◌, ◌==◌, Bool, true, false, ◌&&◌, ◌||◌, List, ◌++◌, codes, length, nat_le, slice_index, option_map, Option, Some, None, Result, Ok, Err, if◌then◌else◌, decimal}
 use Rattle.field_words.specs.{Questions.first_of, Sizes.most_words}
 use Rattle.job_format.specs.{declared.rule.Refusal.Refusal, declared.rule.Stage.TheVariants.S, declared.rule.Stage.TheVariants.U, declared.rule.Stage.TheVariants.E}
 use Rattle.job_check.specs.{Shaders.code_questions, Shaders.words_of, Whole.refusal_of}
-use Rattle.job_text.specs.{declared.fault.MakeFault.MakeFault, Made.made, Sentences.sentence_of as mistake_of}
+use Rattle.job_text.specs.{declared.fault.MakeFault.MakeFault, Made.text_bytes, Sentences.sentence_of as mistake_of}
 use Rattle.qpu_asm.specs.{declared.fault.AsmFault.AsmFault, Assembly.Assembled, Place.fault_place, Place.wanted_text}
 use Rattle.qpu_asm.specs.{declared.place.FaultPlace.FaultPlace, declared.place.Opcode.TheVariants.Nop, declared.place.Wanted.Wanted}
 use Rattle.qpu_asm.specs.declared.place.Wanted.TheVariants.{Item}
@@ -37,13 +37,13 @@ is_bare (Item Nop) = true
 is_bare wanted = false
 
 -- what was expected, in words
-unfoldable pub told_text : Wanted → List ℕ
-told_text wanted = if is_bare wanted then codes "nop has no items" else wanted_text wanted
+unfoldable pub report_text : Wanted → List ℕ
+report_text wanted = if is_bare wanted then codes "nop has no items" else wanted_text wanted
 
 -- "vc4check: line 3, column 14: the value is a number from 0 to 63; see vc4check explain kind 3"
 unfoldable pub kind_line : AsmFault → FaultPlace → List ℕ
 kind_line fault place =
-    codes "vc4check: line " ++ (decimal fault.line ++ (codes ", column " ++ (decimal place.column ++ (codes ": " ++ (told_text place.wanted
+    codes "vc4check: line " ++ (decimal fault.line ++ (codes ", column " ++ (decimal place.column ++ (codes ": " ++ (report_text place.wanted
     ++ (codes "; see vc4check explain " ++ name_text (kind_of fault)))))))
 
 -- "vc4check: line 3, column 14: SENTENCE"
@@ -55,7 +55,7 @@ mistake_line fault =
 abbrev pub shader_rule : ShaderFault → RuleName
 shader_rule fault = record { family = StageFamily S; number = fault.number }
 
--- the same of a strict one
+-- the name of a strict rule
 abbrev pub strict_rule : StrictFault → RuleName
 strict_rule fault = record { family = StageFamily E; number = number_of fault.rule }
 
@@ -110,7 +110,7 @@ cause_text (Words fault) = word_fault_text fault
 abbrev pub IsRefusal : List ℕ → Option Cause → Answer → Type 0
 IsRefusal text cause answer = (answer.status ≡ 1) × (answer.text.items ≡ text) × (answer.cause ≡ cause)
 
--- A file that a rule refuses is told by a line of that refusal, and an accepted one by none.
+-- A file that a rule refuses is reported by a line of that refusal, and an accepted one by none.
 abbrev pub IsRuleCause : List ℕ → Option Refusal → Option Cause → Type 0
 IsRuleCause bytes None cause = cause ≡ None
 IsRuleCause bytes (Some refusal) cause = (line : Line) × (cause ≡ Some (Rule line)) × IsLineOf bytes refusal line
@@ -136,17 +136,17 @@ strict_cause fault = ShaderCause (strict_rule fault) fault.at
 abbrev pub notes_cause : List ℕ → Option Cause
 notes_cause code = if has_note (notes_of code) then Some (Notes (notes_of code)) else None
 
--- the first rule that stands of a shader of these words, or its notes
+-- the first broken rule of a shader of these words, or its notes
 abbrev pub shader_cause_of : List ℕ → Option ShaderFault → Option Cause
 shader_cause_of code None = notes_cause code
 shader_cause_of code (Some fault) = Some (shader_cause fault)
 
--- the same of words of which there may be too many
+-- the cause for words of which there may be too many
 abbrev pub words_cause : List ℕ → Option Cause
 words_cause code =
     if nat_le (length code) most_words then shader_cause_of code (first_of (shader_questions code)) else Some (Long (length code))
 
--- the same, where the strict rules are asked last
+-- the cause where the strict rules are asked last
 abbrev pub strict_fault_cause : List ℕ → Option StrictFault → Option Cause
 strict_fault_cause code None = notes_cause code
 strict_fault_cause code (Some fault) = Some (strict_cause fault)
@@ -186,7 +186,7 @@ IsCause StrictCheck bytes cause = IsRuleCause bytes (strict_refusal_of bytes) ca
 IsCause Upgrade bytes cause = IsRuleCause bytes (first_of (format_rules bytes)) cause
 IsCause Show bytes cause = cause ≡ None
 IsCause StrictShow bytes cause = cause ≡ None
-IsCause FromText bytes cause = cause ≡ mistake_cause (made bytes)
+IsCause FromText bytes cause = cause ≡ mistake_cause (text_bytes bytes)
 IsCause Asm bytes cause = cause ≡ kind_cause bytes (Assembled bytes)
 IsCause Disasm bytes cause = cause ≡ part_cause (length bytes)
 IsCause Shader bytes cause = cause ≡ shader_cause_of (words_of bytes) (first_of (code_questions bytes))
@@ -201,7 +201,7 @@ IsCause (Tile p) bytes cause = cause ≡ size_cause (length bytes) (p.width * p.
 IsCause (Level part) bytes cause = cause ≡ option_map (λ fault. LevelCause (level_rule fault)) (level_fault part bytes)
 IsCause command bytes cause = IsRuleCause bytes (refusal_of bytes) cause
 
--- A person is told something of a refusal, and of a shader that is accepted.
+-- A person learns something of a refusal, and of a shader that is accepted.
 abbrev pub gives_notes : Command → Bool
 gives_notes Shader = true
 gives_notes ShaderText = true
@@ -209,5 +209,5 @@ gives_notes StrictShader = true
 gives_notes StrictShaderText = true
 gives_notes command = false
 
-unfoldable pub is_told : Command → ℕ → Bool
-is_told command status = status == 1 || (status == 0 && gives_notes command)
+unfoldable pub is_reported : Command → ℕ → Bool
+is_reported command status = status == 1 || (status == 0 && gives_notes command)

@@ -51,6 +51,6 @@ nearest verb.Picture letter = if letter == 114 then Run else (if letter == 102 t
 nearest verb.Explain letter = if letter == 108 then ListOption else common letter
 nearest verb letter = common letter
 
--- the same of the program itself
+-- the program's own option that begins with this letter
 abbrev pub nearest_topic : ℕ → Choice
 nearest_topic letter = if letter == 118 then Version else Help

@@ -38,7 +38,7 @@ begins_with word (first ∷ words) = bytes_eq first word
 abbrev pub begins : List ℕ → Line → Bool
 begins word line = begins_with word line.words
 
--- A word that may not stand at its place, by its number: where it is meant as an option, the nearest one is told.
+-- A word that may not stand at its place, by its number: where it is meant as an option, the nearest one is named.
 abbrev pub unfit_by : Verb → ℕ → WordFault → Option ℕ → WordFault
 unfit_by verb at fault None = fault
 unfit_by verb at fault (Some letter) = NoOption verb at (nearest verb letter)
@@ -52,8 +52,8 @@ given_by argument read verb count [] = Err (Missing verb argument)
 given_by argument read verb count (word ∷ words) =
     ok_or (read word) (unfit verb (count - length words) (Wrong verb (count - length words) argument) word)
 
-abbrev pub given : {T : Type 0} → Argument → (List ℕ → Option T) → Line → Result T WordFault
-given argument read line = given_by argument read line.verb line.count line.words
+abbrev pub argument_given : {T : Type 0} → Argument → (List ℕ → Option T) → Line → Result T WordFault
+argument_given argument read line = given_by argument read line.verb line.count line.words
 
 -- a number that an argument may be
 abbrev pub IsNumberOf : Values → ℕ → Type 0
@@ -69,32 +69,32 @@ number_by (Number least most) word = from least (number_within most word)
 number_by values word = None
 
 unfoldable pub given_number : Argument → Line → Result ℕ WordFault
-given_number argument line = given argument (number_by (values_of argument)) line
+given_number argument line = argument_given argument (number_by (values_of argument)) line
 
 unfoldable pub given_seed : Line → Result ℕ WordFault
-given_seed line = given Seed (number_within most_seed) line
+given_seed line = argument_given Seed (number_within most_seed) line
 
 unfoldable pub given_unit : Line → Result UnitKind WordFault
-given_unit line = given Favoured unit_named line
+given_unit line = argument_given Favoured unit_named line
 
 unfoldable pub given_seeds : Line → Result SeedRange WordFault
-given_seeds line = given SeedNumbers seeds_named line
+given_seeds line = argument_given SeedNumbers seeds_named line
 
 unfoldable pub given_tiling : Line → Result Tiling WordFault
-given_tiling line = given PictureTiling tiling_named line
+given_tiling line = argument_given PictureTiling tiling_named line
 
 unfoldable pub given_cpp : Line → Result ℕ WordFault
-given_cpp line = given Cpp (λ word. pixel_by (number_within 8 word)) line
+given_cpp line = argument_given Cpp (λ word. pixel_by (number_within 8 word)) line
 
 unfoldable pub given_rule : Line → Result RuleName WordFault
-given_rule line = given Rule rule_named line
+given_rule line = argument_given Rule rule_named line
 
 unfoldable pub given_kind : Line → Result RuleName WordFault
-given_kind line = given Kind kind_named line
+given_kind line = argument_given Kind kind_named line
 
 -- the name of a file may be any word
 unfoldable pub given_output : Line → Result Unit WordFault
-given_output line = given Output (λ word. Some tt) line
+given_output line = argument_given Output (λ word. Some tt) line
 
 -- an argument, and what is read behind it
 module _ {R : Type 0} where
@@ -103,7 +103,7 @@ module _ {R : Type 0} where
   follow (Err fault) next line = Err fault
 
   abbrev pub read : {T : Type 0} → (Line → Result T WordFault) → (T → Line → Result R WordFault) → Line → Result R WordFault
-  read given next line = follow (given line) next line
+  read argument_given next line = follow (argument_given line) next line
 
   abbrev pub number : Argument → (ℕ → Line → Result R WordFault) → Line → Result R WordFault
   number argument = read (given_number argument)

@@ -1,7 +1,7 @@
 -- What `shader` answers: what a shader takes and reads, or the rule that refuses it, of the words that the input spells or assembles to.
 use Rattle.std.specs.Prelude.{◌≡◌, ◌⊎◌, ℕ, ◌≤◌, ◌<◌, Bool, List, [], ◌++◌, codes, length, Option, Some, None, Ok, Err, if◌then◌else◌, decimal, flat_map}
 use Rattle.field_words.specs.{Questions.Question, Questions.IsFirst, Questions.first_of, Sizes.most_words}
-use Rattle.job_check.specs.Shaders.{words_of, code_questions, told_of}
+use Rattle.job_check.specs.Shaders.{words_of, code_questions, report_of}
 use Rattle.qpu_asm.specs.{declared.fault.AsmFault.AsmFault, Assembly.Assembled}
 use Rattle.qpu_isa.specs.{declared.inst.Sample.Sample, Shader.ShaderModel}
 use Rattle.shader_check.specs.{declared.fault.ShaderFault.ShaderFault, Rules.shader_questions}
@@ -45,20 +45,20 @@ shader_refusal name index = codes "refused " ++ (name_text name ++ (codes " at i
 unfoldable pub long_text : ℕ → List ℕ
 long_text count = codes "instructions " ++ (decimal count ++ codes "\n")
 
--- what is answered of a shader of which no rule stands: what it takes and reads
-abbrev pub IsTold : List ℕ → ℕ → List ℕ → Type 0
-IsTold code status text = (status ≡ 0) × (text ≡ shader_text (told_of code))
+-- what is answered of a shader in which no rule is broken: what it takes and reads
+abbrev pub IsReported : List ℕ → ℕ → List ℕ → Type 0
+IsReported code status text = (status ≡ 0) × (text ≡ shader_text (report_of code))
 
 -- or, with the strict rules, the first of them that it breaks
-abbrev pub IsToldBy : List ℕ → Option StrictFault → ℕ → List ℕ → Type 0
-IsToldBy code None status text = IsTold code status text
-IsToldBy code (Some fault) status text =
+abbrev pub IsReportedBy : List ℕ → Option StrictFault → ℕ → List ℕ → Type 0
+IsReportedBy code None status text = IsReported code status text
+IsReportedBy code (Some fault) status text =
     (status ≡ 1) × (text ≡ shader_refusal (strict_rule fault) fault.at) × IsFirst (strict_questions code) fault
 
-abbrev pub IsStrictlyTold : List ℕ → ℕ → List ℕ → Type 0
-IsStrictlyTold code status text = IsToldBy code (first_of (strict_questions code)) status text
+abbrev pub IsStrictlyReported : List ℕ → ℕ → List ℕ → Type 0
+IsStrictlyReported code status text = IsReportedBy code (first_of (strict_questions code)) status text
 
--- Of what is answered where no rule stands: else it is refused by the first rule that does.
+-- Of what is answered where no rule is broken: else it is refused by the first rule that does.
 module _ (IsFine : List ℕ → ℕ → List ℕ → Type 0) where
   abbrev pub IsShaderVerdict : List (Question ShaderFault) → List ℕ → Option ShaderFault → ℕ → List ℕ → Type 0
   IsShaderVerdict questions code None status text = IsFine code status text
@@ -83,13 +83,13 @@ module _ (IsFine : List ℕ → ℕ → List ℕ → Type 0) where
 
 -- without the strict rules, and with them
 abbrev pub IsShaderAnswer : List ℕ → ℕ → List ℕ → Type 0
-IsShaderAnswer = IsBytesAnswer IsTold
+IsShaderAnswer = IsBytesAnswer IsReported
 
 abbrev pub IsShaderTextAnswer : List ℕ → ℕ → List ℕ → Type 0
-IsShaderTextAnswer = IsTextAnswer IsTold
+IsShaderTextAnswer = IsTextAnswer IsReported
 
 abbrev pub IsStrictShaderAnswer : List ℕ → ℕ → List ℕ → Type 0
-IsStrictShaderAnswer = IsBytesAnswer IsStrictlyTold
+IsStrictShaderAnswer = IsBytesAnswer IsStrictlyReported
 
 abbrev pub IsStrictShaderTextAnswer : List ℕ → ℕ → List ℕ → Type 0
-IsStrictShaderTextAnswer = IsTextAnswer IsStrictlyTold
+IsStrictShaderTextAnswer = IsTextAnswer IsStrictlyReported

@@ -1,4 +1,4 @@
--- What a person is told of a status that is no answer.
+-- What a person reads of a status that is no answer.
 use Rattle.std.specs.Prelude.{ℕ, ◌==◌, List, codes, Option, Some, None, if◌then◌else◌}
 
 -- the line that goes with a status

@@ -51,7 +51,7 @@ level_refusal (Texture rule) = codes "refused U" ++ (decimal rule ++ codes " at 
 level_refusal Face = codes "refused V1 at 0\n"
 level_refusal Level = codes "refused V2 at 0\n"
 
--- Where no rule stands a level is answered with its pixels by rows, or its blocks; else with the first rule that does.
+-- Where no rule is broken a level is answered with its pixels by rows, or its blocks; else with the first rule that does.
 abbrev pub IsLevelVerdict : TexturePart → List ℕ → Option LevelFault → ℕ → List ℕ → Type 0
 IsLevelVerdict part bytes None status out = (status ≡ 0)
     × IsLevelPicture (texture_of (slice_index part.setup 0) (slice_index part.setup 1) (slice_index part.setup 2) (slice_index part.setup 3)) part.face part.level bytes out

@@ -1,6 +1,6 @@
 -- What a run does. `IsReply status text` is a command's own relation: what it answers to its input.
 --
--- A source and a sink are told by functions of their states: `left`, the bytes still to come, and `held`, the bytes taken, where they
+-- A source and a sink are described by functions of their states: `left`, the bytes still to come, and `held`, the bytes taken, where they
 -- tell them; and `faults`, how often they failed.
 use Rattle.std.specs.Prelude.{◌≡◌, ◌≢◌, ◌⊎◌, ◌↔◌, ℕ, ◌≤◌, ◌<◌, true, false, length, List, String, Option, Some, None, IfErr, IfSome}
 use Rattle.std.specs.declared.alloc.Global.{Global}
@@ -21,7 +21,7 @@ use Rattle.commands.specs.{declared.command.Command.Command, declared.command.Co
 use Rattle.commands.specs.{declared.command.Task.Task}
 use Rattle.commands.specs.declared.command.Task.TheVariants.{Read, Make, Tell}
 use Rattle.commands.specs.{declared.help.Topic.Topic, declared.cause.Cause.Cause, declared.cause.Cause.TheVariants.Words}
-use Rattle.commands.specs.{Answer.IsAnswer, Answer.IsExampleAnswer, Cause.IsCause, Cause.is_told, Headline.IsSafelyAccepted, Line.texts, Show.MakesAgain}
+use Rattle.commands.specs.{Answer.IsAnswer, Answer.IsExampleAnswer, Cause.IsCause, Cause.is_reported, Headline.IsSafelyAccepted, Line.texts, Show.MakesAgain}
 use Rattle.commands.specs.{Topics.IsTopicAnswer, Upgrade.UpgradeKeepsAll, Words.limit_of, Words.task_or_fault, Words.task_of}
 
 -- The answer has this status, and its text was appended to a sink.
@@ -73,10 +73,10 @@ pub record IsSaid {X : Type 0} (IsReply : ℕ → List ℕ → Type 0) (source s
 
 -- What is promised of every job and of every call, whatever a run is given.
 pub record Promises : Type 0 where
-  -- Of all bytes of which no rule stands, every run of the machine from the memory that they are emitted as is safe, each access in what
+  -- Of all bytes in which no rule is broken, every run of the machine from the memory that they are emitted as is safe, each access in what
   -- its own job may reach, and bytes outside what jobs may reach have no effect.
   pub law : AcceptedMayRun
-  -- Where no strict rule stands either, as after status 0 of `check --strict`, the jobs do nothing that the hardware's guide forbids.
+  -- Where no strict rule is broken either, as after status 0 of `check --strict`, the jobs do nothing that the hardware's guide forbids.
   pub strict : StrictBytesObey
   -- What a client's jobs access, and what its memory ends as, doesn't depend on the other clients, where its own jobs take the same steps.
   pub apart : BytesApart
@@ -129,18 +129,18 @@ pub record IsRun {X Y : Type 0} (words : List (String Global)) (left : X → Opt
   -- reach, and bytes outside what jobs may reach have no effect.
   pub safe : task_of (texts words) ≡ Some (Read Check) → status ≡ 0
       → IfSome (left source) (λ bytes. IsSafelyAccepted bytes (held sink) (held sink_now))
-  -- the same of what `check --strict` prints
+  -- so it is of what `check --strict` prints
   pub strictly_safe : task_of (texts words) ≡ Some (Read StrictCheck) → status ≡ 0
       → IfSome (left source) (λ bytes. IsSafelyAccepted bytes (held sink) (held sink_now))
   pub promises : Promises
 
--- The same of a run that says why it ended: of a refusal, or the notes of an accepted shader, where the source tells what was read; and
+-- A run that says why it ended: of a refusal, or the notes of an accepted shader, where the source tells what was read; and
 -- which of the words is wrong.
 pub record IsRunWithCause {X Y : Type 0} (words : List (String Global)) (left : X → Option (List ℕ)) (source_faults : X → ℕ) (source source_now : X)
     (held : Y → Option (List ℕ)) (sink_faults : Y → ℕ) (sink sink_now : Y) (ended : Ended Cause) : Type 0 where
   pub run : IsRun words left source_faults source source_now held sink_faults sink sink_now ended.status
-  pub cause : (command : Command) → task_of (texts words) ≡ Some (Read command) → is_told command ended.status ≡ true
+  pub cause : (command : Command) → task_of (texts words) ≡ Some (Read command) → is_reported command ended.status ≡ true
       → IfSome (left source) (λ bytes. IsCause command bytes ended.cause)
   pub wrong : IfErr (task_or_fault (texts words)) (λ fault. ended.cause ≡ Some (Words fault))
-  pub quiet : ((command : Command) → task_of (texts words) ≡ Some (Read command) → is_told command ended.status ≡ false) → ended.status ≢ 2
+  pub quiet : ((command : Command) → task_of (texts words) ≡ Some (Read command) → is_reported command ended.status ≡ false) → ended.status ≢ 2
       → ended.cause ≡ None

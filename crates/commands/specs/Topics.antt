@@ -1,6 +1,6 @@
 -- What the program says of itself and of rules.
 use Rattle.std.specs.Prelude.{◌≡◌, ℕ, zero, suc, List, [], ◌++◌, codes, bytes_eq, Option, Some, None, if◌then◌else◌, flat_map}
-use Rattle.rule_words.specs.{declared.name.Family.Family, declared.name.RuleName.RuleName, Names.explained, Names.name_text, Names.words_of}
+use Rattle.rule_words.specs.{declared.name.Family.Family, declared.name.RuleName.RuleName, Names.explanation_of, Names.name_text, Names.words_of}
 use Rattle.commands.specs.declared.help.TheConstants.{CHECK, REPLAY, PICTURE, UPGRADE, BOUND, SHOW, MAKE, GEN, SLOTS, QUEUE, SESSION, UNTILE, TILE, LEVEL, ASM, DISASM, SHADER, EXPLAIN, HEAD, FOOT, VERSION, VERBS, FAMILIES}
 use Rattle.commands.specs.declared.help.Verb.TheVariants.{Check, Replay, Picture, Upgrade, Bound, Show, Make, Gen, Slots, Queue, Session, Untile, Tile, Level, Asm, Disasm, Shader, Explain}
 use Rattle.commands.specs.declared.help.Topic.TheVariants.{Program, Command, Version, Rule, Rules}
@@ -84,7 +84,7 @@ unfoldable pub topic_text : Topic → List ℕ
 topic_text Program = program_help
 topic_text (Command verb) = verb_help verb
 topic_text Version = VERSION.now
-topic_text (Rule name) = explained name
+topic_text (Rule name) = explanation_of name
 topic_text Rules = flat_map family_rows FAMILIES
 
 -- what is answered to words that ask for a topic

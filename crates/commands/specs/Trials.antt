@@ -3,7 +3,7 @@ use Rattle.std.specs.Prelude.{ℕ, ◌≤◌, ◌<◌, ◌+◌, ◌-◌, ◌^◌
 use Rattle.replay.specs.declared.units.UnitKind.TheVariants.{Binner, Renderer, Qpu, Tmu}
 use Rattle.replay.specs.declared.units.UnitKind.{UnitKind}
 use Rattle.script.specs.{Lines.before, Lines.behind, Number.number_within}
-use Rattle.seeded_runs.specs.Told.{most_seeds}
+use Rattle.seeded_runs.specs.Report.{most_seeds}
 use Rattle.commands.specs.declared.trial.SeedRange.{SeedRange}
 
 -- the greatest seed

@@ -1,17 +1,17 @@
 -- What commands answer to a job file: what is made of it, or the first rule that it breaks.
 use Rattle.std.specs.Prelude.{◌≡◌, ℕ, List, Option, Some, None}
 use Rattle.field_words.specs.Questions.{Question, IsFirst, first_of}
-use Rattle.job_format.specs.{declared.rule.Refusal.Refusal, File.IsFileOf, File.upgraded, Model.FileModel, Reading.file_at, Text.file_text}
+use Rattle.job_format.specs.{declared.rule.Refusal.Refusal, File.IsFileOf, File.file_upgraded, Model.FileModel, Reading.file_at, Text.file_text}
 use Rattle.job_check.specs.{Whole.all_questions, Whole.refusal_of, Emit.memory_of, Emit.all_lengths_of, Jobs.layouts_of}
 use Rattle.job_bound.specs.Bound.{bound_text}
 use Rattle.dumper.specs.Text.{accepted_text, refused_text}
 use Rattle.pictures.specs.{Memory.memory_picture, Forest.Forest, Forest.forest_text}
-use Rattle.seeded_runs.specs.{declared.told.Trial.Trial, Told.IsTold}
+use Rattle.seeded_runs.specs.{declared.report.Trial.Trial, Report.IsReported}
 use Rattle.strict_check.specs.Whole.{strict_questions, strict_refusal_of}
 use Rattle.commands.specs.Upgrade.{format_rules}
 
--- Where no rule stands the file is what its bytes spell, and its answer is such a text; else it is refused by the first rule that does: it
--- stands, and none before it in the list does.
+-- Where no rule is broken the file is what its bytes spell, and its answer is such a text; else it is refused by the first rule that is: it
+-- is broken, and none before it in the list is.
 abbrev pub IsVerdict : List ℕ → List (Question Refusal) → Option Refusal → (FileModel → List ℕ → Type 0) → ℕ → List ℕ → Type 0
 IsVerdict bytes questions None IsText status text = (status ≡ 0) × IsText (file_at bytes) text × IsFileOf bytes (file_at bytes)
 IsVerdict bytes questions (Some refusal) IsText status text = (status ≡ 1) × (text ≡ refused_text refusal) × IsFirst questions refusal
@@ -41,7 +41,7 @@ abbrev pub IsDrawnAnswer : List ℕ → ℕ → List ℕ → Type 0
 IsDrawnAnswer = IsFileAnswer (λ f text. text ≡ forest_text (picture_of f))
 
 abbrev pub IsTrialAnswer : Trial → List ℕ → ℕ → List ℕ → Type 0
-IsTrialAnswer trial = IsFileAnswer (λ f text. IsTold f trial text)
+IsTrialAnswer trial = IsFileAnswer (λ f text. IsReported f trial text)
 
 abbrev pub IsBoundAnswer : List ℕ → ℕ → List ℕ → Type 0
 IsBoundAnswer = IsFileAnswer (λ f text. text ≡ bound_text f)
@@ -49,4 +49,4 @@ IsBoundAnswer = IsFileAnswer (λ f text. text ≡ bound_text f)
 -- `upgrade` writes the file with version 2. It asks the rules of the format alone.
 abbrev pub IsUpgradeAnswer : List ℕ → ℕ → List ℕ → Type 0
 IsUpgradeAnswer bytes status text =
-    IsVerdict bytes (format_rules bytes) (first_of (format_rules bytes)) (λ f text. text ≡ file_text (upgraded f)) status text
+    IsVerdict bytes (format_rules bytes) (first_of (format_rules bytes)) (λ f text. text ≡ file_text (file_upgraded f)) status text

@@ -1,4 +1,4 @@
--- Why words ask for nothing that the program does, as a person is told: which word is wrong, and what it may be.
+-- Why words ask for nothing that the program does, as a person reads it: which word is wrong, and what it may be.
 use Rattle.std.specs.Prelude.{ℕ, List, ◌++◌, codes, decimal}
 use Rattle.commands.specs.declared.word_fault.TheConstants.{COMMANDS}
 use Rattle.commands.specs.declared.word_fault.Argument.TheVariants.{Steps, Seed, Example, SlotCount, Buffers, PictureTiling, Cpp, Width, Height, P0, P1, P2, P3, Face, LevelNumber, Rule, Kind, Favoured, SeedNumbers, Output}

@@ -4,9 +4,9 @@ use Rattle.std.specs.Result.{result_ok}
 use Rattle.std.specs.declared.alloc.Global.{Global}
 use Rattle.field_words.specs.Sizes.{most_code, most_list}
 use Rattle.replay.specs.declared.units.UnitKind.{UnitKind}
-use Rattle.seeded_runs.specs.declared.told.Look.{Look}
-use Rattle.seeded_runs.specs.declared.told.Look.TheVariants as look
-use Rattle.seeded_runs.specs.Told.{IsTrialWithin}
+use Rattle.seeded_runs.specs.declared.report.Look.{Look}
+use Rattle.seeded_runs.specs.declared.report.Look.TheVariants as look
+use Rattle.seeded_runs.specs.Report.{IsTrialWithin}
 use Rattle.rule_words.specs.declared.name.RuleName.{RuleName}
 use Rattle.commands.specs.declared.command.Command.TheVariants.{Check, StrictCheck, Runs, Drawn, Upgrade, Bound, Show, StrictShow, FromText, Asm, Disasm, Shader, ShaderText, StrictShader, StrictShaderText, Slots, Queue, Session, Untile, Tile, Level}
 use Rattle.commands.specs.declared.command.Task.TheVariants.{Read, Make, Tell}
@@ -20,8 +20,8 @@ use Rattle.commands.specs.Line.{Line, texts, number, given_seed, given_unit, giv
 use Rattle.commands.specs.{Choice.option_letter, Choice.nearest_topic, Pictures.IsPictureWithin, Topics.verb_named, WordFault.most_slots, WordFault.most_queued}
 
 -- STEPS SEED: a run that is shown in this way, where a kind of unit is favoured or none
-abbrev pub run : Look → Option UnitKind → Line → Result Task WordFault
-run shown favoured = number Steps (λ steps. read given_seed (λ seed.
+abbrev pub run_asked : Look → Option UnitKind → Line → Result Task WordFault
+run_asked shown favoured = number Steps (λ steps. read given_seed (λ seed.
     ended (Read (Runs (record { look = shown; favoured = favoured; steps = steps; seed = seed })))))
 
 -- A..B STEPS: a run of each seed
@@ -32,7 +32,7 @@ many_runs favoured = read given_seeds (λ range. number Steps (λ steps.
 -- [--accesses | --seeds A..B] STEPS [SEED]
 abbrev pub runs : Option UnitKind → Line → Result Task WordFault
 runs favoured =
-    option (codes "--accesses") (run look.Accesses favoured) (option (codes "--seeds") (many_runs favoured) (run look.Steps favoured))
+    option (codes "--accesses") (run_asked look.Accesses favoured) (option (codes "--seeds") (many_runs favoured) (run_asked look.Steps favoured))
 
 -- replay [--favour KIND] [--accesses | --seeds A..B] STEPS [SEED]
 abbrev pub replay : Line → Result Task WordFault
@@ -40,12 +40,12 @@ replay = option (codes "--favour") (read given_unit (λ kind. runs (Some kind)))
 
 -- picture [--run [--favour KIND] STEPS SEED]
 abbrev pub picture : Line → Result Task WordFault
-picture = option (codes "--run") (option (codes "--favour") (read given_unit (λ kind. run look.Picture (Some kind))) (run look.Picture None))
+picture = option (codes "--run") (option (codes "--favour") (read given_unit (λ kind. run_asked look.Picture (Some kind))) (run_asked look.Picture None))
     (ended (Read Drawn))
 
 -- TILING CPP WIDTH HEIGHT
-abbrev pub pictured : Line → Result Picture WordFault
-pictured = read given_tiling (λ tiling. read given_cpp (λ cpp. number Width (λ width. number Height (λ height.
+abbrev pub picture_asked : Line → Result Picture WordFault
+picture_asked = read given_tiling (λ tiling. read given_cpp (λ cpp. number Width (λ width. number Height (λ height.
     ended (record { tiling = tiling; cpp = cpp; width = width; height = height })))))
 
 abbrev pub of_picture : (Picture → Command) → Result Picture WordFault → Result Task WordFault
@@ -83,43 +83,43 @@ abbrev pub shader : Line → Result Task WordFault
 shader = option (codes "--strict") strict_shader (option (codes "--asm") (ended (Read ShaderText)) (ended (Read Shader)))
 
 -- explain RULE, or kind and a number, or --list
-abbrev pub told_of : RuleName → Line → Result Task WordFault
-told_of name = ended (Tell (RuleTopic name))
+abbrev pub report_of : RuleName → Line → Result Task WordFault
+report_of name = ended (Tell (RuleTopic name))
 
 abbrev pub explain : Line → Result Task WordFault
 explain =
-    option (codes "--list") (ended (Tell Rules)) (option (codes "kind") (read given_kind told_of) (read given_rule told_of))
+    option (codes "--list") (ended (Tell Rules)) (option (codes "kind") (read given_kind report_of) (read given_rule report_of))
 
 -- the arguments of each command
-abbrev pub asked : Verb → Line → Result Task WordFault
-asked verb.Check = check
-asked verb.Replay = replay
-asked verb.Picture = picture
-asked verb.Upgrade = ended (Read Upgrade)
-asked verb.Bound = ended (Read Bound)
-asked verb.Show = show
-asked verb.Make = ended (Read FromText)
-asked verb.Gen = example
-asked verb.Slots = slots
-asked verb.Queue = queue
-asked verb.Session = ended (Read Session)
-asked verb.Untile = λ line. of_picture Untile (pictured line)
-asked verb.Tile = λ line. of_picture Tile (pictured line)
-asked verb.Level = level
-asked verb.Asm = ended (Read Asm)
-asked verb.Disasm = ended (Read Disasm)
-asked verb.Shader = shader
-asked verb.Explain = explain
+abbrev pub task_asked : Verb → Line → Result Task WordFault
+task_asked verb.Check = check
+task_asked verb.Replay = replay
+task_asked verb.Picture = picture
+task_asked verb.Upgrade = ended (Read Upgrade)
+task_asked verb.Bound = ended (Read Bound)
+task_asked verb.Show = show
+task_asked verb.Make = ended (Read FromText)
+task_asked verb.Gen = example
+task_asked verb.Slots = slots
+task_asked verb.Queue = queue
+task_asked verb.Session = ended (Read Session)
+task_asked verb.Untile = λ line. of_picture Untile (picture_asked line)
+task_asked verb.Tile = λ line. of_picture Tile (picture_asked line)
+task_asked verb.Level = level
+task_asked verb.Asm = ended (Read Asm)
+task_asked verb.Disasm = ended (Read Disasm)
+task_asked verb.Shader = shader
+task_asked verb.Explain = explain
 
 -- or `--help` alone; `-o OUT` stands before them
-abbrev pub helped : Verb → Line → Result Task WordFault
-helped verb = ended (Tell (CommandTopic verb))
+abbrev pub help_asked : Verb → Line → Result Task WordFault
+help_asked verb = ended (Tell (CommandTopic verb))
 
 abbrev pub put_out : Verb → Line → Result Task WordFault
-put_out verb = option (codes "-o") (read given_output (λ name. asked verb)) (asked verb)
+put_out verb = option (codes "-o") (read given_output (λ name. task_asked verb)) (task_asked verb)
 
 abbrev pub task_behind : Line → Result Task WordFault
-task_behind line = option (codes "--help") (helped line.verb) (option (codes "-h") (helped line.verb) (put_out line.verb)) line
+task_behind line = option (codes "--help") (help_asked line.verb) (option (codes "-h") (help_asked line.verb) (put_out line.verb)) line
 
 -- what the program does, or a command
 abbrev pub help_by : Option Verb → Result Task WordFault

@@ -7,7 +7,7 @@ ghost use Rattle.commands.specs.Run.{FailsAt};
 use super::cause::Cause;
 use job_io::{Failed, Sink, write_all};
 
-/// Status 0 or 1, the text that goes with it, and what a person is told besides: why it is refused, or the notes of a shader.
+/// Status 0 or 1, the text that goes with it, and what a person reads besides: why it is refused, or the notes of a shader.
 #[derive(Debug, Drop)]
 pub struct Answer {
     pub status: u8,
@@ -27,7 +27,7 @@ impl Answer {
         }
     }
 
-    /// The same, and what a person is told besides.
+    /// The text of what was done, and what a person reads besides.
     pub fn noted(text: Vec<u8>, cause: Option<Cause>) -> Answer
         ensures { result ≡ record { status = 0; text = text; cause = cause } }
     {

@@ -1,6 +1,6 @@
 //! Why a command refuses, as a line for a person; and the notes of a shader.
 ghost use Rattle.std.specs.Prelude.{◌≡◌, Some};
-ghost use Rattle.commands.specs.Cause.{cause_text, is_bare, told_text, kind_of, shader_rule, strict_rule, level_rule, size_line, named_text};
+ghost use Rattle.commands.specs.Cause.{cause_text, is_bare, report_text, kind_of, shader_rule, strict_rule, level_rule, size_line, named_text};
 
 use super::scripts::Script;
 use super::word_fault::WordFault;
@@ -88,14 +88,14 @@ fn is_bare(wanted: Wanted) -> bool
 
 /// What was expected where a fault of the assembler stands.
 #[derive(Clone, Copy)]
-struct Told {
+struct Report {
     wanted: Wanted,
 }
 
-impl fmt::Display for Told {
-    ghost output = { λ told. Some (told_text told.wanted) };
+impl fmt::Display for Report {
+    ghost output = { λ report. Some (report_text report.wanted) };
 
-    #[tactic(auto, unfolding(crate::specs::Cause::told_text))]
+    #[tactic(auto, unfolding(crate::specs::Cause::report_text))]
     fn fmt<W: fmt::Write>(&self, f: &mut fmt::Formatter<W>) -> fmt::Result {
         if is_bare(self.wanted) {
             f.write_str("nop has no items")
@@ -150,13 +150,13 @@ impl fmt::Display for Cause {
             Cause::Rule(line) => write!(f, "{}", line),
             Cause::Kind(fault, place) => {
                 let name = kind_of(fault);
-                let told = Told {
+                let report = Report {
                     wanted: place.wanted,
                 };
                 write!(
                     f,
                     "vc4check: line {}, column {}: {}; see vc4check explain {}",
-                    fault.line, place.column, told, name
+                    fault.line, place.column, report, name
                 )
             }
             Cause::Mistake(fault) => {

@@ -8,7 +8,7 @@ ghost use Rattle.job_format.specs.Reading.{file_at};
 ghost use Rattle.job_check.specs.Emit.{content_parts};
 ghost use Rattle.job_check.specs.Faults.{file_stages};
 ghost use Rattle.job_check.specs.Whole.{all_questions, refusal_of};
-ghost use Rattle.dumper.specs.Parts.{part_at, sorted, Ascend};
+ghost use Rattle.dumper.specs.Parts.{part_at, parts_sorted, Ascend};
 ghost use Rattle.dumper.specs.{Spans.parts_of, Text.refused_text};
 ghost use Rattle.strict_check.specs.Whole.{strict_questions, strict_refusal_of};
 ghost use Rattle.commands.specs.Verdict.{image_of, IsCheckAnswer, IsStrictCheckAnswer, IsVerdict};
@@ -29,7 +29,7 @@ use std::alloc::Global;
 use std::borrow::CowSlice;
 use strict_check::check_strict_parts;
 
-/// A file of which no rule stands, whose contents are slices of its bytes, and the lists of its jobs.
+/// A file in which no rule is broken, whose contents are slices of its bytes, and the lists of its jobs.
 #[derive(Drop)]
 pub struct Accepted<'a> {
     pub file: FileParts<'a>,
@@ -57,7 +57,7 @@ pub(crate) fn accept<'a>(alloc: Global, bytes: &'a [u8]) -> Result<Accepted<'a>,
     }
 }
 
-/// The same, and the strict rules last.
+/// The answer to these bytes, with the strict rules last.
 #[tactic(auto, unfolding(strict_check::specs::Whole::strict_questions))]
 fn accept_strict<'a>(alloc: Global, bytes: &'a [u8]) -> Result<Accepted<'a>, Stop<Refusal>>
     ensures answers { Answers (strict_questions bytes.now) (IsAccepted (file_at bytes.now)) result }
@@ -68,7 +68,7 @@ fn accept_strict<'a>(alloc: Global, bytes: &'a [u8]) -> Result<Accepted<'a>, Sto
     Ok(accepted)
 }
 
-/// The first rule that stands of these bytes, where one does.
+/// The first broken rule of these bytes, where one is.
 #[tactic(auto, unfolding(job_check::specs::Whole::refusal_of))]
 pub fn refusal_in(alloc: Global, bytes: &[u8]) -> Result<Option<Refusal>, NoMemory>
     ensures { IfOk result (λ refusal. refusal ≡ refusal_of bytes.now) }
@@ -80,7 +80,7 @@ pub fn refusal_in(alloc: Global, bytes: &[u8]) -> Result<Option<Refusal>, NoMemo
     }
 }
 
-/// The same, with the strict rules last.
+/// The refusal of these bytes, with the strict rules last.
 #[tactic(auto, unfolding(strict_check::specs::Whole::strict_refusal_of))]
 pub fn strict_refusal_in(alloc: Global, bytes: &[u8]) -> Result<Option<Refusal>, NoMemory>
     ensures { IfOk result (λ refusal. refusal ≡ strict_refusal_of bytes.now) }
@@ -103,7 +103,8 @@ fn spans_of<'a>(
 ) -> Result<Vec<Span<'a>>, NoMemory>
     requires { length contents.items ≡ length buffers.now }
     ensures { IfOk result (λ spans. parts_of spans.items
-        ≡ sorted (content_parts buffers.now (map (λ c. c.now) contents.entry.items) ++ part_at place lists.items ∷ [])) }
+        ≡ parts_sorted (content_parts buffers.now (map (λ c. c.now) contents.entry.items)
+        ++ part_at place lists.items ∷ [])) }
 {
     let mut spans = Vec::new(alloc);
     let bytes = CowSlice::Owned(lists);
@@ -143,7 +144,7 @@ fn image_of<'a>(alloc: Global, accepted: Accepted<'a>) -> Result<Image<'a>, NoMe
     Ok(Image { head, spans })
 }
 
-/// The answer to these bytes where this rule is the first that stands.
+/// The answer to these bytes where this rule is the first that is broken.
 pub(crate) fn refused(alloc: Global, bytes: &[u8], refusal: Refusal) -> Result<Answer, NoMemory>
     ensures { IfOk result (λ a. (a.status ≡ 1) × (a.text.items ≡ refused_text refusal)
         × IsRuleCause bytes.now (Some refusal) a.cause) }

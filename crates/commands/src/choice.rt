@@ -5,7 +5,7 @@ ghost use Rattle.commands.specs.Choice.{option_letter, choice_text, nearest, nea
 use super::help::Verb;
 use std::fmt;
 
-/// An option, as a person is told of it.
+/// An option, as a person reads of it.
 #[derive(Clone, Copy, Debug, PartialEq, Eq)]
 pub enum Choice {
     Help,

@@ -1,6 +1,6 @@
 //! What the program can do.
 ghost use Rattle.std.specs.Prelude.{◌≡◌, ◌≤◌};
-ghost use Rattle.commands.specs.Cause.{is_told};
+ghost use Rattle.commands.specs.Cause.{is_reported};
 ghost use Rattle.commands.specs.Words.{most_file, limit_of, excess_at};
 
 use super::help::Topic;
@@ -74,10 +74,10 @@ pub enum Task {
 }
 
 impl Command {
-    /// Whether a person is told something of an input with which this status is answered.
-    #[tactic(auto, unfolding(crate::specs::Cause::is_told))]
-    pub fn is_told(self, status: u8) -> bool
-        ensures { result ≡ is_told self status }
+    /// Whether a person learns something of an input with which this status is answered.
+    #[tactic(auto, unfolding(crate::specs::Cause::is_reported))]
+    pub fn is_reported(self, status: u8) -> bool
+        ensures { result ≡ is_reported self status }
     {
         match self {
             Command::Shader

@@ -11,7 +11,7 @@ use job_check::check_bytes;
 use job_io::Sink;
 use std::alloc::Global;
 
-/// What becomes of the example of this number. No rule stands for it.
+/// What becomes of the example of this number. No rule is broken by it.
 #[tactic(auto, unfolding(crate::specs::Answer::text_of), using(example_law::proofs::Whole::never_refused))]
 fn example_answer(alloc: Global, number: u32) -> Result<Answer, NoMemory>
     ensures { IfOk result (λ a. IsExampleAnswer number a.status a.text.items) }

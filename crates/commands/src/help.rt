@@ -39,7 +39,7 @@ pub enum Verb {
 pub enum Topic {
     /// `--help`, `-h` and `help`: all that it does.
     Program,
-    /// The same with a command, and `COMMAND --help`: what a command does.
+    /// `--help` with a command, and `COMMAND --help`: what a command does.
     Command(Verb),
     /// `--version` and `-V`: its version, and that of the toolchain that it is proved with.
     Version,
@@ -389,7 +389,7 @@ fn topic_text(alloc: Global, topic: Topic) -> Result<Vec<u8>, AllocError>
 pub fn tell<K: Sink>(alloc: Global, topic: Topic, sink: &mut K) -> u8
     ensures statuses { (result ≡ 0) ⊎ ((result ≡ 4) ⊎ (result ≡ 5)) }
     ensures write { FailsAt K.held K.faults sink.old sink.new 4 result }
-    ensures told { result < 2 → IsAnswered (IsTopicAnswer topic) result (K.held sink.old)
+    ensures report { result < 2 → IsAnswered (IsTopicAnswer topic) result (K.held sink.old)
         (K.held sink.new) }
     ensures cut { result ≡ 4 → IsCut (IsTopicAnswer topic) (K.held sink.old) (K.held sink.new) }
     ensures nothing { 1 < result → result ≢ 4 → sink.new ≡ sink.old }

@@ -4,14 +4,14 @@ ghost use Rattle.std.specs.Fmt.{decimal};
 ghost use Rattle.std.specs.List.{flat_map};
 ghost use Rattle.field_words.specs.Questions.{Answers, first_of};
 ghost use Rattle.field_words.specs.Sizes.{most_code, most_list, most_words};
-ghost use Rattle.job_check.specs.Shaders.{words_of, code_questions, told_of};
+ghost use Rattle.job_check.specs.Shaders.{words_of, code_questions, report_of};
 ghost use Rattle.qpu_asm.specs.Assembly.{Assembled};
 ghost use Rattle.qpu_isa.specs.Shader.{shader_view};
 ghost use Rattle.shader_check.specs.Rules.{shader_questions};
 ghost use Rattle.shader_flow.specs.Flow.{IsFlow};
 ghost use Rattle.commands.specs.Cause.{notes_cause, shader_cause_of, words_cause, text_cause, IsRefusal};
 ghost use Rattle.commands.specs.declared.cause.Cause.TheVariants.{Shader, Long};
-ghost use Rattle.commands.specs.LoneShader.{position_text, sample_line, address_line, thread_count, head_text, shader_text, shader_refusal, long_text, IsTold, IsShaderAnswer, IsWordsAnswer, IsShaderTextAnswer};
+ghost use Rattle.commands.specs.LoneShader.{position_text, sample_line, address_line, thread_count, head_text, shader_text, shader_refusal, long_text, IsReported, IsShaderAnswer, IsWordsAnswer, IsShaderTextAnswer};
 
 use super::answer::Answer;
 use super::cause::{Cause, shader_rule};
@@ -125,8 +125,8 @@ pub(crate) fn accepted(
     info: &ShaderInfo,
 ) -> Result<Answer, NoMemory>
     requires flow { IsFlow code.now flow.now }
-    requires told { shader_view info.now ≡ told_of code.now }
-    ensures answers { IfOk result (λ a. IsTold code.now a.status a.text.items) }
+    requires report { shader_view info.now ≡ report_of code.now }
+    ensures answers { IfOk result (λ a. IsReported code.now a.status a.text.items) }
     ensures status { IfOk result (λ a. a.status < 2) }
     ensures cause { IfOk result (λ a. a.cause ≡ notes_cause code.now) }
 {
@@ -139,11 +139,11 @@ pub(crate) fn accepted(
     Ok(Answer::noted(shader_text(alloc, info)?, cause))
 }
 
-// The same where the strict rules aren't asked.
-fn told(alloc: Global, code: &[u64], info: &ShaderInfo) -> Result<Answer, NoMemory>
+// The report of a shader whose strict rules aren't asked.
+fn report(alloc: Global, code: &[u64], info: &ShaderInfo) -> Result<Answer, NoMemory>
     requires few { length code.now ≤ most_words }
-    requires told { shader_view info.now ≡ told_of code.now }
-    ensures answers { IfOk result (λ a. IsTold code.now a.status a.text.items) }
+    requires report { shader_view info.now ≡ report_of code.now }
+    ensures answers { IfOk result (λ a. IsReported code.now a.status a.text.items) }
     ensures status { IfOk result (λ a. a.status < 2) }
     ensures cause { IfOk result (λ a. a.cause ≡ notes_cause code.now) }
 {
@@ -160,7 +160,7 @@ pub(crate) fn code_in(alloc: Global, bytes: &[u8]) -> Result<Vec<u64>, NoMemory>
     Ok(words_of(alloc, bytes)?)
 }
 
-/// The answer where this rule is the first that stands, at this instruction.
+/// The answer where this rule is the first that is broken, at this instruction.
 #[tactic(auto, unfolding(crate::specs::LoneShader::shader_refusal))]
 pub(crate) fn shader_refused(alloc: Global, name: RuleName, index: u32) -> Result<Answer, NoMemory>
     ensures { IfOk result (IsRefusal (shader_refusal name index) (Some (Shader name index))) }
@@ -178,7 +178,7 @@ pub(crate) fn long_refused(alloc: Global, count: u64) -> Result<Answer, NoMemory
     Ok(Answer::refused(text, Some(Cause::Long(count))))
 }
 
-/// What `shader` answers to bytes: what the shader of the words that they spell takes and reads, or the first rule that stands of it.
+/// What `shader` answers to bytes: what the shader of the words that they spell takes and reads, or the first broken rule of it.
 #[tactic(auto, using(field_words::proofs::Questions::first_is))]
 pub fn shader_answer(alloc: Global, bytes: &[u8]) -> Result<Answer, NoMemory>
     requires { length bytes.now ≤ most_code }
@@ -190,19 +190,19 @@ pub fn shader_answer(alloc: Global, bytes: &[u8]) -> Result<Answer, NoMemory>
     match shader_in(alloc, bytes) {
         Ok(info) => {
             let code = code_in(alloc, bytes)?;
-            told(alloc, &code, &info)
+            report(alloc, &code, &info)
         }
         Err(Stop::Fault(fault)) => shader_refused(alloc, shader_rule(&fault), fault.index),
         Err(Stop::NoMemory) => Err(NoMemory),
     }
 }
 
-/// The checker's answer, as it is told of a shader in a job.
-#[tactic(auto, unfolding(job_check::specs::Shaders::told_of))]
+/// The checker's answer, as it is reported of a shader in a job.
+#[tactic(auto, unfolding(job_check::specs::Shaders::report_of))]
 pub(crate) fn checked(alloc: Global, code: &[u64]) -> Result<ShaderInfo, Stop<ShaderFault>>
     requires { length code.now ≤ most_words }
     ensures { Answers (shader_questions code.now)
-        (λ info. shader_view info ≡ told_of code.now) result }
+        (λ info. shader_view info ≡ report_of code.now) result }
 {
     check_code(alloc, code)
 }
@@ -210,7 +210,7 @@ pub(crate) fn checked(alloc: Global, code: &[u64]) -> Result<ShaderInfo, Stop<Sh
 // What is answered to a shader of these words.
 #[tactic(auto, using(field_words::proofs::Questions::first_is))]
 fn words_answer(alloc: Global, code: &[u64]) -> Result<Answer, NoMemory>
-    ensures answers { IfOk result (λ a. IsWordsAnswer IsTold code.now a.status a.text.items) }
+    ensures answers { IfOk result (λ a. IsWordsAnswer IsReported code.now a.status a.text.items) }
     ensures status { IfOk result (λ a. a.status < 2) }
     ensures cause { IfOk result (λ a. a.cause ≡ words_cause code.now) }
 {
@@ -218,13 +218,13 @@ fn words_answer(alloc: Global, code: &[u64]) -> Result<Answer, NoMemory>
         return long_refused(alloc, code.len() as u64);
     }
     match checked(alloc, code) {
-        Ok(info) => told(alloc, code, &info),
+        Ok(info) => report(alloc, code, &info),
         Err(Stop::Fault(fault)) => shader_refused(alloc, shader_rule(&fault), fault.index),
         Err(Stop::NoMemory) => Err(NoMemory),
     }
 }
 
-/// What `shader --asm` answers to a text: what the shader of its words takes and reads, the first rule that stands of it, or the text's
+/// What `shader --asm` answers to a text: what the shader of its words takes and reads, the first broken rule of it, or the text's
 /// first fault.
 pub fn shader_text_answer(alloc: Global, text: &[u8]) -> Result<Answer, NoMemory>
     requires { length text.now ≤ most_list }

@@ -1,4 +1,4 @@
-//! What a person is told on standard error where the program has no answer.
+//! What a person reads on standard error where the program has no answer.
 ghost use Rattle.std.specs.Prelude.{◌≡◌, Some, None, IfSome, IfNone};
 ghost use Rattle.commands.specs.Notice.{notice_of};
 

@@ -12,7 +12,7 @@ use job_io::{Sink, Source};
 use std::alloc::Global;
 
 /// Does what the words ask for: reads the command's input from the source, or makes an example, and appends the text that answers it to
-/// the sink. It says how it ended, and why: with status 1 comes what a person is told of the refusal, where there is more to say than the
+/// the sink. It says how it ended, and why: with status 1 comes what a person reads of the refusal, where there is more to say than the
 /// text says, and with status 2 which word is wrong.
 ///
 /// | Status | Meaning | What the sink gets |

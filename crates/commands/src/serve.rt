@@ -4,7 +4,7 @@ ghost use Rattle.std.specs.Io.KnownBytes.{IsAtEnd};
 ghost use Rattle.job_io.specs.Faults.{Rose};
 ghost use Rattle.job_io.specs.Traffic.{count_taken};
 ghost use Rattle.commands.specs.Answer.{IsAnswer};
-ghost use Rattle.commands.specs.Cause.{IsCause, is_told};
+ghost use Rattle.commands.specs.Cause.{IsCause, is_reported};
 ghost use Rattle.commands.specs.Reply.{reply_status, reply_cause, IsReplyOf, IsReplyReady};
 ghost use Rattle.commands.specs.Run.{IsAnswered, IsCut, FailsAt};
 ghost use Rattle.commands.specs.Words.{limit_of, IsWithin};
@@ -63,20 +63,20 @@ fn answer_to(alloc: Global, command: Command, bytes: &[u8]) -> Result<Reply<'_>,
     Ok(Reply::Text(answer?))
 }
 
-// The cause goes with the statuses of which something is told.
+// The cause goes with the statuses of which something is reported.
 fn ended(command: Command, status: u8, cause: Option<Cause>) -> Ended<Cause>
     ensures status { result.status ≡ status }
-    ensures told { is_told command status ≡ true → result.cause ≡ cause }
-    ensures quiet { is_told command status ≡ false → result.cause ≡ None }
+    ensures report { is_reported command status ≡ true → result.cause ≡ cause }
+    ensures quiet { is_reported command status ≡ false → result.cause ≡ None }
 {
-    if command.is_told(status) {
+    if command.is_reported(status) {
         Ended { status, cause }
     } else {
         Ended::silent(status)
     }
 }
 
-/// Appends the answer to these bytes to the sink, and says what a person is told of them. All memory is taken before the first byte is written.
+/// Appends the answer to these bytes to the sink, and says what a person reads of them. All memory is taken before the first byte is written.
 fn respond<K: Sink>(alloc: Global, command: Command, bytes: &[u8], sink: &mut K) -> Ended<Cause>
     requires few { length bytes.now ≤ limit_of command }
     requires within { IsWithin command }
@@ -89,8 +89,8 @@ fn respond<K: Sink>(alloc: Global, command: Command, bytes: &[u8], sink: &mut K)
     ensures cut { result.status ≡ 4
         → IsCut (IsAnswer command bytes.now) (K.held sink.old) (K.held sink.new) }
     ensures nothing { 1 < result.status → result.status ≢ 4 → sink.new ≡ sink.old }
-    ensures cause { is_told command result.status ≡ true → IsCause command bytes.now result.cause }
-    ensures quiet { is_told command result.status ≡ false → result.cause ≡ None }
+    ensures cause { is_reported command result.status ≡ true → IsCause command bytes.now result.cause }
+    ensures quiet { is_reported command result.status ≡ false → result.cause ≡ None }
 {
     let Ok(answer) = answer_to(alloc, command, bytes) else {
         return Ended::silent(5);
@@ -99,7 +99,7 @@ fn respond<K: Sink>(alloc: Global, command: Command, bytes: &[u8], sink: &mut K)
     ended(command, print(sink, answer), why)
 }
 
-/// Reads all of the command's input, appends its answer to the sink, and says what a person is told of the input. All memory is taken before the
+/// Reads all of the command's input, appends its answer to the sink, and says what a person reads of the input. All memory is taken before the
 /// first byte is written.
 ///
 /// Status 0 is done and 1 refused, of which, and of 4, all input was read; 3 and 4 are faults of the source and of the sink, 5 is want of
@@ -127,9 +127,9 @@ pub fn serve<S: Source, K: Sink>(
     ensures complete { (Rose (S.faults source.old) (S.faults source.new) → ⊥) → (Rose (K.faults sink.old) (K.faults sink.new) → ⊥)
         → result.status ≢ 6 → ((result.status < 2) ⊎ (result.status ≡ 5)) }
     ensures nothing { 1 < result.status → result.status ≢ 4 → sink.new ≡ sink.old }
-    ensures cause { is_told command result.status ≡ true
+    ensures cause { is_reported command result.status ≡ true
         → IfSome (S.left source.old) (λ bytes. IsCause command bytes result.cause) }
-    ensures quiet { is_told command result.status ≡ false → result.cause ≡ None }
+    ensures quiet { is_reported command result.status ≡ false → result.cause ≡ None }
 {
     match read_all(alloc, source, command.limit()) {
         Err(ReadEnd::ReadFault) => Ended::silent(3),

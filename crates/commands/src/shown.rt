@@ -1,7 +1,7 @@
 //! The commands `show` and `make`.
 ghost use Rattle.std.specs.Prelude.{◌≡◌, ◌<◌, None, Ok, IfOk};
 ghost use Rattle.job_check.specs.Whole.{refusal_of};
-ghost use Rattle.job_text.specs.Made.{made};
+ghost use Rattle.job_text.specs.Made.{text_bytes};
 ghost use Rattle.strict_check.specs.Whole.{strict_refusal_of};
 ghost use Rattle.commands.specs.Cause.{mistake_cause};
 ghost use Rattle.commands.specs.Show.{IsShown, IsShowAnswer, IsMakeAnswer};
@@ -18,7 +18,7 @@ use std::alloc::Global;
 // The text of bytes that this rule refuses, or none.
 fn shown_text(alloc: Global, bytes: &[u8], refusal: Option<Refusal>) -> Result<Vec<u8>, NoMemory>
     ensures text { IfOk result (λ text. IsShown bytes.now refusal text.items) }
-    ensures again { IfOk result (λ text. made text.items ≡ Ok bytes.now) }
+    ensures again { IfOk result (λ text. text_bytes text.items ≡ Ok bytes.now) }
 {
     match refusal {
         None => show(alloc, bytes, None, b""),
@@ -43,7 +43,7 @@ pub fn show_answer(alloc: Global, bytes: &[u8]) -> Result<Answer, NoMemory>
     Ok(Answer::done(text))
 }
 
-/// The same, where a strict rule is marked if no other refuses them.
+/// What `show --strict` answers: a strict rule is marked if no other refuses the bytes.
 pub fn strict_show_answer(alloc: Global, bytes: &[u8]) -> Result<Answer, NoMemory>
     ensures answers { IfOk result (λ a. IsShowAnswer (strict_refusal_of bytes.now) bytes.now
         a.status a.text.items) }
@@ -55,11 +55,11 @@ pub fn strict_show_answer(alloc: Global, bytes: &[u8]) -> Result<Answer, NoMemor
     Ok(Answer::done(text))
 }
 
-/// What `make` answers to a text: its bytes, or nothing where it has a fault, of which a person is told.
+/// What `make` answers to a text: its bytes, or nothing where it has a fault, of which a person learns.
 pub fn make_answer(alloc: Global, text: &[u8]) -> Result<Answer, NoMemory>
     ensures answers { IfOk result (λ a. IsMakeAnswer text.now a.status a.text.items) }
     ensures status { IfOk result (λ a. a.status < 2) }
-    ensures cause { IfOk result (λ a. a.cause ≡ mistake_cause (made text.now)) }
+    ensures cause { IfOk result (λ a. a.cause ≡ mistake_cause (text_bytes text.now)) }
 {
     match make(alloc, text) {
         Ok(bytes) => Ok(Answer::done(bytes)),

@@ -2,12 +2,12 @@
 ghost use Rattle.std.specs.Prelude.{◌≡◌, ◌≤◌, ◌<◌, length, IfOk};
 ghost use Rattle.field_words.specs.Questions.{first_of};
 ghost use Rattle.field_words.specs.Sizes.{most_code, most_list, most_words};
-ghost use Rattle.job_check.specs.Shaders.{words_of, code_questions, told_of};
+ghost use Rattle.job_check.specs.Shaders.{words_of, code_questions, report_of};
 ghost use Rattle.qpu_asm.specs.Assembly.{Assembled};
 ghost use Rattle.qpu_isa.specs.Shader.{shader_view};
 ghost use Rattle.strict_rules.specs.Rules.{strict_questions};
 ghost use Rattle.commands.specs.Cause.{strict_fault_cause, strict_cause_of, strict_words_cause, strict_text_cause};
-ghost use Rattle.commands.specs.LoneShader.{IsStrictlyTold, IsWordsAnswer, IsStrictShaderAnswer, IsStrictShaderTextAnswer};
+ghost use Rattle.commands.specs.LoneShader.{IsStrictlyReported, IsWordsAnswer, IsStrictShaderAnswer, IsStrictShaderTextAnswer};
 
 use super::answer::Answer;
 use super::cause::{shader_rule, strict_rule};
@@ -23,10 +23,10 @@ use strict_rules::check_strict;
 
 // What is answered to a shader that breaks no other rule.
 #[tactic(auto, using(field_words::proofs::Questions::first_is))]
-fn strict_told(alloc: Global, code: &[u64], info: &ShaderInfo) -> Result<Answer, NoMemory>
+fn strict_report(alloc: Global, code: &[u64], info: &ShaderInfo) -> Result<Answer, NoMemory>
     requires few { length code.now ≤ most_words }
-    requires told { shader_view info.now ≡ told_of code.now }
-    ensures answers { IfOk result (λ a. IsStrictlyTold code.now a.status a.text.items) }
+    requires report { shader_view info.now ≡ report_of code.now }
+    ensures answers { IfOk result (λ a. IsStrictlyReported code.now a.status a.text.items) }
     ensures status { IfOk result (λ a. a.status < 2) }
     ensures cause { IfOk result (λ a. a.cause
         ≡ strict_fault_cause code.now (first_of (strict_questions code.now))) }
@@ -38,7 +38,7 @@ fn strict_told(alloc: Global, code: &[u64], info: &ShaderInfo) -> Result<Answer,
     }
 }
 
-/// What `shader --strict` answers to bytes: what the shader of the words that they spell takes and reads, or the first rule that stands of
+/// What `shader --strict` answers to bytes: what the shader of the words that they spell takes and reads, or the first broken rule of
 /// it, the strict ones last.
 #[tactic(auto, using(field_words::proofs::Questions::first_is))]
 pub fn strict_shader_answer(alloc: Global, bytes: &[u8]) -> Result<Answer, NoMemory>
@@ -51,7 +51,7 @@ pub fn strict_shader_answer(alloc: Global, bytes: &[u8]) -> Result<Answer, NoMem
     match shader_in(alloc, bytes) {
         Ok(info) => {
             let code = code_in(alloc, bytes)?;
-            strict_told(alloc, &code, &info)
+            strict_report(alloc, &code, &info)
         }
         Err(Stop::Fault(fault)) => shader_refused(alloc, shader_rule(&fault), fault.index),
         Err(Stop::NoMemory) => Err(NoMemory),
@@ -61,7 +61,7 @@ pub fn strict_shader_answer(alloc: Global, bytes: &[u8]) -> Result<Answer, NoMem
 // What is answered to a shader of these words.
 #[tactic(auto, using(field_words::proofs::Questions::first_is))]
 fn strict_words_answer(alloc: Global, code: &[u64]) -> Result<Answer, NoMemory>
-    ensures answers { IfOk result (λ a. IsWordsAnswer IsStrictlyTold code.now a.status
+    ensures answers { IfOk result (λ a. IsWordsAnswer IsStrictlyReported code.now a.status
         a.text.items) }
     ensures status { IfOk result (λ a. a.status < 2) }
     ensures cause { IfOk result (λ a. a.cause ≡ strict_words_cause code.now) }
@@ -70,7 +70,7 @@ fn strict_words_answer(alloc: Global, code: &[u64]) -> Result<Answer, NoMemory>
         return long_refused(alloc, code.len() as u64);
     }
     match checked(alloc, code) {
-        Ok(info) => strict_told(alloc, code, &info),
+        Ok(info) => strict_report(alloc, code, &info),
         Err(Stop::Fault(fault)) => shader_refused(alloc, shader_rule(&fault), fault.index),
         Err(Stop::NoMemory) => Err(NoMemory),
     }

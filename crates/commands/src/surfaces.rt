@@ -119,7 +119,7 @@ pub fn tile_answer(alloc: Global, picture: Picture, bytes: &[u8]) -> Result<Answ
     }
 }
 
-/// What `level` answers to a buffer that has a texture: the level's pixels by rows, or its blocks, or the first rule that stands.
+/// What `level` answers to a buffer that has a texture: the level's pixels by rows, or its blocks, or the first broken rule.
 pub fn level_answer(alloc: Global, part: TexturePart, bytes: &[u8]) -> Result<Answer, NoMemory>
     requires { length bytes.now < 2 ^ 32 }
     ensures answers { IfOk result (λ a. IsLevelAnswer part bytes.now a.status a.text.items) }

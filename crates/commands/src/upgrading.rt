@@ -1,7 +1,7 @@
 //! The command `upgrade`.
 ghost use Rattle.std.specs.Prelude.{◌≡◌, ◌<◌, IfOk, IsOk};
 ghost use Rattle.field_words.specs.Questions.{Answers, first_of};
-ghost use Rattle.job_format.specs.File.{IsFileOf, upgraded};
+ghost use Rattle.job_format.specs.File.{IsFileOf, file_upgraded};
 ghost use Rattle.job_format.specs.Reading.{file_at};
 ghost use Rattle.job_format.specs.Text.{file_text};
 ghost use Rattle.commands.specs.{Cause.IsRuleCause, Upgrade.format_rules, Verdict.IsUpgradeAnswer};
@@ -13,10 +13,10 @@ use job_check::format_refusal;
 use job_format::{Refusal, read_job, upgrade_file, write_job};
 use std::alloc::Global;
 
-// The same file as version 2.
+// The text of the file as version 2.
 fn upgraded(alloc: Global, bytes: &[u8]) -> Result<Vec<u8>, Stop<Refusal>>
     ensures answers { Answers (format_rules bytes.now)
-        (λ text. text.items ≡ file_text (upgraded (file_at bytes.now))) result }
+        (λ text. text.items ≡ file_text (file_upgraded (file_at bytes.now))) result }
     ensures spelled { IsOk result → IsFileOf bytes.now (file_at bytes.now) }
 {
     match read_job(alloc, bytes) {
@@ -25,7 +25,7 @@ fn upgraded(alloc: Global, bytes: &[u8]) -> Result<Vec<u8>, Stop<Refusal>>
     }
 }
 
-/// What `upgrade` answers to these bytes: the same file as version 2, or the first rule of the format that stands.
+/// What `upgrade` answers to these bytes: the same file as version 2, or the first broken rule of the format.
 #[tactic(auto, using(field_words::proofs::Questions::first_is))]
 pub fn upgrade_answer(alloc: Global, bytes: &[u8]) -> Result<Answer, NoMemory>
     ensures answers { IfOk result (λ a. IsUpgradeAnswer bytes.now a.status a.text.items) }

@@ -1,5 +1,5 @@
 //! From the program's words to what they ask for, or to the word that is wrong.
-ghost use Rattle.seeded_runs.specs.Told.{IsLookWithin};
+ghost use Rattle.seeded_runs.specs.Report.{IsLookWithin};
 ghost use Rattle.std.specs.Prelude.{ℕ, ◌≡◌, ◌≤◌, ◌<◌, ◌∷◌, ◌-◌, [], length, codes, drop, is_some, not, if◌then◌else◌, IfOk, IfSome, MatchResult, OnOk};
 ghost use Rattle.commands.specs.Choice.{option_letter};
 ghost use Rattle.commands.specs.declared.word_fault.WordFault.TheVariants.{Missing, Wrong};
@@ -7,7 +7,7 @@ ghost use Rattle.commands.specs.Line.{line_of, texts, number_by, given_number, g
 ghost use Rattle.commands.specs.Pictures.{IsPictureWithin};
 ghost use Rattle.commands.specs.Trials.{IsRangeWithin};
 ghost use Rattle.commands.specs.WordFault.{values_of};
-ghost use Rattle.commands.specs.Words.{run, runs, replay, picture, pictured, level, example, slots, queue, check, show, shader, strict_shader, explain, asked, put_out, task_behind, help_of, version_alone, strange_by, topic_named, task_or_fault, is_name, names_file, is_command, names_output, excess_of, is_read, ReadsWithin};
+ghost use Rattle.commands.specs.Words.{run_asked, runs, replay, picture, picture_asked, level, example, slots, queue, check, show, shader, strict_shader, explain, task_asked, put_out, task_behind, help_of, version_alone, strange_by, topic_named, task_or_fault, is_name, names_file, is_command, names_output, excess_of, is_read, ReadsWithin};
 ghost use Rattle.texture_layouts.specs.Surface.{IsPixelSize};
 
 use super::choice::{nearest, nearest_topic, option_letter};
@@ -198,7 +198,7 @@ impl<'a> Line<'a> {
 /// `STEPS SEED`
 fn run(mut line: Line, look: Look, favoured: Option<UnitKind>) -> Result<Task, WordFault>
     requires { (seed : ℕ) → IsLookWithin look seed }
-    ensures value { result ≡ run look favoured (line_of line.entry) }
+    ensures value { result ≡ run_asked look favoured (line_of line.entry) }
     ensures within { IfOk result ReadsWithin }
 {
     let steps = line.number(Argument::Steps)?;
@@ -259,7 +259,7 @@ fn picture(mut line: Line) -> Result<Task, WordFault>
 
 /// `TILING CPP WIDTH HEIGHT`
 fn pictured(mut line: Line) -> Result<Picture, WordFault>
-    ensures value { result ≡ pictured (line_of line.entry) }
+    ensures value { result ≡ picture_asked (line_of line.entry) }
     ensures within { IfOk result IsPictureWithin }
 {
     let tiling = line.tiling()?;
@@ -375,7 +375,7 @@ fn queue(mut line: Line) -> Result<Task, WordFault>
 
 /// What the words behind a command's name ask of it.
 fn asked(line: Line) -> Result<Task, WordFault>
-    ensures value { result ≡ asked line.entry.verb (line_of line.entry) }
+    ensures value { result ≡ task_asked line.entry.verb (line_of line.entry) }
     ensures within { IfOk result ReadsWithin }
 {
     match line.verb {
@@ -400,7 +400,7 @@ fn asked(line: Line) -> Result<Task, WordFault>
     }
 }
 
-/// The same, where `-o OUT` may stand before them.
+/// The task of words before which `-o OUT` may stand.
 fn put_out(mut line: Line) -> Result<Task, WordFault>
     ensures value { result ≡ put_out line.entry.verb (line_of line.entry) }
     ensures within { IfOk result ReadsWithin }

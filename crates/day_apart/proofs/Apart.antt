@@ -2,14 +2,14 @@
 use Rattle.std.proofs.Common.{◌≡◌, ◌≢◌, ◌≤◌, ◌<◌, ℕ, zero, suc, ◌+◌, inl, inr, Bool, true, false, if◌then◌else◌, List, [], ◌∷◌, ◌++◌, length, map, Option, Some, None, IfSome, refl, sym, ◌∙◌, ap, subst, arith, slice_index}
 use Rattle.std.proofs.lemmas.{Bool.false≢true, Bool.cases_lt, List.length-map, Option.slice_get-map}
 use Rattle.std.specs.Prelude.{drop, option_map, slice_index_or}
-use Rattle.machine_plan.specs.{Memory.bytes_at, Runs.reached, Runs.found_by}
+use Rattle.machine_plan.specs.{Memory.bytes_at, Runs.state_reached, Runs.found_by}
 use Rattle.machine_plan.specs.Regions.{Interval, Inside}
 use Rattle.machine_plan.proofs.Runs.{every-weaker}
 use Rattle.list_machine.specs.Lists.{Lists, binner_ended, renderer_ended}
 use Rattle.qpu_machine.specs.{declared.state.Qpu.Qpu, declared.state.Request.Request, declared.state.Thread.Thread, Qpu.slot_of}
 use Rattle.machine.specs.State.{State, Units, item_at, job_start}
 use Rattle.machine.specs.Step.{may}
-use Rattle.apart_law.specs.Part.{Part, part_of, seen, StatesAlike, UnitsAlike}
+use Rattle.apart_law.specs.Part.{Part, part_of, thread_seen, StatesAlike, UnitsAlike}
 use Rattle.promises.specs.Days.{Admitted, Day, Files, Happening, Steps, Changes, Finds, Admits, Retires, Resets, Job, after, dawn, found_at, found_in}
 use Rattle.promises.specs.Days.{happen, no_rights, rights_in, with_files}
 use Rattle.promises.specs.{Trail.Client, Trail.accesses_of, Trail.entry_of, Apart.IsUnshared}
@@ -19,9 +19,9 @@ use Rattle.apart_law.proofs.Parts.{sees_none, chosen_of}
 use Rattle.apart_law.proofs.Places.{map_alike, map_at, map_same, put_alike, put_elsewhere, put_every, every_at}
 use Rattle.apart_law.proofs.Trails.{AllMay, trails_alike}
 use Rattle.machine_law.proofs.Apart.{agree_same, entry_none, entry_some, has_regions, own_stays, states_back, states_then, step_silent, units_same}
-use Rattle.day_law.specs.Alike.{made, all_made}
+use Rattle.day_law.specs.Alike.{accesses_made, all_made}
 use Rattle.day_law.proofs.{Days.dawn_known, Keeping.happens, Known.IsKnown, Known.keeps, Own.facts, Alike.more_rights_are, Alike.rights_without}
-use Rattle.day_apart.specs.Apart.{Note, held_in, noted, is_own_thread, is_own_in, is_own, own_note, moved, own_regions, MayApart, AllMayApart, DaysApart}
+use Rattle.day_apart.specs.Apart.{Note, held_in, note_of, is_own_thread, is_own_in, is_own, own_note, day_moved, own_regions, MayApart, AllMayApart, DaysApart}
 use Rattle.day_apart.proofs.Regions.{regions_same, regions_more, regions_less, items_more, both_items}
 
 -- What is known of a day, and of two that are alike to the client.
@@ -51,7 +51,7 @@ alike_then mine d e f first second = record {
 }
 
 -- notes
-what_is : (d : Day) (one : Happening) → (noted d one).what ≡ one
+what_is : (d : Day) (one : Happening) → (note_of d one).what ≡ one
 what_is d (Steps event) = refl
 what_is d (Changes m) = refl
 what_is d (Finds k second files) = refl
@@ -60,7 +60,7 @@ what_is d (Retires j) = refl
 what_is d Resets = refl
 
 -- what a program finds, in the client's part
-files_seen : (mine : Client) (files : Files) (slot : Option Thread) → seen mine (option_map (with_files files) slot) ≡ option_map (with_files files) (seen mine slot)
+files_seen : (mine : Client) (files : Files) (slot : Option Thread) → thread_seen mine (option_map (with_files files) slot) ≡ option_map (with_files files) (thread_seen mine slot)
 files_seen mine files None = refl
 files_seen mine files (Some t) = sym (chosen_of (option_map (with_files files)) (mine t.job) (Some t) None)
 
@@ -71,16 +71,16 @@ part_found second files p = record p {
 }
 
 found_part : (mine : Client) (second : Bool) (files : Files) (q : Qpu) → part_of mine (found_in second files q) ≡ part_found second files (part_of mine q)
-found_part mine true files q = λ i. record { first = seen mine q.first; other = files_seen mine files q.other i; queue0 = (part_of mine q).queue0; queue1 = (part_of mine q).queue1 }
-found_part mine false files q = λ i. record { first = files_seen mine files q.first i; other = seen mine q.other; queue0 = (part_of mine q).queue0; queue1 = (part_of mine q).queue1 }
+found_part mine true files q = λ i. record { first = thread_seen mine q.first; other = files_seen mine files q.other i; queue0 = (part_of mine q).queue0; queue1 = (part_of mine q).queue1 }
+found_part mine false files q = λ i. record { first = files_seen mine files q.first i; other = thread_seen mine q.other; queue0 = (part_of mine q).queue0; queue1 = (part_of mine q).queue1 }
 
-other_seen : (mine : Client) (files : Files) (slot : Option Thread) → is_own_thread mine slot ≡ false → seen mine (option_map (with_files files) slot) ≡ seen mine slot
+other_seen : (mine : Client) (files : Files) (slot : Option Thread) → is_own_thread mine slot ≡ false → thread_seen mine (option_map (with_files files) slot) ≡ thread_seen mine slot
 other_seen mine files None other = refl
 other_seen mine files (Some t) other = sees_none mine (with_files files t) other ∙ sym (sees_none mine t other)
 
 other_found : (mine : Client) (second : Bool) (files : Files) (q : Qpu) → is_own_thread mine (slot_of q second) ≡ false → part_of mine (found_in second files q) ≡ part_of mine q
-other_found mine true files q other = λ i. record { first = seen mine q.first; other = other_seen mine files q.other other i; queue0 = (part_of mine q).queue0; queue1 = (part_of mine q).queue1 }
-other_found mine false files q other = λ i. record { first = other_seen mine files q.first other i; other = seen mine q.other; queue0 = (part_of mine q).queue0; queue1 = (part_of mine q).queue1 }
+other_found mine true files q other = λ i. record { first = thread_seen mine q.first; other = other_seen mine files q.other other i; queue0 = (part_of mine q).queue0; queue1 = (part_of mine q).queue1 }
+other_found mine false files q other = λ i. record { first = other_seen mine files q.first other i; other = thread_seen mine q.other; queue0 = (part_of mine q).queue0; queue1 = (part_of mine q).queue1 }
 
 -- Requests stay tied.
 some_files : (files : Files) (r : Request) (slot : Option Thread) → IfSome slot (λ t. t.job ≡ r.job) → IfSome (option_map (with_files files) slot) (λ t. t.job ≡ r.job)
@@ -116,7 +116,7 @@ known_after mine d one known can = record { known = happens d one known.known ca
 
 -- What isn't the client's leaves its part alone.
 abbrev IsSilent : Client → Day → Happening → Type 0
-IsSilent mine d one = (accesses_of mine (made d one) ≡ []) × DaysAlike mine (happen d one) d
+IsSilent mine d one = (accesses_of mine (accesses_made d one) ≡ []) × DaysAlike mine (happen d one) d
 
 silent_found : (mine : Client) (u : Units) (k : ℕ) (second : Bool) (files : Files) (found : Option Qpu) → item_at u.qpus k ≡ found → is_own_in mine second found ≡ false → UnitsAlike mine (found_at u k second files found) u
 silent_found mine u k second files None is other = units_same mine u
@@ -160,7 +160,7 @@ silent mine d Resets known can other = absurd (false≢true (sym other))
 
 -- What is the client's in both days is done alike.
 abbrev AreDoneAlike : Client → Day → Day → Happening → Type 0
-AreDoneAlike mine d e one = (accesses_of mine (made d one) ≡ accesses_of mine (made e one)) × DaysAlike mine (happen d one) (happen e one)
+AreDoneAlike mine d e one = (accesses_of mine (accesses_made d one) ≡ accesses_of mine (accesses_made e one)) × DaysAlike mine (happen d one) (happen e one)
 
 both_found : (mine : Client) (u v : Units) (k : ℕ) (second : Bool) (files : Files) (one other : Option Qpu) → item_at u.qpus k ≡ one → item_at v.qpus k ≡ other → is_own_in mine second one ≡ true → is_own_in mine second other ≡ true → UnitsAlike mine u v
     → UnitsAlike mine (found_at u k second files one) (found_at v k second files other)
@@ -218,7 +218,7 @@ both_reset mine d e alike =
     λ j own. slice_get-map ended d.state.units.jobs j ∙ (ap (option_map ended) (alike.states.units.jobs j own) ∙ sym (slice_get-map ended e.state.units.jobs j)) in
     record { states = record { units = record { jobs = jobs; qpus = refl }; memory = alike.states.memory }; rights = alike.rights }
 
-both_same : (mine : Client) (d e : Day) (one : Happening) → KnownApart mine d → KnownApart mine e → MayApart mine d one → MayApart mine e one → DaysAlike mine d e → is_own mine d one ≡ true → is_own mine e one ≡ true → noted d one ≡ noted e one
+both_same : (mine : Client) (d e : Day) (one : Happening) → KnownApart mine d → KnownApart mine e → MayApart mine d one → MayApart mine e one → DaysAlike mine d e → is_own mine d one ≡ true → is_own mine e one ≡ true → note_of d one ≡ note_of e one
     → AreDoneAlike mine d e one
 both_same mine d e (Steps event) known also can could alike own too same =
     let all : List Interval = own_regions mine d in
@@ -236,52 +236,52 @@ both_same mine d e Resets known also can could alike own too same = (refl, both_
 
 -- so step by step
 abbrev Both : Client → Day → Day → Happening → Happening → Type 0
-Both mine d e one other = (accesses_of mine (made d one) ≡ accesses_of mine (made e other)) × DaysAlike mine (happen d one) (happen e other)
+Both mine d e one other = (accesses_of mine (accesses_made d one) ≡ accesses_of mine (accesses_made e other)) × DaysAlike mine (happen d one) (happen e other)
 
 both_alike : (mine : Client) (d e : Day) (one other : Happening) (x : Note) → KnownApart mine d → KnownApart mine e → MayApart mine d one → MayApart mine e other → DaysAlike mine d e → own_note mine d one ≡ Some x → own_note mine e other ≡ Some x
     → Both mine d e one other
 both_alike mine d e one other x known also can could alike first second =
-    let left = entry_some (is_own mine d one) (noted d one) x first in
-    let right = entry_some (is_own mine e other) (noted e other) x second in
+    let left = entry_some (is_own mine d one) (note_of d one) x first in
+    let right = entry_some (is_own mine e other) (note_of e other) x second in
     let is : one ≡ other = sym (what_is d one) ∙ (ap (λ (n : Note). n.what) (left.1 ∙ sym right.1) ∙ what_is e other) in
-    subst (λ h. MayApart mine e h → is_own mine e h ≡ true → noted d one ≡ noted e h → Both mine d e one h) is
+    subst (λ h. MayApart mine e h → is_own mine e h ≡ true → note_of d one ≡ note_of e h → Both mine d e one h) is
     (λ could too same. both_same mine d e one known also can could alike left.0 too same) could right.0 (left.1 ∙ sym right.1)
 
-steps_alike : (mine : Client) → StepsAlike (own_note mine) moved mine (MayApart mine) (MayApart mine) (KnownApart mine) (KnownApart mine) (DaysAlike mine)
+steps_alike : (mine : Client) → StepsAlike (own_note mine) day_moved mine (MayApart mine) (MayApart mine) (KnownApart mine) (KnownApart mine) (DaysAlike mine)
 steps_alike mine = record {
   keeps = λ d one known can. known_after mine d one known can;
   others_keep = λ d one known can. known_after mine d one known can;
   quiet = λ d e one known can alike none.
-      let gave = silent mine d one known can (entry_none (is_own mine d one) (noted d one) none) in
+      let gave = silent mine d one known can (entry_none (is_own mine d one) (note_of d one) none) in
       (gave.0, alike_then mine (happen d one) d e gave.1 alike);
   others_quiet = λ d e one known can alike none.
-      let gave = silent mine e one known can (entry_none (is_own mine e one) (noted e one) none) in
+      let gave = silent mine e one known can (entry_none (is_own mine e one) (note_of e one) none) in
       (gave.0, alike_then mine d e (happen e one) alike (alike_back mine (happen e one) e gave.1));
   both = λ d e one other x known also can could alike first second. both_alike mine d e one other x known also can could alike first second;
 }
 
 -- the whole days
-all_may : (mine : Client) (d : Day) (happenings : List Happening) → AllMayApart mine d happenings → AllMay moved (MayApart mine) d happenings
+all_may : (mine : Client) (d : Day) (happenings : List Happening) → AllMayApart mine d happenings → AllMay day_moved (MayApart mine) d happenings
 all_may mine d [] can = tt
 all_may mine d (one ∷ later) can = (can.0, all_may mine (happen d one) later can.1)
 
-reached_is : (d : Day) (happenings : List Happening) → reached moved d happenings ≡ after d happenings
+reached_is : (d : Day) (happenings : List Happening) → state_reached day_moved d happenings ≡ after d happenings
 reached_is d [] = refl
 reached_is d (one ∷ later) = reached_is (happen d one) later
 
-found_is : (d : Day) (happenings : List Happening) → found_by moved d happenings ≡ all_made d happenings
+found_is : (d : Day) (happenings : List Happening) → found_by day_moved d happenings ≡ all_made d happenings
 found_is d [] = refl
-found_is d (one ∷ later) = ap (λ l. made d one ++ l) (found_is (happen d one) later)
+found_is d (one ∷ later) = ap (λ l. accesses_made d one ++ l) (found_is (happen d one) later)
 
 dawn_apart : (mine : Client) (m : List ℕ) → KnownApart mine (dawn m)
 dawn_apart mine m = record { known = dawn_known m; tied = idle_tied 12; unshared = λ j k p own other lies writes. lies }
 
 pub days_apart_law : DaysApart
 days_apart_law mine m n long happenings others can could trails =
-    let ran = trails_alike (own_note mine) moved mine (MayApart mine) (MayApart mine) (KnownApart mine) (KnownApart mine) (DaysAlike mine) (steps_alike mine) (dawn m) happenings (dawn_apart mine m) (all_may mine (dawn m) happenings can)
+    let ran = trails_alike (own_note mine) day_moved mine (MayApart mine) (MayApart mine) (KnownApart mine) (KnownApart mine) (DaysAlike mine) (steps_alike mine) (dawn m) happenings (dawn_apart mine m) (all_may mine (dawn m) happenings can)
     (dawn n) others (dawn_apart mine n) (record { states = record { units = units_same mine (dawn m).state.units; memory = record { long = long; same = λ p lies. absurd lies } }; rights = λ j own. refl }) (all_may mine (dawn n) others could) trails in
     let ends : DaysAlike mine (after (dawn m) happenings) (after (dawn n) others) =
-    subst (λ d. DaysAlike mine d (after (dawn n) others)) (reached_is (dawn m) happenings) (subst (DaysAlike mine (reached moved (dawn m) happenings)) (reached_is (dawn n) others) ran.states) in
+    subst (λ d. DaysAlike mine d (after (dawn n) others)) (reached_is (dawn m) happenings) (subst (DaysAlike mine (state_reached day_moved (dawn m) happenings)) (reached_is (dawn n) others) ran.states) in
     record {
       accesses = sym (ap (accesses_of mine) (found_is (dawn m) happenings)) ∙ (ran.accesses ∙ ap (accesses_of mine) (found_is (dawn n) others));
       memory = ends.states.memory;

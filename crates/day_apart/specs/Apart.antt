@@ -8,7 +8,7 @@ use Rattle.promises.specs.Trail.{Client, active_in, starts_in, entries_of}
 use Rattle.promises.specs.Days.{Day, Happening, Steps, Changes, Finds, Admits, Retires, Resets, after, dawn, happen, rights_in}
 use Rattle.promises.specs.Apart.{EndAlike, IsUnshared, regions_of}
 use Rattle.day_law.specs.Day.{MayHappen}
-use Rattle.day_law.specs.Alike.{made, all_made}
+use Rattle.day_law.specs.Alike.{accesses_made, all_made}
 
 -- What happens as a client may know it: what it is; of a step which thread was active and where it started a program; of an admission the
 -- job's number, and what its region held.
@@ -22,10 +22,10 @@ pub record Note : Type 0 where
 abbrev pub held_in : List ℕ → List Interval → List (List ℕ)
 held_in m region = map (λ (i : Interval). bytes_at m i.place i.size) region
 
-abbrev pub noted : Day → Happening → Note
-noted d (Steps event) = record { what = Steps event; second = active_in d.state event.unit; starts = starts_in d.state event.unit event.words; number = 0; held = [] }
-noted d (Admits job) = record { what = Admits job; second = false; starts = None; number = length d.jobs; held = held_in d.state.memory job.rights.region }
-noted d other = record { what = other; second = false; starts = None; number = 0; held = [] }
+abbrev pub note_of : Day → Happening → Note
+note_of d (Steps event) = record { what = Steps event; second = active_in d.state event.unit; starts = starts_in d.state event.unit event.words; number = 0; held = [] }
+note_of d (Admits job) = record { what = Admits job; second = false; starts = None; number = length d.jobs; held = held_in d.state.memory job.rights.region }
+note_of d other = record { what = other; second = false; starts = None; number = 0; held = [] }
 
 abbrev pub is_own_thread : Client → Option Thread → Bool
 is_own_thread mine None = false
@@ -45,14 +45,14 @@ is_own mine d (Retires j) = mine j
 is_own mine d Resets = true
 
 abbrev pub own_note : Client → Day → Happening → Option Note
-own_note mine d one = if is_own mine d one then Some (noted d one) else None
+own_note mine d one = if is_own mine d one then Some (note_of d one) else None
 
-abbrev pub moved : Day → Happening → Moved Day
-moved d one = record { accesses = made d one; state = happen d one }
+abbrev pub day_moved : Day → Happening → Moved Day
+day_moved d one = record { accesses = accesses_made d one; state = happen d one }
 
 -- the client's trail of a day
 abbrev pub trail_from : Client → Day → List Happening → List Note
-trail_from mine d happenings = entries_of (own_note mine) moved d happenings
+trail_from mine d happenings = entries_of (own_note mine) day_moved d happenings
 
 -- the regions of its live jobs, joined
 abbrev pub own_regions : Client → Day → List Interval

@@ -14,7 +14,7 @@ use Rattle.machine.specs.Step.{Event, may, step, ready, turn, unit_turn}
 use Rattle.machine_law.specs.Units.{QpuFine, UnitsFine}
 use Rattle.ends_law.specs.Left.{EachWithin, SlotLeft, request_count, QpuLeft, CountedEnds, UnitsLeft, StepLess}
 use Rattle.promises.specs.Days.{Admitted, Day, Files, Happening, Steps, Changes, Finds, Admits, Retires, Resets, HasNoneOf, HasNoWork, Job}
-use Rattle.promises.specs.Days.{admitted_at, after, dawn, found_at, found_in, happen, joined_by, rights_in, stopped, with_files}
+use Rattle.promises.specs.Days.{admitted_at, after, dawn, found_at, found_in, happen, joined_by, rights_in, units_stopped, with_files}
 use Rattle.promises.specs.Steps.{one_if}
 use Rattle.ends_law.proofs.{Begins.job_ends, Begins.idle_left, Machine.unit_less, Plans.keeps_both, Processors.still_left, Runs.one_more, Shares.Hole, Shares.hole_at}
 use Rattle.day_law.specs.Day.{MayHappen, AllMayHappen}
@@ -230,7 +230,7 @@ quiet_at (s ∷ lists) zero = record { binner = or_none _ (below_itself s.binner
 quiet_at (s ∷ lists) (suc j) = quiet_at lists j
 
 resets : (d : Day) (j w n : ℕ) → IsOwn d j w n → IsOwn (happen d Resets) j w n
-resets d j w n own = record { inside = own.inside; left = none_own (admitted_at d.jobs j) j w n (stopped d.state.units) (quiet_at d.state.units.jobs j) (idle_left (λ i. (admitted_at d.jobs j).rights) (Keep (admitted_at d.jobs j)) (Just j) 0 12) }
+resets d j w n own = record { inside = own.inside; left = none_own (admitted_at d.jobs j) j w n (units_stopped d.state.units) (quiet_at d.state.units.jobs j) (idle_left (λ i. (admitted_at d.jobs j).rights) (Keep (admitted_at d.jobs j)) (Just j) 0 12) }
 
 -- Whatever happens.
 happens_own : (d : Day) (one : Happening) (j w n : ℕ) → IsKnown d → IsOwn d j w n → MayHappen d one → IsOwnLess (happen d one) j w n (own_step j d one) (own_stay j d one)

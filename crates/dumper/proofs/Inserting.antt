@@ -2,28 +2,28 @@
 use Rattle.std.proofs.Common.{◌≡◌, ℕ, zero, suc, ◌<◌, ◌≤◌, List, [], ◌∷◌, ◌++◌, length, take, drop, get_or, refl, sym, ap, subst, ◌∙◌, append_assoc, append-nil, arith}
 use Rattle.std.specs.List.{insert}
 use Rattle.field_words.specs.Writes.{Part}
-use Rattle.dumper.specs.{Parts.part_text, Parts.parts_text, Parts.part_end, Parts.Ascend, Parts.inserted, declared.span.Span.Span}
+use Rattle.dumper.specs.{Parts.part_text, Parts.parts_text, Parts.part_end, Parts.Ascend, Parts.part_inserted, declared.span.Span.Span}
 use Rattle.dumper.specs.Spans.{part_of, parts_of}
 use Rattle.dumper.proofs.{Sorting.put_before, Sorting.put_behind, Stretches.ascend_upto}
 
 -- Past a span that begins no later.
 pub passed_on : (spans : List Span) (at : ℕ) (x : Span) (part : Part) → at < length spans → x ≡ get_or spans at x → x.place ≤ part.place
-    → take at (parts_of spans) ++ inserted part (drop at (parts_of spans)) ≡ take (suc at) (parts_of spans) ++ inserted part (drop (suc at) (parts_of spans))
+    → take at (parts_of spans) ++ part_inserted part (drop at (parts_of spans)) ≡ take (suc at) (parts_of spans) ++ part_inserted part (drop (suc at) (parts_of spans))
 passed_on [] at x part below is order = absurd (omega (arith, below))
 passed_on (s ∷ spans) zero x part below is order = put_behind part (part_of s) (parts_of spans) (subst (λ (t : Span). t.place ≤ part.place) is order)
 passed_on (s ∷ spans) (suc at) x part below is order = ap (λ l. part_of s ∷ l) (passed_on spans at x part (omega (arith, below)) is order)
 
 -- Before one that begins behind it.
 pub found_at : (spans : List Span) (at : ℕ) (x : Span) (part : Part) → at < length spans → x ≡ get_or spans at x → part.place < x.place
-    → take at (parts_of spans) ++ inserted part (drop at (parts_of spans)) ≡ insert (parts_of spans) at part
+    → take at (parts_of spans) ++ part_inserted part (drop at (parts_of spans)) ≡ insert (parts_of spans) at part
 found_at [] at x part below is order = absurd (omega (arith, below))
 found_at (s ∷ spans) zero x part below is order = put_before part (part_of s) (parts_of spans) (subst (λ (t : Span). part.place < t.place) is order)
 found_at (s ∷ spans) (suc at) x part below is order = ap (λ l. part_of s ∷ l) (found_at spans at x part (omega (arith, below)) is order)
 
 -- Behind the last.
 pub found_last : (spans : List Span) (at : ℕ) (part : Part) → length spans ≤ at
-    → take at (parts_of spans) ++ inserted part (drop at (parts_of spans)) ≡ insert (parts_of spans) at part
-unfolding inserted
+    → take at (parts_of spans) ++ part_inserted part (drop at (parts_of spans)) ≡ insert (parts_of spans) at part
+unfolding part_inserted
 found_last [] zero part past = refl
 found_last [] (suc at) part past = refl
 found_last (s ∷ spans) zero part past = absurd (omega (arith, past))

@@ -2,13 +2,13 @@
 use Rattle.std.proofs.Common.{◌≡◌, ℕ, zero, suc, ◌+◌, ◌-◌, ◌*◌, ◌/◌, ◌%◌, ◌<◌, ◌≤◌, List, [], ◌∷◌, ◌++◌, length, take, drop, get_or, true, inl, inr, ◌&&◌, refl, sym, ap, subst, ◌∙◌, arith}
 use Rattle.std.proofs.{lemmas.List.places, lemmas.List.get_or_past, lemmas.Bool.cases_lt, lemmas.Grind.same_number_lists}
 use Rattle.std.specs.{Prelude.◌==◌, Prelude.if◌then◌else◌, List.list_all}
-use Rattle.field_words.specs.Writes.{Part, placed, with_bytes, zeros}
+use Rattle.field_words.specs.Writes.{Part, parts_placed, with_bytes, zeros}
 use Rattle.field_words.proofs.Writes.{length-with_bytes, with_bytes-before, with_bytes-behind, with_bytes-inside, length_zeros}
 use Rattle.dumper.specs.Text.{row_at, row_text, row_line, rows_text, is_blank}
 use Rattle.dumper.specs.Parts.{part_rows, part_end, alone, part_text, parts_text, Ascend}
 use Rattle.dumper.proofs.Rows.{rows_on}
 
--- the same bytes in two lists, from a place on
+-- two lists have the same bytes from a place on
 front_same : (n : ℕ) (a b : List ℕ) (place : ℕ) → place + n ≤ length a → place + n ≤ length b
     → ((k : ℕ) → place ≤ k → k < place + n → get_or a k 0 ≡ get_or b k 0) → take n (drop place a) ≡ take n (drop place b)
 front_same n a b place fits fits2 same = same_number_lists _ _ (grind (arith, places)) (λ k below. let h = same (place + k) (omega arith) in grind (arith, places, h))
@@ -55,14 +55,14 @@ part_fits from size part parts ascend =
     let rest = ascend_upto (part_end part) size parts ascend.2 in
     omega (arith, rest)
 
-pub length_placed : (m : List ℕ) (from size : ℕ) (parts : List Part) → length m ≡ size → Ascend from size parts → length (placed m parts) ≡ size
+pub length_placed : (m : List ℕ) (from size : ℕ) (parts : List Part) → length m ≡ size → Ascend from size parts → length (parts_placed m parts) ≡ size
 length_placed m from size [] long ascend = long
 length_placed m from size (part ∷ parts) long ascend =
     let fits = part_fits from size part parts ascend in
     length_placed (with_bytes m part.place part.bytes) (part_end part) size parts (length-with_bytes m part.place part.bytes (omega (arith, fits, long)) ∙ long) ascend.2
 
 -- They leave alone what lies before them.
-pub placed_below : (m : List ℕ) (from size k : ℕ) (parts : List Part) → length m ≡ size → Ascend from size parts → k < from → get_or (placed m parts) k 0 ≡ get_or m k 0
+pub placed_below : (m : List ℕ) (from size k : ℕ) (parts : List Part) → length m ≡ size → Ascend from size parts → k < from → get_or (parts_placed m parts) k 0 ≡ get_or m k 0
 placed_below m from size k [] long ascend below = refl
 placed_below m from size k (part ∷ parts) long ascend below =
     let fits : part.place + length part.bytes ≤ length m = let h = part_fits from size part parts ascend in omega (arith, h, long) in
@@ -100,7 +100,7 @@ length_alone part =
 -- Where a memory is zero from a place on, but for ascending parts, its rows from there on are the parts'.
 alone_same : (m : List ℕ) (from size k : ℕ) (part : Part) (parts : List Part) → length m ≡ size → Ascend from size (part ∷ parts)
     → ((k : ℕ) → from ≤ k → get_or m k 0 ≡ 0) → part.place ≤ k → k < part_end part
-    → get_or (placed (with_bytes m part.place part.bytes) parts) k 0 ≡ get_or (alone part) k 0
+    → get_or (parts_placed (with_bytes m part.place part.bytes) parts) k 0 ≡ get_or (alone part) k 0
 unfolding alone
 alone_same m from size k part parts long ascend blank at below =
     let h = part_fits from size part parts ascend in
@@ -112,7 +112,7 @@ alone_same m from size k part parts long ascend blank at below =
 
 gap_zero : (m : List ℕ) (from size k : ℕ) (part : Part) (parts : List Part) → length m ≡ size → Ascend from size (part ∷ parts)
     → ((k : ℕ) → from ≤ k → get_or m k 0 ≡ 0) → from ≤ k → k < part.place
-    → get_or (placed (with_bytes m part.place part.bytes) parts) k 0 ≡ 0
+    → get_or (parts_placed (with_bytes m part.place part.bytes) parts) k 0 ≡ 0
 gap_zero m from size k part parts long ascend blank at below =
     let h = part_fits from size part parts ascend in
     let fits : part.place + length part.bytes ≤ length m = omega (arith, h, long) in
@@ -132,7 +132,7 @@ three_rows m from at end n a b c sum first second =
     ∙ ap (λ t. rows_text m from a ++ t) (rows_on m at b c ∙ ap (λ p. rows_text m at b ++ rows_text m p c) second)
 
 pub rows_of_parts : (m : List ℕ) (from size n : ℕ) (parts : List Part) → length m ≡ size → from % 16 ≡ 0 → from + 16 * n ≡ size
-    → ((k : ℕ) → from ≤ k → get_or m k 0 ≡ 0) → Ascend from size parts → rows_text (placed m parts) from n ≡ parts_text parts
+    → ((k : ℕ) → from ≤ k → get_or m k 0 ≡ 0) → Ascend from size parts → rows_text (parts_placed m parts) from n ≡ parts_text parts
 unfolding parts_text part_text
 rows_of_parts m from size n [] long row whole blank ascend = rows_blank m from n (omega (arith, long, whole)) (λ k at below. blank k at)
 rows_of_parts m from size n (part ∷ parts) long row whole blank ascend =
@@ -140,7 +140,7 @@ rows_of_parts m from size n (part ∷ parts) long row whole blank ascend =
     let upto = ascend_upto end size parts ascend.2 in
     let fits : part.place + length part.bytes ≤ length m = omega (arith, upto, long) in
     let after = with_bytes m part.place part.bytes in
-    let all = placed after parts in
+    let all = parts_placed after parts in
     let size_is : length after ≡ size = length-with_bytes m part.place part.bytes fits ∙ long in
     let all_long : length all ≡ size = length_placed after end size parts size_is ascend.2 in
     let a = (part.place - from) / 16 in

@@ -34,17 +34,17 @@ Ascend from size [] = from ≤ size
 Ascend from size (part ∷ parts) = (from ≤ part.place) × (part.place % 16 ≡ 0) × Ascend (part_end part) size parts
 
 -- a part put before the first that begins behind it, and parts in that order
-unfoldable pub inserted : Part → List Part → List Part
-inserted part [] = part ∷ []
-inserted part (next ∷ parts) = if nat_lt part.place next.place then part ∷ (next ∷ parts) else next ∷ inserted part parts
+unfoldable pub part_inserted : Part → List Part → List Part
+part_inserted part [] = part ∷ []
+part_inserted part (next ∷ parts) = if nat_lt part.place next.place then part ∷ (next ∷ parts) else next ∷ part_inserted part parts
 
 -- a part that begins at this place goes there among the parts
 abbrev pub GoesAt : ℕ → List Part → ℕ → Type 0
-GoesAt place parts at = (bytes : List ℕ) → inserted (part_at place bytes) parts ≡ insert parts at (part_at place bytes)
+GoesAt place parts at = (bytes : List ℕ) → part_inserted (part_at place bytes) parts ≡ insert parts at (part_at place bytes)
 
-unfoldable pub sorted : List Part → List Part
-sorted [] = []
-sorted (part ∷ parts) = inserted part (sorted parts)
+unfoldable pub parts_sorted : List Part → List Part
+parts_sorted [] = []
+parts_sorted (part ∷ parts) = part_inserted part (parts_sorted parts)
 
 -- One ends before the other begins.
 abbrev pub RowsApart : Part → Part → Type 0

@@ -1,6 +1,6 @@
 //! Parts of a memory by ascending place.
 ghost use Rattle.std.specs.Prelude.{◌≡◌, ◌≤◌, length, OnOk};
-ghost use Rattle.dumper.specs.Parts.{inserted, GoesAt};
+ghost use Rattle.dumper.specs.Parts.{part_inserted, GoesAt};
 
 use field_words::NoMemory;
 use std::borrow::CowSlice;
@@ -29,7 +29,7 @@ fn place_among(spans: &Vec<Span>, place: u32) -> usize
 /// Puts a part before the first that begins behind it.
 pub fn insert_span<'a>(spans: &mut Vec<Span<'a>>, span: Span<'a>) -> Result<(), NoMemory>
     ensures { OnOk result (parts_of spans.new.items
-        ≡ inserted (part_of span.entry) (parts_of spans.old.items)) }
+        ≡ part_inserted (part_of span.entry) (parts_of spans.old.items)) }
 {
     let at = place_among(spans, span.place);
     spans.insert(at, span)?;

@@ -6,11 +6,11 @@ use Rattle.std.specs.Prelude.{nat_lt, max}
 use Rattle.packets.specs.Opcode.{tile_binning_mode}
 use Rattle.packets.specs.{declared.config.Config.Config, declared.packet.Packet.Packet, Config.config_in}
 use Rattle.bin_list.specs.Packets.{opcode}
-use Rattle.machine_plan.specs.{declared.who.Who.Who, declared.launch.Free.Free, declared.launch.Launch.Launch, Glance.glanced, World.mapped}
-use Rattle.machine_plan.specs.{Memory.stored, Plan.Done, Plan.Writes}
+use Rattle.machine_plan.specs.{declared.who.Who.Who, declared.launch.Free.Free, declared.launch.Launch.Launch, Glance.glance_result, World.plan_mapped}
+use Rattle.machine_plan.specs.{Memory.bytes_stored, Plan.Done, Plan.Writes}
 use Rattle.list_machine.specs.Lists.{Lists, Turned, quiet, past, with_work, with_item, with_block, most_items}
 use Rattle.list_machine.specs.Blocks.{tiles_of, has_room, spot_of, item_of, zeros, is_full, block_place, next_place, link_place, put_here, put_plan}
-use Rattle.list_machine.specs.Binner.{configured, with_word, started, work_of, halted, read_plan, is_due, one_done, fetched_with, not_due, started_with, chosen_tile, tile_plan, item_plan, work_plan, binner_by, binner_plan, item_may, work_may, binner_may, binner_ready}
+use Rattle.list_machine.specs.Binner.{config_set, with_word, after_start, work_of, after_halt, read_plan, is_due, one_done, fetched_with, not_due, started_with, chosen_tile, tile_plan, item_plan, work_plan, binner_by, binner_plan, item_may, work_may, binner_may, binner_ready}
 use Rattle.list_machine.specs.{declared.state.Item.Item, declared.state.Program.TheVariants.Coordinate, declared.state.Spot.Spot}
 use Rattle.list_machine.specs.{declared.state.SubList.SubList, declared.state.Work.Work, Fetch.fetch_plan}
 use Rattle.list_machine.specs.Start.{start_plan, can_start}
@@ -90,8 +90,8 @@ room_set packet on = sym (ap (λ b. if b then items_within (config_in packet) el
 
 -- The binner reads its next packet.
 read_goes : (who : Who) (K : List ℕ → Type 0) (c : Config) (w d n : ℕ) (s : Lists) (m : List ℕ) (packets : List (List ℕ)) (slots : List (Option Packet)) → K m → StandLeft K c w d n s s.renderer.inside packets slots → s.binner.place < s.binner.end
-    → Comes who (ListsLess K c w d n 0) (mapped quiet (read_plan s)) m
-unfolding halted configured started with_word draws
+    → Comes who (ListsLess K c w d n 0) (plan_mapped quiet (read_plan s)) m
+unfolding after_halt config_set after_start with_word draws
 read_goes who K c w d n s m [] slots here left below = absurd (none_left s.binner.place s.binner.end left.bin.ends below)
 read_goes who K c w d n s m (packet ∷ packets) slots here left below =
     let place : ℕ = s.binner.place in
@@ -202,7 +202,7 @@ pub put_goes : (who : Who) (P : Lists → Type 0) (s : Lists) (c : Config) (k : 
 unfolding put_plan
 put_goes who P s c k tile spot m all more =
     keeps_if who AnyLook AnyAccess (λ i next. P next) m (is_full spot) (Writes (link_place spot) (zeros 16) (put_here (with_block s) k tile (block_place c s.blocks))) (put_here s k tile (next_place c tile spot))
-    (λ on. (tt, here_goes who P (with_block s) k tile (block_place c s.blocks) (stored m (link_place spot) (zeros 16)) more))
+    (λ on. (tt, here_goes who P (with_block s) k tile (block_place c s.blocks) (bytes_stored m (link_place spot) (zeros 16)) more))
     (λ off. here_goes who P s k tile (next_place c tile spot) m (all off))
 
 may_parts : (s : Lists) (c : Config) → item_may s (Some c) ≡ true → (has_room c s.blocks ≡ true) × (length s.items < most_items)
@@ -251,14 +251,14 @@ work_goes who K c w d n s k free words m only left is ready =
     let some = some_steps w k in
     let set : (next : Option Work) (rest : ℕ) → work_left w next + n ≤ work_steps w k + rest → (ps : List (List ℕ)) × (ss : List (Option Packet)) × ListsLeft K c w d rest place end next there upto inside s.binner.kept.config s.blocks s.items ps ss =
     λ next rest less. (packets, slots, work_set K c w d n rest place end (Some k) next there upto inside s.binner.kept.config s.blocks s.items packets slots mine less) in
-    keeps_if who L G P m k.due (mapped (started_with s k) (start_plan Coordinate free k.word)) (if nat_lt k.done k.primitive.length then mapped (fetched_with s k) (fetch_plan k.primitive k.word k.done) else mapped quiet (item_plan s s.binner.kept.config k words))
+    keeps_if who L G P m k.due (plan_mapped (started_with s k) (start_plan Coordinate free k.word)) (if nat_lt k.done k.primitive.length then plan_mapped (fetched_with s k) (fetch_plan k.primitive k.word k.done) else plan_mapped quiet (item_plan s s.binner.kept.config k words))
     (λ due.
     let steps = due_steps w k due in
     comes_any who (ListsLess K c w d n 0) (started_with s k) (λ launch.
     let cost = launch_at_most w launch in
     record { rest = n - (1 + w); left = set (Some (not_due k)) (n - (1 + w)) (omega (arith, steps, within)); less = omega (arith, cost, steps, within) })
     (start_plan Coordinate free k.word) m)
-    (λ off. keeps_if who L G P m (nat_lt k.done k.primitive.length) (mapped (fetched_with s k) (fetch_plan k.primitive k.word k.done)) (mapped quiet (item_plan s s.binner.kept.config k words))
+    (λ off. keeps_if who L G P m (nat_lt k.done k.primitive.length) (plan_mapped (fetched_with s k) (fetch_plan k.primitive k.word k.done)) (plan_mapped quiet (item_plan s s.binner.kept.config k words))
     (λ more.
     let steps = fetch_steps w k off more in
     comes_any who (ListsLess K c w d n 0) (fetched_with s k) (λ index.
@@ -283,7 +283,7 @@ binner_by_goes who K c w d n s None free words m here only left is ready =
 binner_by_goes who K c w d n s (Some k) free words m here only left is ready = work_goes who K c w d n s k free words m only left is ready
 
 -- One step of the binner.
-pub binner_goes : (who : Who) (K : List ℕ → Type 0) (c : Config) (w d n : ℕ) (s : Lists) (free : Free) (words m : List ℕ) → K m → IsOnly c s.binner.kept.config → JobLeft K c w d n s → glanced (binner_ready s free) m ≡ true
+pub binner_goes : (who : Who) (K : List ℕ → Type 0) (c : Config) (w d n : ℕ) (s : Lists) (free : Free) (words m : List ℕ) → K m → IsOnly c s.binner.kept.config → JobLeft K c w d n s → glance_result (binner_ready s free) m ≡ true
     → Comes who (ListsLess K c w d n 0) (binner_plan s free words) m
 unfolding binner_plan binner_ready
 binner_goes who K c w d n s free words m here only left ready = binner_by_goes who K c w d n s s.binner.work free words m here only left refl ready

@@ -5,7 +5,7 @@ use Rattle.std.specs.Prelude.{is_some, nat_lt}
 use Rattle.field_words.specs.declared.access.Actor.TheVariants.{Binner as TheBinner, Renderer as TheRenderer, Qpu as TheQpu, Tmu as TheTmu}
 use Rattle.field_words.specs.declared.access.Actor.{Actor}
 use Rattle.machine_plan.specs.Regions.{Inside, Rights, rights_of, IsSafeAccess, IsSafeIn, HasReadOnly}
-use Rattle.machine_plan.specs.{declared.launch.Free.Free, declared.launch.Launch.Launch, declared.who.Who.Who, Glance.glanced, World.mapped}
+use Rattle.machine_plan.specs.{declared.launch.Free.Free, declared.launch.Launch.Launch, declared.who.Who.Who, Glance.glance_result, World.plan_mapped}
 use Rattle.machine_plan.specs.Plan.{Plan, Keeps}
 use Rattle.machine_plan.proofs.{Plans.keeps_weaker, Worlds.keeps_result}
 use Rattle.list_machine.specs.Binner.{has_binner_work, binner_ready, binner_plan}
@@ -13,7 +13,7 @@ use Rattle.list_machine.specs.Lists.{Lists, Turned, binner_of, renderer_of}
 use Rattle.list_machine.specs.Renderer.{has_renderer_work, renderer_ready, renderer_plan}
 use Rattle.list_law.specs.Lists.{TurnedFine}
 use Rattle.list_law.proofs.{Binning.binner_keeps, Rendering.renderer_keeps}
-use Rattle.qpu_machine.specs.Qpu.{active_of, job_of_thread, ready_by, plan_by, went, queue_of, oldest, job_of_request, tmu_ready, served, serving, free_in}
+use Rattle.qpu_machine.specs.Qpu.{active_of, job_of_thread, ready_by, plan_by, went, queue_of, oldest, job_of_request, tmu_ready, after_service, serving, free_in}
 use Rattle.qpu_machine.specs.{declared.state.Qpu.Qpu, declared.state.Request.Request, declared.state.Thread.Thread, Request.ask_plan, Start.thread_of}
 use Rattle.qpu_machine.specs.Step.{ThreadTurn, thread_plan}
 use Rattle.machine.specs.Step.{with_launch, with_lists, with_qpu, is_ahead, binner_may, renderer_may, qpu_may, tmu_may, binner_turn, renderer_turn, qpu_turn, tmu_turn, unit_ready, unit_turn, unit_job, number_or_zero, qpu_job, tmu_job, ready, turn}
@@ -52,7 +52,7 @@ comes_by who L r P Q S joins plan m keeps comes =
     keeps_weaker who L AnyLook (IsSafeIn r) AnyAccess (λ k one. P one × Q one) (λ k one. S one) (λ p n lies. tt) (λ a safe. tt) (λ k one both. joins one both.0 both.1) plan m
     (keeps_both who L (IsSafeIn r) P Q plan m keeps comes)
 
-binner_turned : (who : Who) (r : Rights) (K : List ℕ → Type 0) (w n : ℕ) (s : Lists) (free : Free) (words m : List ℕ) → K m → JobEnds r K w n s → glanced (binner_ready s free) m ≡ true
+binner_turned : (who : Who) (r : Rights) (K : List ℕ → Type 0) (w n : ℕ) (s : Lists) (free : Free) (words m : List ℕ) → K m → JobEnds r K w n s → glance_result (binner_ready s free) m ≡ true
     → Comes who (JobTurned r K w n 0) (binner_plan s free words) m
 binner_turned who r K w n s free words m here ends on =
     let O = LaunchSo r K (IsShort w) in
@@ -61,7 +61,7 @@ binner_turned who r K w n s free words m here ends on =
     (binner_keeps who r K O ends.config ends.frame s free words m ends.allocates here ends.lists on)
     (binner_goes who K ends.config w ends.most n s free words m here ends.lists.configs ends.left on)
 
-renderer_turned : (who : Who) (r : Rights) (K : List ℕ → Type 0) (w n : ℕ) (s : Lists) (free : Free) (words m : List ℕ) → K m → JobEnds r K w n s → glanced (renderer_ready s) m ≡ true
+renderer_turned : (who : Who) (r : Rights) (K : List ℕ → Type 0) (w n : ℕ) (s : Lists) (free : Free) (words m : List ℕ) → K m → JobEnds r K w n s → glance_result (renderer_ready s) m ≡ true
     → Comes who (JobTurned r K w n (one_if (stays s words))) (renderer_plan s free words) m
 renderer_turned who r K w n s free words m here ends on =
     let O = LaunchSo r K (IsShort w) in
@@ -131,7 +131,7 @@ qpu_turned rights K mine w n k cost stay u q next left hole less =
 
 -- The units' turns.
 binner_by : (rights : ℕ → Rights) (K : List ℕ → Type 0) (mine : ℕ → Bool) (w n : ℕ) (u : Units) (b : Picked Lists) (words m : List ℕ) (own : Bool) → mine b.number ≡ own → K m → (left : UnitsLeft rights K mine w n u) → Picking rights K mine w left.of_jobs has_binner_work u.jobs b
-    → glanced (binner_ready b.item (free_in u.qpus)) m ≡ true → Comes (binner_of b.number) (StepLess rights K mine w n (one_if own) (one_if (own && false))) (mapped (with_lists u b.number) (binner_plan b.item (free_in u.qpus) words)) m
+    → glance_result (binner_ready b.item (free_in u.qpus)) m ≡ true → Comes (binner_of b.number) (StepLess rights K mine w n (one_if own) (one_if (own && false))) (plan_mapped (with_lists u b.number) (binner_plan b.item (free_in u.qpus) words)) m
 binner_by rights K mine w n u b words m true is here left picked on =
     let who : Who = binner_of b.number in
     let share : ℕ = picked.hole.share in
@@ -142,7 +142,7 @@ binner_by rights K mine w n u b words m false is here left picked on =
     comes_any (binner_of b.number) (StepLess rights K mine w n 0 0) (with_lists u b.number) (λ turned. other_turned rights K mine w n has_binner_work u b turned is left picked) (binner_plan b.item (free_in u.qpus) words) m
 
 renderer_by : (rights : ℕ → Rights) (K : List ℕ → Type 0) (mine : ℕ → Bool) (w n : ℕ) (u : Units) (r : Picked Lists) (words m : List ℕ) (own : Bool) → mine r.number ≡ own → K m → (left : UnitsLeft rights K mine w n u) → Picking rights K mine w left.of_jobs has_renderer_work u.jobs r
-    → glanced (renderer_ready r.item) m ≡ true → Comes (renderer_of r.number) (StepLess rights K mine w n (one_if own) (one_if (own && stays r.item words))) (mapped (with_lists u r.number) (renderer_plan r.item (free_in u.qpus) words)) m
+    → glance_result (renderer_ready r.item) m ≡ true → Comes (renderer_of r.number) (StepLess rights K mine w n (one_if own) (one_if (own && stays r.item words))) (plan_mapped (with_lists u r.number) (renderer_plan r.item (free_in u.qpus) words)) m
 renderer_by rights K mine w n u r words m true is here left picked on =
     let who : Who = renderer_of r.number in
     let share : ℕ = picked.hole.share in
@@ -154,19 +154,19 @@ renderer_by rights K mine w n u r words m false is here left picked on =
     comes_any (renderer_of r.number) (StepLess rights K mine w n 0 0) (with_lists u r.number) (λ turned. other_turned rights K mine w n has_renderer_work u r turned is left picked) (renderer_plan r.item (free_in u.qpus) words) m
 
 binner_less : (rights : ℕ → Rights) (K : List ℕ → Type 0) (mine : ℕ → Bool) (w n : ℕ) (u : Units) (found : Option (Picked Lists)) (words m : List ℕ) → K m → (left : UnitsLeft rights K mine w n u) → IfSome found (Picking rights K mine w left.of_jobs has_binner_work u.jobs)
-    → IsTrue (glanced (binner_may u found) m) → Comes (binner_turn u found words).who (StepLess rights K mine w n (one_if (mine (number_or_zero found))) (one_if (mine (number_or_zero found) && false))) (binner_turn u found words).plan m
+    → IsTrue (glance_result (binner_may u found) m) → Comes (binner_turn u found words).who (StepLess rights K mine w n (one_if (mine (number_or_zero found))) (one_if (mine (number_or_zero found) && false))) (binner_turn u found words).plan m
 binner_less rights K mine w n u None words m here left picked may = absurd (false≢true may)
 binner_less rights K mine w n u (Some b) words m here left picked may =
     binner_by rights K mine w n u b words m (mine b.number) refl here left picked (not_held (is_ahead b.number (renderer_job u)) (binner_ready b.item (free_in u.qpus)) m may)
 
 renderer_less : (rights : ℕ → Rights) (K : List ℕ → Type 0) (mine : ℕ → Bool) (w n : ℕ) (u : Units) (found : Option (Picked Lists)) (words m : List ℕ) → K m → (left : UnitsLeft rights K mine w n u) → IfSome found (Picking rights K mine w left.of_jobs has_renderer_work u.jobs)
-    → IsTrue (glanced (renderer_may found) m) → Comes (renderer_turn u found words).who (StepLess rights K mine w n (one_if (mine (number_or_zero found))) (one_if (mine (number_or_zero found) && renderer_stays found words))) (renderer_turn u found words).plan m
+    → IsTrue (glance_result (renderer_may found) m) → Comes (renderer_turn u found words).who (StepLess rights K mine w n (one_if (mine (number_or_zero found))) (one_if (mine (number_or_zero found) && renderer_stays found words))) (renderer_turn u found words).plan m
 renderer_less rights K mine w n u None words m here left picked may = absurd (false≢true may)
 renderer_less rights K mine w n u (Some r) words m here left picked may = renderer_by rights K mine w n u r words m (mine r.number) refl here left picked may
 
 slot_less : (rights : ℕ → Rights) (K : List ℕ → Type 0) (mine : ℕ → Bool) (w n k : ℕ) (u : Units) (q : Qpu) (slot : Option Thread) (words m : List ℕ) → K m → (left : UnitsLeft rights K mine w n u) → (hole : Hole (QpuLeft rights K mine) 0 left.of_qpus k k u.qpus q)
-    → SlotLeft rights K mine (if q.second then hole.known.others else hole.known.firsts) slot → IsTrue (glanced (ready_by slot q) m)
-    → Comes (record { unit = TheQpu k; job = job_of_thread slot }) (StepLess rights K mine w n (one_if (mine (job_of_thread slot))) (one_if (mine (job_of_thread slot) && false))) (mapped (with_qpu u k) (plan_by slot q words)) m
+    → SlotLeft rights K mine (if q.second then hole.known.others else hole.known.firsts) slot → IsTrue (glance_result (ready_by slot q) m)
+    → Comes (record { unit = TheQpu k; job = job_of_thread slot }) (StepLess rights K mine w n (one_if (mine (job_of_thread slot))) (one_if (mine (job_of_thread slot) && false))) (plan_mapped (with_qpu u k) (plan_by slot q words)) m
 slot_less rights K mine w n k u q None words m here left hole thread may = absurd (false≢true may)
 slot_less rights K mine w n k u q (Some t) words m here left hole thread may =
     let who : Who = record { unit = TheQpu k; job = t.job } in
@@ -174,39 +174,39 @@ slot_less rights K mine w n k u q (Some t) words m here left hole thread may =
     let stay : ℕ = one_if (mine t.job && false) in
     let share : ℕ = if q.second then hole.known.others else hole.known.firsts in
     let plan : Plan ThreadTurn = thread_plan t words in
-    comes_into who (with_qpu u k) (QpuLess rights K mine k hole.share cost) (StepLess rights K mine w n cost stay) (λ next less. qpu_turned rights K mine w n k cost stay u q next left hole less) (mapped (went q t) plan) m
+    comes_into who (with_qpu u k) (QpuLess rights K mine k hole.share cost) (StepLess rights K mine w n cost stay) (λ next less. qpu_turned rights K mine w n k cost stay u q next left hole less) (plan_mapped (went q t) plan) m
     (comes_into who (went q t) (CountedGoes rights K mine share t) (QpuLess rights K mine k hole.share cost) (λ turn goes. went_left rights K mine k hole.share q t turn hole.known goes) plan m (thread_counted rights K mine share t who words m here thread))
 
 qpu_less : (rights : ℕ → Rights) (K : List ℕ → Type 0) (mine : ℕ → Bool) (w n k : ℕ) (u : Units) (found : Option Qpu) (words m : List ℕ) → K m → (left : UnitsLeft rights K mine w n u) → IfSome found (Hole (QpuLeft rights K mine) 0 left.of_qpus k k u.qpus)
-    → IsTrue (glanced (qpu_may found) m) → Comes (qpu_turn u k found words).who (StepLess rights K mine w n (one_if (mine (qpu_job found))) (one_if (mine (qpu_job found) && false))) (qpu_turn u k found words).plan m
+    → IsTrue (glance_result (qpu_may found) m) → Comes (qpu_turn u k found words).who (StepLess rights K mine w n (one_if (mine (qpu_job found))) (one_if (mine (qpu_job found) && false))) (qpu_turn u k found words).plan m
 qpu_less rights K mine w n k u None words m here left hole may = absurd (false≢true may)
 qpu_less rights K mine w n k u (Some q) words m here left hole may = slot_less rights K mine w n k u q (active_of q) words m here left hole (active_left rights K mine k hole.share q hole.known) may
 
 request_less : (rights : ℕ → Rights) (K : List ℕ → Type 0) (mine : ℕ → Bool) (w n k tmu : ℕ) (u : Units) (q : Qpu) (found : Option Request) (words m : List ℕ) → (left : UnitsLeft rights K mine w n u) → (hole : Hole (QpuLeft rights K mine) 0 left.of_qpus k k u.qpus q)
     → oldest (queue_of q tmu) ≡ found → is_some found ≡ true
-    → Comes (record { unit = TheTmu k tmu; job = job_of_request found }) (StepLess rights K mine w n (one_if (mine (job_of_request found))) (one_if (mine (job_of_request found) && false))) (mapped (with_qpu u k) (serving found q tmu words)) m
+    → Comes (record { unit = TheTmu k tmu; job = job_of_request found }) (StepLess rights K mine w n (one_if (mine (job_of_request found))) (one_if (mine (job_of_request found) && false))) (plan_mapped (with_qpu u k) (serving found q tmu words)) m
 request_less rights K mine w n k tmu u q None words m left hole is on = absurd (false≢true on)
 request_less rights K mine w n k tmu u q (Some request) words m left hole is on =
     let who : Who = record { unit = TheTmu k tmu; job = request.job } in
     let cost : ℕ = one_if (mine request.job) in
     let stay : ℕ = one_if (mine request.job && false) in
     let plan : Plan (Option (List ℕ)) = ask_plan request.ask words in
-    comes_into who (with_qpu u k) (QpuLess rights K mine k hole.share cost) (StepLess rights K mine w n cost stay) (λ next less. qpu_turned rights K mine w n k cost stay u q next left hole less) (mapped (served q tmu request) plan) m
-    (comes_any who (QpuLess rights K mine k hole.share cost) (served q tmu request) (λ row. served_left rights K mine k hole.share tmu q request row hole.known is) plan m)
+    comes_into who (with_qpu u k) (QpuLess rights K mine k hole.share cost) (StepLess rights K mine w n cost stay) (λ next less. qpu_turned rights K mine w n k cost stay u q next left hole less) (plan_mapped (after_service q tmu request) plan) m
+    (comes_any who (QpuLess rights K mine k hole.share cost) (after_service q tmu request) (λ row. served_left rights K mine k hole.share tmu q request row hole.known is) plan m)
 
 tmu_less : (rights : ℕ → Rights) (K : List ℕ → Type 0) (mine : ℕ → Bool) (w n k tmu : ℕ) (u : Units) (found : Option Qpu) (words m : List ℕ) → (left : UnitsLeft rights K mine w n u) → IfSome found (Hole (QpuLeft rights K mine) 0 left.of_qpus k k u.qpus)
-    → IsTrue (glanced (tmu_may found tmu) m) → Comes (tmu_turn u k tmu found words).who (StepLess rights K mine w n (one_if (mine (tmu_job found tmu))) (one_if (mine (tmu_job found tmu) && false))) (tmu_turn u k tmu found words).plan m
+    → IsTrue (glance_result (tmu_may found tmu) m) → Comes (tmu_turn u k tmu found words).who (StepLess rights K mine w n (one_if (mine (tmu_job found tmu))) (one_if (mine (tmu_job found tmu) && false))) (tmu_turn u k tmu found words).plan m
 tmu_less rights K mine w n k tmu u None words m left hole may = absurd (false≢true may)
 tmu_less rights K mine w n k tmu u (Some q) words m left hole may = request_less rights K mine w n k tmu u q (oldest (queue_of q tmu)) words m left hole refl (there_on (nat_lt tmu 2) (tmu_ready q tmu) m may)
 
-pub unit_less : (rights : ℕ → Rights) (K : List ℕ → Type 0) (mine : ℕ → Bool) (w n : ℕ) (u : Units) (unit : Actor) (words m : List ℕ) → K m → (left : UnitsLeft rights K mine w n u) → IsTrue (glanced (unit_ready u unit) m)
+pub unit_less : (rights : ℕ → Rights) (K : List ℕ → Type 0) (mine : ℕ → Bool) (w n : ℕ) (u : Units) (unit : Actor) (words m : List ℕ) → K m → (left : UnitsLeft rights K mine w n u) → IsTrue (glance_result (unit_ready u unit) m)
     → Comes (unit_turn u unit words).who (StepLess rights K mine w n (one_if (mine (unit_job u unit))) (one_if (mine (unit_job u unit) && unit_stays u unit words))) (unit_turn u unit words).plan m
 unit_less rights K mine w n u TheBinner words m here left may = binner_less rights K mine w n u (binner_job u) words m here left (picked_hole (CountedEnds rights K mine w) has_binner_work 0 left.of_jobs u.jobs left.jobs) may
 unit_less rights K mine w n u TheRenderer words m here left may = renderer_less rights K mine w n u (renderer_job u) words m here left (picked_hole (CountedEnds rights K mine w) has_renderer_work 0 left.of_jobs u.jobs left.jobs) may
 unit_less rights K mine w n u (TheQpu k) words m here left may = qpu_less rights K mine w n k u (item_at u.qpus k) words m here left (hole_at (QpuLeft rights K mine) 0 left.of_qpus k k u.qpus (omega arith) left.qpus) may
 unit_less rights K mine w n u (TheTmu k tmu) words m here left may = tmu_less rights K mine w n k tmu u (item_at u.qpus k) words m left (hole_at (QpuLeft rights K mine) 0 left.of_qpus k k u.qpus (omega arith) left.qpus) may
 
--- No step is wild, so this is what it leaves.
+-- No step is undefined, so this is what it leaves.
 pub steps_less_law : StepsLess
 unfolding ready turn
 steps_less_law rights plains first mine w n s event plain has fine left may =

@@ -9,7 +9,7 @@ use Rattle.apart_law.proofs.Places.{chosen}
 use Rattle.qpu_law.proofs.Going.{is_went}
 use Rattle.qpu_machine.specs.declared.state.Fate.TheVariants.{GoesOn, Switches, Ends}
 use Rattle.qpu_machine.specs.declared.state.{Asked.Asked, Fate.Fate, Qpu.Qpu, Request.Request, Thread.Thread}
-use Rattle.qpu_machine.specs.Qpu.{active_of, left_by, gives_way, woken_slot, queue_with, settled, went, oldest, queue_of, with_result, dropped, given, served, takes_first, takes_other, in_first, in_other, started_in}
+use Rattle.qpu_machine.specs.Qpu.{active_of, left_by, gives_way, woken_slot, queue_with, after_turn, went, oldest, queue_of, with_result, after_drop, result_given, after_service, takes_first, takes_other, in_first, in_other, started_in}
 use Rattle.qpu_machine.specs.Step.{ThreadTurn, thread_plan}
 use Rattle.ends_law.specs.Left.{EachWithin, ThreadAt, ThreadLeft, SlotLeft, request_count, QpuLeft}
 use Rattle.promises.specs.Steps.{has_loop, one_if}
@@ -115,8 +115,8 @@ slot_left rights K mine n t Ends left = tt
 
 settled_left : (rights : ℕ → Rights) (K : List ℕ → Type 0) (mine : ℕ → Bool) (k n rest m : ℕ) (q : Qpu) (second : Bool) (job : ℕ) (own : Option Thread) (over : Bool) (asked : Option Asked)
     → (left : QpuLeft rights K mine k n (record q { second = second })) → SlotLeft rights K mine rest own → rest + n + asked_one mine job asked ≤ (if second then left.others else left.firsts) + m
-    → QpuLeft rights K mine k m (settled (record q { second = second }) job own over asked)
-unfolding settled
+    → QpuLeft rights K mine k m (after_turn (record q { second = second }) job own over asked)
+unfolding after_turn
 settled_left rights K mine k n rest m q true job own over asked left slot less =
     let queues = queues_with mine true job asked q.queue0.items q.queue1.items in
     let sum = left.sum in
@@ -173,8 +173,8 @@ dropped_sum mine true requests others request is = let one = drop_one mine reque
 dropped_sum mine false requests others request is = let one = drop_one mine others request is in omega (arith, one)
 
 pub served_left : (rights : ℕ → Rights) (K : List ℕ → Type 0) (mine : ℕ → Bool) (k n tmu : ℕ) (q : Qpu) (request : Request) (row : Option (List ℕ)) → QpuLeft rights K mine k n q → oldest (queue_of q tmu) ≡ Some request
-    → QpuLess rights K mine k n (one_if (mine request.job)) (served q tmu request row)
-unfolding dropped given
+    → QpuLess rights K mine k n (one_if (mine request.job)) (after_service q tmu request row)
+unfolding after_drop result_given
 served_left rights K mine k n tmu q request row left is =
     let sum = left.sum in
     let queues = dropped_sum mine (tmu == 0) q.queue0.items q.queue1.items request is in

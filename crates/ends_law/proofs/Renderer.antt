@@ -4,11 +4,11 @@ use Rattle.std.proofs.{lemmas.Grind.common_steps, lemmas.Bool.Decides.nat_tests}
 use Rattle.std.specs.Prelude.{nat_lt, nat_le, is_some, unwrap_or}
 use Rattle.packets.specs.declared.packet.Packet.TheVariants.{WaitOnSemaphore, BranchToSubList, StoreTileColor, StoreTileColorAndEnd, StoreFullResolution, LoadFullResolution, StoreTileBuffer, LoadTileBuffer, TileRenderingMode, ClearColors, TileCoordinates}
 use Rattle.packets.specs.{declared.config.Config.Config, declared.packet.Packet.Packet, Packet.packet_text}
-use Rattle.machine_plan.specs.{declared.who.Who.Who, declared.launch.Free.Free, Choice.word_at, Glance.glanced}
-use Rattle.machine_plan.specs.{Plan.Done, Plan.Wilds, World.mapped}
+use Rattle.machine_plan.specs.{declared.who.Who.Who, declared.launch.Free.Free, Choice.word_at, Glance.glance_result}
+use Rattle.machine_plan.specs.{Plan.Done, Plan.Wilds, World.plan_mapped}
 use Rattle.texture_layouts.specs.Format.{general_style, frame_style}
-use Rattle.list_machine.specs.Surfaces.{cover_written, cover_read, aligned, names_none, general_written, general_read, frame_written, whole_written, whole_read, waiting_read}
-use Rattle.list_machine.specs.Renderer.{beyond, with_inside, wait_plan, tile_named, enter_plan, tile_by, branch_plan, tile_plan, at_tile, with_load, act, item_at, at_item, fetched, vertex_plan, program_plan, choice_plan, found_plan, plan_in, renderer_plan, renderer_ready}
+use Rattle.list_machine.specs.Surfaces.{cover_written, cover_read, aligned_address, names_none, general_written, general_read, frame_written, whole_written, whole_read, waiting_read}
+use Rattle.list_machine.specs.Renderer.{beyond, with_inside, wait_plan, tile_named, enter_plan, tile_by, branch_plan, tile_plan, at_tile, with_load, act, item_at, at_item, item_fetched, vertex_plan, program_plan, choice_plan, found_plan, plan_in, renderer_plan, renderer_ready}
 use Rattle.list_machine.specs.{declared.state.Found.Found, declared.state.Frame.Frame, declared.state.Item.Item, declared.state.Load.Load}
 use Rattle.list_machine.specs.{declared.state.Load.TheVariants.Full, declared.state.Load.TheVariants.General}
 use Rattle.list_machine.specs.{declared.state.Program.Program, declared.state.SubList.SubList, declared.surface.Cover.Cover}
@@ -18,7 +18,7 @@ use Rattle.list_machine.specs.Start.{start_plan}
 use Rattle.list_machine.proofs.{Items.ready_below, Keeping.written_keep, Keeping.read_keep}
 use Rattle.list_law.proofs.{Bytes.none_left, Logs.same, Safe.keeps_if}
 use Rattle.ends_law.specs.Steps.{work_left}
-use Rattle.promises.specs.Steps.{one_if, bin_steps, render_steps, times, entered, all_entered, is_at_item, stays}
+use Rattle.promises.specs.Steps.{one_if, bin_steps, render_steps, times, list_entered, all_entered, is_at_item, stays}
 use Rattle.ends_law.specs.Left.{is_inside, visits, ListsLeft, StandLeft, JobLeft}
 use Rattle.ends_law.proofs.Visits.{stands_at, visits_left, visits_on, visits_past, visits_entered, entered_often}
 use Rattle.ends_law.proofs.Binner.{ListsLess, quiet_less, launch_at_most}
@@ -43,13 +43,13 @@ frame_stored who P (Some frame) x y words s m here = cover_stored who P (cover_f
 pub general_stored : (who : Who) (P : Lists → Type 0) (bits address : ℕ) (frame : Option Frame) (x y : ℕ) (words : List ℕ) (s : Lists) (m : List ℕ) → P s → Comes who P (general_written bits address frame x y words (Done s)) m
 unfolding general_written
 general_stored who P bits address frame x y words s m here =
-    let cover = cover_for (general_style bits) frame (aligned address) x y in
+    let cover = cover_for (general_style bits) frame (aligned_address address) x y in
     keeps_if who AnyLook AnyAccess (λ k next. P next) m (names_none bits) (Done s) (cover_written cover words (Done s)) (λ on. here) (λ off. cover_stored who P cover words s m here)
 
 general_loaded : (who : Who) (P : Lists → Type 0) (bits address : ℕ) (frame : Option Frame) (x y : ℕ) (s : Lists) (m : List ℕ) → P s → Comes who P (general_read bits address frame x y (Done s)) m
 unfolding general_read
 general_loaded who P bits address frame x y s m here =
-    let cover = cover_for (general_style bits) frame (aligned address) x y in
+    let cover = cover_for (general_style bits) frame (aligned_address address) x y in
     keeps_if who AnyLook AnyAccess (λ k next. P next) m (names_none bits) (Done s) (cover_read cover (Done s)) (λ on. here) (λ off. cover_loaded who P cover s m here)
 
 pub waiting_loaded : (who : Who) (P : Lists → Type 0) (waiting : Option Load) (frame : Option Frame) (x y : ℕ) (s : Lists) (m : List ℕ) → P s → Comes who P (waiting_read waiting frame x y (Done s)) m
@@ -90,7 +90,7 @@ branch_goes who P s c address m true config only enter =
     subst (λ (one : Option Config). Comes who P (enter_plan s (tile_by one address)) m) (sym (only refl)) (enters who P s c address (tile_named c address) m refl enter)
 
 -- Behind a packet the renderer is in no tile's list; or in the one that the packet goes into.
-passed : (K : List ℕ → Type 0) (c : Config) (w d n : ℕ) (s : Lists) (packet : Packet) (packets : List (List ℕ)) (slots : List (Option Packet)) → s.renderer.inside ≡ None → entered packet ≡ []
+passed : (K : List ℕ → Type 0) (c : Config) (w d n : ℕ) (s : Lists) (packet : Packet) (packets : List (List ℕ)) (slots : List (Option Packet)) → s.renderer.inside ≡ None → list_entered packet ≡ []
     → StandLeft K c w d n s None packets (Some packet ∷ slots) → JobLeft K c w d (n - 1) (beyond s (length (packet_text packet)))
 passed K c w d n s packet packets slots outside none left =
     let before : ℕ = bin_steps w packets + work_left w s.binner.work + (left.most - length s.items) * (1 + d) in
@@ -226,8 +226,8 @@ vertex_stays who K c w d n stay s item words m left one =
     let plan = fetch_plan item.primitive item.word (word_at words 1 % item.primitive.length) in
     let more = stay_more w stay one in
     let here : ListsLess K c w d n stay (quiet s) = record { rest = n; left = left; less = omega (arith, more) } in
-    keeps_if who AnyLook AnyAccess P m (item.primitive.length == 0) (Done (quiet s)) (mapped (fetched s) plan) (λ on. here)
-    (λ off. comes_any who (ListsLess K c w d n stay) (fetched s) (λ index. here) plan m)
+    keeps_if who AnyLook AnyAccess P m (item.primitive.length == 0) (Done (quiet s)) (plan_mapped (item_fetched s) plan) (λ on. here)
+    (λ off. comes_any who (ListsLess K c w d n stay) (item_fetched s) (λ index. here) plan m)
 
 choice_goes : (who : Who) (K : List ℕ → Type 0) (c : Config) (w d n : ℕ) (s : Lists) (free : Free) (words m : List ℕ) (sub : SubList) (found : Found) → JobLeft K c w d n s → s.renderer.inside ≡ Some sub → item_at sub s.items ≡ Some found
     → Comes who (ListsLess K c w d n (one_if (stays s words))) (choice_plan s free words sub found) m
@@ -264,7 +264,7 @@ more_stays : (K : List ℕ → Type 0) (c : Config) (w d n stay : ℕ) (turned :
 more_stays K c w d n stay turned less = let fewer = less.less in record { rest = less.rest; left = less.left; less = omega (arith, fewer) }
 
 renderer_by : (who : Who) (K : List ℕ → Type 0) (c : Config) (w d n : ℕ) (s : Lists) (free : Free) (words m : List ℕ) (inside : Option SubList) → K m → JobLeft K c w d n s → (s.closed ≡ true → s.binner.kept.config ≡ Some c)
-    → glanced (renderer_ready s) m ≡ true → s.renderer.inside ≡ inside → Comes who (ListsLess K c w d n (one_if (stays s words))) (renderer_plan s free words) m
+    → glance_result (renderer_ready s) m ≡ true → s.renderer.inside ≡ inside → Comes who (ListsLess K c w d n (one_if (stays s words))) (renderer_plan s free words) m
 unfolding renderer_plan
 renderer_by who K c w d n s free words m None here left only ready is =
     let stay : ℕ = one_if (stays s words) in
@@ -276,5 +276,5 @@ renderer_by who K c w d n s free words m (Some sub) here left only ready is =
 
 -- One step of the renderer.
 pub renderer_goes : (who : Who) (K : List ℕ → Type 0) (c : Config) (w d n : ℕ) (s : Lists) (free : Free) (words m : List ℕ) → K m → JobLeft K c w d n s → (s.closed ≡ true → s.binner.kept.config ≡ Some c)
-    → glanced (renderer_ready s) m ≡ true → Comes who (ListsLess K c w d n (one_if (stays s words))) (renderer_plan s free words) m
+    → glance_result (renderer_ready s) m ≡ true → Comes who (ListsLess K c w d n (one_if (stays s words))) (renderer_plan s free words) m
 renderer_goes who K c w d n s free words m here left only ready = renderer_by who K c w d n s free words m s.renderer.inside here left only ready refl

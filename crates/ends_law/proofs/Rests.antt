@@ -1,13 +1,13 @@
 -- What is left of the two lists of a job behind their first packets, and how the list units read those.
 use Rattle.std.proofs.Common.{◌≡◌, ◌≢◌, ℕ, ◌+◌, ◌==◌, ◌||◌, true, false, List, [], ◌∷◌, length, slice_index, Option, Some, None, refl, ◌∙◌, ap, arith}
-use Rattle.field_words.specs.Pieces.{joined as joined_bytes}
+use Rattle.field_words.specs.Pieces.{joined_texts as joined_bytes}
 use Rattle.packets.specs.Opcode.{halt, flush, start_tile_binning, increment_semaphore, indexed_primitive_list, array_primitive_list, gl_shader_state, tile_binning_mode}
 use Rattle.packets.specs.{declared.config.Config.Config, declared.packet.Packet.Packet, Length.bin_length, Length.bin_taken, Length.render_taken, Packet.packet_text, Packet.slots_text}
 use Rattle.packets.proofs.Laws.{decoded_text, taken_text}
 use Rattle.bin_list.specs.Packets.{opcode}
 use Rattle.machine_plan.specs.{declared.who.Who.Who, declared.launch.Free.Free, Memory.bytes_at, Plan.Done, Plan.Wilds}
-use Rattle.list_machine.specs.Lists.{Lists, Turned, quiet, past, incremented, flushed, with_work}
-use Rattle.list_machine.specs.Binner.{configured, with_word, started, clear_plan, begin_plan, work_of, drawn, draw_plan, halted, is_unknown, packet_plan, read_plan}
+use Rattle.list_machine.specs.Lists.{Lists, Turned, quiet, past, after_increment, after_flush, with_work}
+use Rattle.list_machine.specs.Binner.{config_set, with_word, after_start, clear_plan, begin_plan, work_of, plan_of_draw, draw_plan, after_halt, is_unknown, packet_plan, read_plan}
 use Rattle.list_machine.specs.Renderer.{beyond, act, renderer_plan}
 use Rattle.list_machine.proofs.Keeping.{packet_keeps}
 use Rattle.list_law.proofs.Binning.{read_keeps, taken_is, plan_flush, plan_raise, plan_draw, plan_word, plan_start, plan_config, plan_halt}
@@ -47,19 +47,19 @@ packet_read who K P s m packet packets here rest goes =
     let first : slice_index m s.binner.place ≡ opcode packet = byte_front m s.binner.place packet (omega (arith, long, known)) bytes in
     read_keeps who AnyLook AnyAccess (λ k next. P next) s m (length packet) packet (ap bin_taken first ∙ taken_is packet long known) bytes tt tt goes
 
-drawn_goes : (who : Who) (P : Lists → Type 0) (s : Lists) (packet m : List ℕ) (kept : Option ℕ) → ((word : ℕ) → P (with_work s (Some (work_of word packet)))) → Comes who P (drawn s kept packet) m
+drawn_goes : (who : Who) (P : Lists → Type 0) (s : Lists) (packet m : List ℕ) (kept : Option ℕ) → ((word : ℕ) → P (with_work s (Some (work_of word packet)))) → Comes who P (plan_of_draw s kept packet) m
 drawn_goes who P s packet m None draw = tt
 drawn_goes who P s packet m (Some word) draw = draw word
 
-begin_goes : (who : Who) (P : Lists → Type 0) (s : Lists) (m : List ℕ) (config : Option Config) → P (started s) → Comes who P (begin_plan s config) m
+begin_goes : (who : Who) (P : Lists → Type 0) (s : Lists) (m : List ℕ) (config : Option Config) → P (after_start s) → Comes who P (begin_plan s config) m
 unfolding clear_plan
 begin_goes who P s m None here = tt
 begin_goes who P s m (Some c) here = (tt, here)
 
-pub packet_comes : (who : Who) (P : Lists → Type 0) (s : Lists) (packet m : List ℕ) → ((opcode packet == halt) ≡ true → P (halted s)) → ((opcode packet == tile_binning_mode) ≡ true → P (configured s packet))
-    → ((opcode packet == start_tile_binning) ≡ true → P (started s)) → ((opcode packet == gl_shader_state) ≡ true → P (with_word s packet))
-    → ((opcode packet == indexed_primitive_list || opcode packet == array_primitive_list) ≡ true → (word : ℕ) → P (with_work s (Some (work_of word packet)))) → ((opcode packet == increment_semaphore) ≡ true → P (incremented s))
-    → ((opcode packet == increment_semaphore) ≡ false → (opcode packet == flush) ≡ true → P (flushed s)) → ((opcode packet == increment_semaphore) ≡ false → (opcode packet == flush) ≡ false → P s) → Comes who P (packet_plan s packet) m
+pub packet_comes : (who : Who) (P : Lists → Type 0) (s : Lists) (packet m : List ℕ) → ((opcode packet == halt) ≡ true → P (after_halt s)) → ((opcode packet == tile_binning_mode) ≡ true → P (config_set s packet))
+    → ((opcode packet == start_tile_binning) ≡ true → P (after_start s)) → ((opcode packet == gl_shader_state) ≡ true → P (with_word s packet))
+    → ((opcode packet == indexed_primitive_list || opcode packet == array_primitive_list) ≡ true → (word : ℕ) → P (with_work s (Some (work_of word packet)))) → ((opcode packet == increment_semaphore) ≡ true → P (after_increment s))
+    → ((opcode packet == increment_semaphore) ≡ false → (opcode packet == flush) ≡ true → P (after_flush s)) → ((opcode packet == increment_semaphore) ≡ false → (opcode packet == flush) ≡ false → P s) → Comes who P (packet_plan s packet) m
 unfolding packet_plan draw_plan
 packet_comes who P s packet m halts configures starts names draws raises flushes plain =
     let Q = λ (k : List ℕ) (next : Lists). P next in
@@ -67,14 +67,14 @@ packet_comes who P s packet m halts configures starts names draws raises flushes
     let L = AnyLook in
     let G = AnyAccess in
     keeps_if who L G Q m (is_unknown o) Wilds (plan_halt s packet) (λ on. tt)
-    (λ known. keeps_if who L G Q m (o == halt) (Done (halted s)) (plan_config s packet) halts
-    (λ no_halt. keeps_if who L G Q m (o == tile_binning_mode) (Done (configured s packet)) (plan_start s packet) configures
+    (λ known. keeps_if who L G Q m (o == halt) (Done (after_halt s)) (plan_config s packet) halts
+    (λ no_halt. keeps_if who L G Q m (o == tile_binning_mode) (Done (config_set s packet)) (plan_start s packet) configures
     (λ no_config. keeps_if who L G Q m (o == start_tile_binning) (begin_plan s s.binner.kept.config) (plan_word s packet) (λ on. begin_goes who P s m s.binner.kept.config (starts on))
     (λ no_start. keeps_if who L G Q m (o == gl_shader_state) (Done (with_word s packet)) (plan_draw s packet) names
     (λ no_word. keeps_if who L G Q m (o == indexed_primitive_list || o == array_primitive_list) (draw_plan s packet) (plan_raise s packet)
-    (λ on. keeps_if who L G Q m s.binner.kept.started (drawn s s.binner.kept.word packet) Wilds (λ begun. drawn_goes who P s packet m s.binner.kept.word (draws on)) (λ off. tt))
-    (λ no_draw. keeps_if who L G Q m (o == increment_semaphore) (Done (incremented s)) (plan_flush s packet) raises
-    (λ no_raise. keeps_if who L G Q m (o == flush) (Done (flushed s)) (Done s) (flushes no_raise) (plain no_raise))))))))
+    (λ on. keeps_if who L G Q m s.binner.kept.started (plan_of_draw s s.binner.kept.word packet) Wilds (λ begun. drawn_goes who P s packet m s.binner.kept.word (draws on)) (λ off. tt))
+    (λ no_draw. keeps_if who L G Q m (o == increment_semaphore) (Done (after_increment s)) (plan_flush s packet) raises
+    (λ no_raise. keeps_if who L G Q m (o == flush) (Done (after_flush s)) (Done s) (flushes no_raise) (plain no_raise))))))))
 
 -- So does the renderer.
 pub slot_bytes : (K : List ℕ → Type 0) (place end : ℕ) (m : List ℕ) (packet : Packet) (slots : List (Option Packet)) → K m → RenderRest K place end (Some packet ∷ slots) → bytes_at m place (length (packet_text packet)) ≡ packet_text packet

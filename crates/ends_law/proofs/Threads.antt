@@ -11,9 +11,9 @@ use Rattle.machine_plan.specs.Plan.{Plan, Done, Wilds, Reads}
 use Rattle.list_law.proofs.Safe.{keeps_if}
 use Rattle.qpu_machine.specs.{declared.state.Asked.Asked, Operands.add_row, Operands.mul_row, declared.state.Fate.TheVariants.Ends}
 use Rattle.qpu_machine.specs.{declared.state.Thread.Thread, Start.thread_of, Wild.takes_one, Wild.is_wild}
-use Rattle.qpu_machine.specs.Step.{ThreadTurn, executed, executed_with, word_plan, thread_plan}
-use Rattle.qpu_machine.specs.Writes.{awake, past_uniform, ask_of, asked}
-use Rattle.qpu_law.specs.{Home.Home, Home.Jumps, Home.GoesTo, Home.done}
+use Rattle.qpu_machine.specs.Step.{ThreadTurn, turn_executed, executed_with, word_plan, thread_plan}
+use Rattle.qpu_machine.specs.Writes.{awake, past_uniform, ask_of, ask_made}
+use Rattle.qpu_law.specs.{Home.Home, Home.Jumps, Home.GoesTo, Home.turn_done}
 use Rattle.qpu_law.proofs.{Going.in_checked, Going.stays_in_code_law, Starting.starts_stand_law}
 use Rattle.ends_law.specs.Left.{LaunchSo, ThreadAt, ThreadLeft}
 use Rattle.promises.specs.Steps.{one_if, goes_back, has_loop, instruction_steps, steps_before, program_steps}
@@ -66,13 +66,13 @@ asks_by true second one other = omega arith
 asks_by false true one other = omega arith
 asks_by false false one other = omega arith
 
-asked_steps : (w uniform : ℕ) (sum product : List ℕ) (t : Thread) → 1 + one_if (is_some (asked w uniform sum product t)) ≡ instruction_steps w
-unfolding asked instruction_steps
+asked_steps : (w uniform : ℕ) (sum product : List ℕ) (t : Thread) → 1 + one_if (is_some (ask_made w uniform sum product t)) ≡ instruction_steps w
+unfolding ask_made instruction_steps
 asked_steps w uniform sum product t =
     asks_by (writes_s w 0) (writes_s w 1) (record { tmu = 0; ask = ask_of w 0 uniform sum product t.setups0.items }) (record { tmu = 1; ask = ask_of w 1 uniform sum product t.setups1.items })
 
-done_steps : (w u uniforms : ℕ) (words : List ℕ) (t : Thread) → 1 + one_if (is_some (done w u uniforms words t).leaves.asked) ≡ instruction_steps w
-unfolding executed executed_with
+done_steps : (w u uniforms : ℕ) (words : List ℕ) (t : Thread) → 1 + one_if (is_some (turn_done w u uniforms words t).leaves.asked) ≡ instruction_steps w
+unfolding turn_executed executed_with
 done_steps w u uniforms words t =
     let t1 : Thread = awake words (record t { uniforms = uniforms }) in
     asked_steps w u (add_row t1 w u words) (mul_row t1 w u words) t1
@@ -84,12 +84,12 @@ pub record ThreadGoes (r : Rights) (K : List ℕ → Type 0) (n : ℕ) (turn : T
   pub less : rest + 1 + one_if (is_some turn.leaves.asked) ≤ n
 
 done_goes : (r : Rights) (K : List ℕ → Type 0) (n : ℕ) (t : Thread) (u uniforms : ℕ) (words m : List ℕ) → K m → (left : ThreadLeft r K n t)
-    → ThreadGoes r K n (done (word left.there.home.code left.there.index) u uniforms words t)
+    → ThreadGoes r K n (turn_done (word left.there.home.code left.there.index) u uniforms words t)
 unfolding program_steps
 done_goes r K n t u uniforms words m here left =
     let h = left.there.home in
     let i : ℕ = left.there.index in
-    let next = (done (word h.code i) u uniforms words t).thread in
+    let next = (turn_done (word h.code i) u uniforms words t).thread in
     let home = left.there.stands m here in
     let inside = left.there.at.inside in
     let sum = left.left in
@@ -111,12 +111,12 @@ done_goes r K n t u uniforms words m here left =
     }
 
 -- What the instruction leaves that stands at a thread's place.
-pub thread_comes : (who : Who) (P : ThreadTurn → Type 0) (w : ℕ) (t : Thread) (words m : List ℕ) → from_le_bytes w64 (bytes_at m t.place 8) ≡ w → ((u uniforms : ℕ) → P (done w u uniforms words t)) → Comes who P (thread_plan t words) m
+pub thread_comes : (who : Who) (P : ThreadTurn → Type 0) (w : ℕ) (t : Thread) (words m : List ℕ) → from_le_bytes w64 (bytes_at m t.place 8) ≡ w → ((u uniforms : ℕ) → P (turn_done w u uniforms words t)) → Comes who P (thread_plan t words) m
 unfolding thread_plan word_plan past_uniform
 thread_comes who P w t words m read each =
     let Q = λ (k : List ℕ) (turn : ThreadTurn). P turn in
-    let taken : Plan ThreadTurn = Reads t.uniforms 4 (λ bytes. Done (executed w (u32_at bytes 0) words (awake words (past_uniform t)))) in
-    let untaken : Plan ThreadTurn = Done (executed w 0 words (awake words t)) in
+    let taken : Plan ThreadTurn = Reads t.uniforms 4 (λ bytes. Done (turn_executed w (u32_at bytes 0) words (awake words (past_uniform t)))) in
+    let untaken : Plan ThreadTurn = Done (turn_executed w 0 words (awake words t)) in
     let goes : Comes who P (word_plan t w words) m = keeps_if who AnyLook AnyAccess Q m (is_wild t w) Wilds (if takes_one t w then taken else untaken) (λ wild. tt)
     (λ tame. keeps_if who AnyLook AnyAccess Q m (takes_one t w) taken untaken (λ on. (tt, each (u32_at (bytes_at m t.uniforms 4) 0) ((t.uniforms + 4) % 2 ^ 32))) (λ off. each 0 t.uniforms)) in
     (tt, subst (λ k. Comes who P (word_plan t k words) m) (sym read) goes)

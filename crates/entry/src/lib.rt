@@ -174,7 +174,7 @@ fn is_gone(failure: Option<io::Error>) -> bool {
 }
 
 /// Runs the program over the input of this name and a writer, and says what there is to say. A reader of standard output that has enough
-/// is told nothing.
+/// learns nothing.
 fn run_between<P: Program, R: Read + Drop, W: Write + Drop>(
     rt: &HostRuntime,
     program: &P,

@@ -53,7 +53,7 @@ memory = memory_with moves_to_1
 abbrev pub other_memory : List ℕ
 other_memory = memory_with moves_to_2
 
--- It may write what lies from 144 on. Its renderer list is empty, and it has no Plain buffer.
+-- It may write what lies from 144 on. Its renderer list is empty, and it has no data buffer.
 abbrev pub fixed_part : Interval
 fixed_part = record { place = 0; size = 144 }
 
@@ -71,8 +71,8 @@ abbrev pub program : Launch
 program = record { threaded = false; code = 96; uniforms = 0 }
 
 -- what the last program left
-abbrev pub left : Files
-left = record { a = replicate 32 (replicate 16 7); b = replicate 32 (replicate 16 9) }
+abbrev pub files_left : Files
+files_left = record { a = replicate 32 (replicate 16 7); b = replicate 32 (replicate 16 9) }
 
 abbrev pub binner : ℕ → Happening
 binner word = Steps (record { unit = TheBinner; words = word ∷ [] })
@@ -86,7 +86,7 @@ abbrev pub to_start : List Happening
 to_start = Admits job ∷ binner 0 ∷ binner 0 ∷ binner 0 ∷ binner 0 ∷ binner 0 ∷ binner 0 ∷ []
 
 abbrev pub to_find : List Happening
-to_find = to_start ++ Finds 0 false left ∷ []
+to_find = to_start ++ Finds 0 false files_left ∷ []
 
 abbrev pub to_move : List Happening
 to_move = to_find ++ processor ∷ []
@@ -112,7 +112,7 @@ file_in (Some t) = t.a
 pub record ADayHappens : Type 0 where
   pub may : AllMayHappen (dawn memory) whole_day
   pub starts : thread_after to_start ≡ Some (thread_of 0 program)
-  pub finds : thread_after to_find ≡ Some (with_files left (thread_of 0 program))
+  pub finds : thread_after to_find ≡ Some (with_files files_left (thread_of 0 program))
   pub moves : slice_index_or (file_in (thread_after to_move)) 1 [] ≡ replicate 16 7
   pub ends : (after (dawn memory) to_end).state.units.qpus ≡ replicate 12 idle_qpu
   pub steps : own_steps 0 (dawn memory) whole_day ≡ 11

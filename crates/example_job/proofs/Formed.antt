@@ -1,6 +1,6 @@
 -- An example's file is well formed, whatever its number.
 use Rattle.std.proofs.Common.{◌≡◌, ◌≤◌, ℕ, suc, zero, ◌+◌, ◌*◌, [], ◌∷◌, length, replicate, arith, refl, ap}
-use Rattle.field_words.specs.Pieces.{joined}
+use Rattle.field_words.specs.Pieces.{joined_texts}
 use Rattle.job_format.specs.File.{IsWellFormed, IsJobWellFormed}
 use Rattle.example_job.specs.{Noise.next_state, Noise.noise, Lists.states_from, Lists.bin_of, Lists.record_bytes, Lists.records_of}
 use Rattle.example_job.specs.Example.{job_of, file_of, vertex_bytes}
@@ -10,7 +10,7 @@ unfolding noise
 noise_length x zero = refl
 noise_length x (suc n) = ap suc (noise_length (next_state x) n)
 
-states_length : (j n : ℕ) → length (joined (states_from j n)) ≡ 15 * n + 2
+states_length : (j n : ℕ) → length (joined_texts (states_from j n)) ≡ 15 * n + 2
 states_length j zero = refl
 states_length j (suc n) = omega (arith, states_length (j + 1) n)
 
@@ -18,7 +18,7 @@ pub bin_length : (across down count : ℕ) → length (bin_of across down count)
 unfolding bin_of
 bin_length across down count = omega (arith, states_length 0 count)
 
-records_joined : (n : ℕ) → length (joined (replicate n record_bytes)) ≡ 60 * n
+records_joined : (n : ℕ) → length (joined_texts (replicate n record_bytes)) ≡ 60 * n
 records_joined zero = refl
 records_joined (suc n) = omega (arith, records_joined n)
 

@@ -1,6 +1,6 @@
 -- The texts of an example as its loops write them: what stands already and what is left are together the whole.
 use Rattle.std.proofs.Common.{◌≡◌, ◌<◌, ◌≤◌, ℕ, suc, zero, ◌+◌, ◌-◌, ◌/◌, ◌^◌, List, [], ◌∷◌, ◌++◌, replicate, arith, sym, ◌∙◌, ap, append_assoc, append-nil}
-use Rattle.field_words.specs.Pieces.{joined}
+use Rattle.field_words.specs.Pieces.{joined_texts}
 use Rattle.example_job.specs.{Noise.next_state, Noise.noise, Lists.state, Lists.triangle, Lists.states_from, Lists.record_bytes}
 
 -- a piece goes over from what is left to what stands
@@ -22,18 +22,18 @@ pub noise_end : (out : List ℕ) (x n i : ℕ) (all : List ℕ) → n ≤ i → 
 unfolding noise
 noise_end out x n i all over whole = sym (append-nil out) ∙ (ap (λ left. out ++ noise x left) (sym (none_left n i over)) ∙ whole)
 
-pub states_more : (out : List ℕ) (n j : ℕ) (all : List ℕ) → j < n → out ++ joined (states_from j (n - j)) ≡ all
-    → (out ++ (state ++ triangle j)) ++ joined (states_from (j + 1) (n - (j + 1))) ≡ all
+pub states_more : (out : List ℕ) (n j : ℕ) (all : List ℕ) → j < n → out ++ joined_texts (states_from j (n - j)) ≡ all
+    → (out ++ (state ++ triangle j)) ++ joined_texts (states_from (j + 1) (n - (j + 1))) ≡ all
 states_more out n j all below whole =
-    gone_over out (state ++ triangle j) (joined (states_from (j + 1) (n - (j + 1)))) (joined (states_from j (n - j))) all (ap (λ left. joined (states_from j left)) (one_less n j below)) whole
+    gone_over out (state ++ triangle j) (joined_texts (states_from (j + 1) (n - (j + 1)))) (joined_texts (states_from j (n - j))) all (ap (λ left. joined_texts (states_from j left)) (one_less n j below)) whole
 
-pub states_end : (out : List ℕ) (n j : ℕ) (all : List ℕ) → n ≤ j → out ++ joined (states_from j (n - j)) ≡ all → out ++ 7 ∷ 4 ∷ [] ≡ all
-states_end out n j all over whole = ap (λ left. out ++ joined (states_from j left)) (sym (none_left n j over)) ∙ whole
+pub states_end : (out : List ℕ) (n j : ℕ) (all : List ℕ) → n ≤ j → out ++ joined_texts (states_from j (n - j)) ≡ all → out ++ 7 ∷ 4 ∷ [] ≡ all
+states_end out n j all over whole = ap (λ left. out ++ joined_texts (states_from j left)) (sym (none_left n j over)) ∙ whole
 
-pub records_more : (out : List ℕ) (n i : ℕ) (all : List ℕ) → i < n → out ++ joined (replicate (n - i) record_bytes) ≡ all
-    → (out ++ record_bytes) ++ joined (replicate (n - (i + 1)) record_bytes) ≡ all
+pub records_more : (out : List ℕ) (n i : ℕ) (all : List ℕ) → i < n → out ++ joined_texts (replicate (n - i) record_bytes) ≡ all
+    → (out ++ record_bytes) ++ joined_texts (replicate (n - (i + 1)) record_bytes) ≡ all
 records_more out n i all below whole =
-    gone_over out record_bytes (joined (replicate (n - (i + 1)) record_bytes)) (joined (replicate (n - i) record_bytes)) all (ap (λ left. joined (replicate left record_bytes)) (one_less n i below)) whole
+    gone_over out record_bytes (joined_texts (replicate (n - (i + 1)) record_bytes)) (joined_texts (replicate (n - i) record_bytes)) all (ap (λ left. joined_texts (replicate left record_bytes)) (one_less n i below)) whole
 
-pub records_end : (out : List ℕ) (n i : ℕ) (all : List ℕ) → n ≤ i → out ++ joined (replicate (n - i) record_bytes) ≡ all → out ≡ all
-records_end out n i all over whole = sym (append-nil out) ∙ (ap (λ left. out ++ joined (replicate left record_bytes)) (sym (none_left n i over)) ∙ whole)
+pub records_end : (out : List ℕ) (n i : ℕ) (all : List ℕ) → n ≤ i → out ++ joined_texts (replicate (n - i) record_bytes) ≡ all → out ≡ all
+records_end out n i all over whole = sym (append-nil out) ∙ (ap (λ left. out ++ joined_texts (replicate left record_bytes)) (sym (none_left n i over)) ∙ whole)

@@ -1,7 +1,7 @@
 -- The binner list and the shader records of an example job, before emission.
 use Rattle.std.specs.Prelude.{ℕ, zero, suc, ◌+◌, List, [], ◌∷◌, replicate}
 use Rattle.std.specs.Int.{to_le_bytes, w32}
-use Rattle.field_words.specs.Pieces.{joined}
+use Rattle.field_words.specs.Pieces.{joined_texts}
 
 -- the binning mode of a frame of this many tiles across and down
 abbrev pub config : ℕ → ℕ → List ℕ
@@ -33,7 +33,7 @@ abbrev pub packets_of : ℕ → ℕ → ℕ → List (List ℕ)
 packets_of across down count = config across down ∷ start ∷ states_from 0 count
 
 unfoldable pub bin_of : ℕ → ℕ → ℕ → List ℕ
-bin_of across down count = joined (packets_of across down count)
+bin_of across down count = joined_texts (packets_of across down count)
 
 -- A shader record: the handles of its three shaders and of its attribute's buffer; then flag byte 1, and an attribute of 16 bytes
 -- at a stride of 16.
@@ -44,4 +44,4 @@ record_bytes =
     0 ∷ 0 ∷ 0 ∷ 0 ∷ 0 ∷ 0 ∷ 0 ∷ 0 ∷ 0 ∷ 0 ∷ 0 ∷ 0 ∷ 15 ∷ 16 ∷ 0 ∷ 0 ∷ []
 
 unfoldable pub records_of : ℕ → List ℕ
-records_of count = joined (replicate count record_bytes)
+records_of count = joined_texts (replicate count record_bytes)

@@ -152,7 +152,7 @@ fn file(alloc: Global, seed: u32, across: u8, down: u8, count: u32) -> Result<Jo
 #[tactic(auto, unfolding(crate::specs::Example::across_of, crate::specs::Example::down_of, crate::specs::Example::count_of, crate::specs::Example::example), using(crate::proofs::Formed::well_formed))]
 pub fn make_job(alloc: Global, number: u32) -> Result<Vec<u8>, NoMemory>
     ensures text { IfOk result (λ bytes. bytes.items ≡ file_text (example number)) }
-    // The bytes spell that file, and no rule of the format stands for them.
+    // The bytes spell that file, and no rule of the format is broken by them.
     ensures spells { IfOk result (λ bytes. IsFileOf bytes.items (example number)) }
     ensures again { IfOk result (λ bytes. (first_of (format_questions bytes.items) ≡ None)
         × (file_at bytes.items ≡ example number)) }

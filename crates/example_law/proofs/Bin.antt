@@ -1,4 +1,4 @@
--- No rule stands for the binner list of an example, and what it tells.
+-- No rule is broken by the binner list of an example, and what it tells.
 use Rattle.std.proofs.Common.{◌≡◌, ℕ, zero, suc, ◌+◌, ◌*◌, ◌^◌, ◌≤◌, ◌<◌, true, false, List, [], ◌∷◌, None, length, refl, sym, ap, subst, arith, ◌∙◌}
 use Rattle.std.proofs.lemmas.{Nat.from_le_bytes-to_le_bytes_4, Grind.common_steps, Bool.Decides.nat_tests}
 use Rattle.field_words.specs.{Questions.first_of, Words.u32_at, Words.rounded_up}
@@ -9,7 +9,7 @@ use Rattle.packets.specs.Length.{bin_length, bin_taken}
 use Rattle.packets.specs.StateWord.{attribute_count, is_extended, record_size, record_room}
 use Rattle.tile_memory.specs.Slots.{alloc_offset, slot_fits}
 use Rattle.bin_list.specs.Rules.{GivenModel, cut_questions, flush_questions, start_questions, increment_questions, primitive_questions, array_questions, state_questions, config_questions, kind_questions, packet_questions, end_questions, bin_questions}
-use Rattle.bin_list.specs.{declared.seen.Seen.Seen, Packets.packets, Packets.passed}
+use Rattle.bin_list.specs.{declared.seen.Seen.Seen, Packets.packets, Packets.packets_passed}
 use Rattle.bin_list.specs.{Seen.seen_before, Seen.seen_after, States.draws_to, States.greatest, States.states_of}
 use Rattle.job_check.specs.Jobs.{grid_from}
 use Rattle.example_job.specs.Lists.{config, start, state, triangle, states_from, packets_of, bin_of}
@@ -123,7 +123,7 @@ bin_none given across down tiles some_across some_down few size = (
   ),
 )
 
--- No rule stands for the list.
+-- No rule is broken by the list.
 pub bin_no_fault : (across down count : ℕ) (table : TableModel) (handles : List ℕ) → IsTiles (across * down) → 1 ≤ across → 1 ≤ down → count ≤ 17476
     → first_of (bin_questions (bin_of across down count) count table handles) ≡ None
 unfolding bin_of
@@ -139,7 +139,7 @@ unfolding seen_after
 grid_stays seen j zero = refl
 grid_stays seen j (suc n) = grid_stays (seen_after (seen_after seen state) (triangle j)) (j + 1) n
 
-pub grid_is : (across down count : ℕ) → grid_from (seen_before (passed (bin_of across down count))) ≡ (across, down)
+pub grid_is : (across down count : ℕ) → grid_from (seen_before (packets_passed (bin_of across down count))) ≡ (across, down)
 unfolding bin_of
 grid_is across down count =
     ap grid_from (seen_joined (packets_of across down count) (all_whole across down count))
@@ -156,14 +156,14 @@ drawn : (j n : ℕ) → j < 17476 → greatest (triangle j ∷ states_from (j + 
 unfolding draws_to
 drawn j n few = rw (first_index j (omega arith), three j, nothing_drawn (j + 1) n) (omega arith)
 
-told : (j n : ℕ) → j + n ≤ 17476 → states_of (states_from j n) ≡ states_are j n
+report : (j n : ℕ) → j + n ≤ 17476 → states_of (states_from j n) ≡ states_are j n
 unfolding u32_at
-told j zero few = refl
-told j (suc n) few =
+report j zero few = refl
+report j (suc n) few =
     ap (λ index. record { word = 1; max_index = index } ∷ states_of (states_from (j + 1) n)) (drawn j n (omega arith))
-    ∙ ap (λ states. record { word = 1; max_index = j + 2 } ∷ states) (told (j + 1) n (omega arith))
+    ∙ ap (λ states. record { word = 1; max_index = j + 2 } ∷ states) (report (j + 1) n (omega arith))
 
-pub states_told : (across down count : ℕ) → count ≤ 17476 → states_of (packets (bin_of across down count)) ≡ states_are 0 count
+pub states_reported : (across down count : ℕ) → count ≤ 17476 → states_of (packets (bin_of across down count)) ≡ states_are 0 count
 unfolding bin_of
-states_told across down count few =
-    ap states_of (packets_joined (packets_of across down count) (all_whole across down count)) ∙ told 0 count (omega arith)
+states_reported across down count few =
+    ap states_of (packets_joined (packets_of across down count) (all_whole across down count)) ∙ report 0 count (omega arith)

@@ -1,14 +1,14 @@
 -- The numbers of an example are in their ranges.
 use Rattle.std.specs.Prelude.{zero, suc, ◌==◌, nat_le, nat_lt, min, if◌then◌else◌}
 use Rattle.bin_list.specs.{declared.state.State.State, declared.seen.Seen.Seen, States.state, Seen.place, Seen.seen_before, Seen.seen_after}
-use Rattle.bin_list.specs.Packets.{opcode, front_packet, behind, cut, packets, onto, passed}
-use Rattle.bin_list.specs.Rules.{GivenModel, packet_questions, end_questions, asked, questions_of}
+use Rattle.bin_list.specs.Packets.{opcode, front_packet, behind, front_packets, packets, onto, packets_passed}
+use Rattle.bin_list.specs.Rules.{GivenModel, packet_questions, end_questions, questions_of_packets, questions_of}
 use Rattle.qpu_isa.specs.Shader.{ShaderModel}
 use Rattle.std.proofs.Common.{◌≡◌, ◌<◌, ◌≤◌, ℕ, ◌+◌, ◌*◌, ◌/◌, ◌%◌, true, false, arith, [], ◌∷◌, None, refl, ◌-◌, Bool, ap, ◌∙◌, List, ◌++◌, length, subst, length-append}
 use Rattle.std.proofs.lemmas.{Bool.Decides.nat_tests, List.take_at, List.drop_at, Grind.common_steps}
 use Rattle.example_law.specs.Laws.{IsInRange}
 use Rattle.example_job.specs.Example.{across_of, down_of, count_of, regions, code_buffer, vertex_buffer, frame_buffer, frame_of}
-use Rattle.field_words.specs.{Sizes.most_memory, Sizes.most_list, Pieces.joined, Questions.first_of, Questions.each}
+use Rattle.field_words.specs.{Sizes.most_memory, Sizes.most_list, Pieces.joined_texts, Questions.first_of, Questions.each}
 use Rattle.buffer_table.specs.Table.{TableModel, shares, is_off_page, memory_within, item_questions, all_within, table_questions, buffer_at}
 use Rattle.buffer_table.specs.{declared.buffer.Kind.TheVariants.Plain, Handles.handle_questions, Handles.handles_questions}
 use Rattle.field_words.proofs.{Numbers.rounded, Questions.passes, Questions.answered_none}
@@ -27,8 +27,8 @@ states_are j zero = []
 states_are j (suc n) = state 1 (j + 2) ∷ states_are (j + 1) n
 
 -- the shader takes no uniforms, asks for no samples and switches no threads
-abbrev pub told : ShaderModel
-told = record { uniforms = 0; samples = []; address_words = []; threaded = false }
+abbrev pub report : ShaderModel
+report = record { uniforms = 0; samples = []; address_words = []; threaded = false }
 
 most_tiles : (across down : ℕ) → across ≤ 30 → down ≤ 17 → across * down ≤ 510
 most_tiles across down few_across few_down = grind arith
@@ -69,7 +69,7 @@ is_same n m same = grind (arith, nat_tests)
 pub is_within : (n m : ℕ) → n ≤ m → nat_le n m ≡ true
 is_within n m within = grind (arith, nat_tests)
 
--- No rule stands for the memory of an example, nor for its handles.
+-- No rule is broken by the memory of an example, nor by its handles.
 
 -- the memory table of a frame of so many tiles
 abbrev pub memory_bytes : ℕ → ℕ
@@ -151,8 +151,8 @@ pub lists_fit : (bin records render : ℕ) → bin ≤ 262159 → records ≤ mo
 unfolding records_start uniforms_start render_start
 lists_fit bin records render bin_most records_most render_most = grind (arith, common_steps, nat_tests, rounded, is_under)
 
--- A binner list that is made of whole packets: what it is cut into, what is seen of it, and that no rule stands for it where none
--- stands for a packet after what is seen before it.
+-- A binner list that is made of whole packets: what it is cut into, what is seen of it, and that no rule is broken by it where none
+-- is broken for a packet after what is seen before it.
 
 -- a packet of its opcode's length, after which the list goes on
 pub record IsWhole (packet : List ℕ) : Type 0 where
@@ -178,24 +178,24 @@ behind_is : (packet rest : List ℕ) → IsWhole packet → behind (packet ++ re
 unfolding behind
 behind_is packet rest whole = grind (arith, common_steps, nat_tests, opcode_front, some_bytes, drop_at)
 
-pub cut_joined : (fuel : ℕ) (all : List (List ℕ)) → AreWhole all → length (joined all) ≤ fuel → cut fuel (joined all) ≡ all
+pub cut_joined : (fuel : ℕ) (all : List (List ℕ)) → AreWhole all → length (joined_texts all) ≤ fuel → front_packets fuel (joined_texts all) ≡ all
 cut_joined fuel [] whole enough = cut_nothing fuel [] refl
 cut_joined fuel (packet ∷ later) whole enough =
     let some = some_bytes packet whole.0 in
-    let sizes = length-append packet (joined later) in
-    let step = cut_step fuel (packet ++ joined later) (omega arith) enough in
-    let rest_is = behind_is packet (joined later) whole.0 in
+    let sizes = length-append packet (joined_texts later) in
+    let step = cut_step fuel (packet ++ joined_texts later) (omega arith) enough in
+    let rest_is = behind_is packet (joined_texts later) whole.0 in
     step.1.is
-    ∙ ap (λ p. p ∷ cut step.0 (behind (packet ++ joined later))) (front_is packet (joined later) whole.0)
-    ∙ ap (λ rest. packet ∷ cut step.0 rest) rest_is
+    ∙ ap (λ p. p ∷ front_packets step.0 (behind (packet ++ joined_texts later))) (front_is packet (joined_texts later) whole.0)
+    ∙ ap (λ rest. packet ∷ front_packets step.0 rest) rest_is
     ∙ ap (λ ps. packet ∷ ps) (cut_joined step.0 later whole.1 (subst (λ rest. length rest ≤ step.0) rest_is step.1.enough))
 
-pub packets_joined : (all : List (List ℕ)) → AreWhole all → packets (joined all) ≡ all
+pub packets_joined : (all : List (List ℕ)) → AreWhole all → packets (joined_texts all) ≡ all
 unfolding packets
-packets_joined all whole = cut_joined (length (joined all)) all whole (omega arith)
+packets_joined all whole = cut_joined (length (joined_texts all)) all whole (omega arith)
 
-pub passed_joined : (all : List (List ℕ)) → AreWhole all → passed (joined all) ≡ onto [] all
-unfolding passed
+pub passed_joined : (all : List (List ℕ)) → AreWhole all → packets_passed (joined_texts all) ≡ onto [] all
+unfolding packets_passed
 passed_joined all whole = ap (onto []) (packets_joined all whole)
 
 -- what is seen after these packets
@@ -207,20 +207,20 @@ pub seen_onto : (earlier later : List (List ℕ)) → seen_before (onto earlier 
 seen_onto earlier [] = refl
 seen_onto earlier (packet ∷ later) = seen_onto (packet ∷ earlier) later ∙ ap (λ seen. seen_after_all seen later) (seen_step packet earlier)
 
--- no rule stands for these packets, each after what is seen before it, nor at the list's end
+-- no rule is broken by these packets, each after what is seen before it, nor at the list's end
 abbrev pub Pass : GivenModel → Seen → List (List ℕ) → Type 0
 Pass given seen [] = first_of (end_questions seen) ≡ None
 Pass given seen (packet ∷ later) = (first_of (packet_questions given seen packet) ≡ None) × Pass given (seen_after seen packet) later
 
-asked_none : (given : GivenModel) (earlier later : List (List ℕ)) → first_of (asked given earlier) ≡ None → Pass given (seen_before earlier) later
+asked_none : (given : GivenModel) (earlier later : List (List ℕ)) → first_of (questions_of_packets given earlier) ≡ None → Pass given (seen_before earlier) later
     → first_of (questions_of given (onto earlier later)) ≡ None
 unfolding questions_of
 asked_none given earlier [] before pass = grind (arith, common_steps, nat_tests, passes, answered_none)
 asked_none given earlier (packet ∷ later) before pass =
     grind (arith, common_steps, nat_tests, asked_none given (packet ∷ earlier) later, passes, answered_none, seen_step)
 
-pub no_fault : (given : GivenModel) (all : List (List ℕ)) → AreWhole all → Pass given (seen_before []) all → first_of (questions_of given (passed (joined all))) ≡ None
+pub no_fault : (given : GivenModel) (all : List (List ℕ)) → AreWhole all → Pass given (seen_before []) all → first_of (questions_of given (packets_passed (joined_texts all))) ≡ None
 no_fault given all whole pass = grind (arith, common_steps, nat_tests, passed_joined, asked_none)
 
-pub seen_joined : (all : List (List ℕ)) → AreWhole all → seen_before (passed (joined all)) ≡ seen_after_all (seen_before []) all
+pub seen_joined : (all : List (List ℕ)) → AreWhole all → seen_before (packets_passed (joined_texts all)) ≡ seen_after_all (seen_before []) all
 seen_joined all whole = ap seen_before (passed_joined all whole) ∙ seen_onto [] all

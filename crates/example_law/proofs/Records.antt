@@ -1,8 +1,8 @@
--- No rule stands for the shader records of an example, nor for the uniforms of their shaders.
+-- No rule is broken by the shader records of an example, nor by the uniforms of their shaders.
 use Rattle.std.proofs.Common.{◌≡◌, ℕ, ◌+◌, ◌*◌, ◌-◌, false, [], ◌∷◌, Some, None, refl, ap, arith, ◌∙◌, zero, suc, ◌≤◌, ◌<◌, List, ◌++◌, length, drop, replicate, sym}
 use Rattle.std.proofs.lemmas.{List.drop-drop, List.drop_at, Grind.common_steps, Bool.Decides.nat_tests}
 use Rattle.std.specs.{Prelude.nat_lt, Prelude.nat_le, Prelude.slice_index_or}
-use Rattle.field_words.specs.{Words.rounded_up, Words.u32_at, Pieces.joined, Questions.first_of, Questions.each}
+use Rattle.field_words.specs.{Words.rounded_up, Words.u32_at, Pieces.joined_texts, Questions.first_of, Questions.each}
 use Rattle.field_words.proofs.{Numbers.rounded, Questions.passes}
 use Rattle.buffer_table.specs.{Table.buffer_at, Handles.data_of, Handles.code_of}
 use Rattle.texture_layouts.specs.{Format.frame_tiling, Format.frame_pixel, Surface.microtile_width_of, Surface.microtile_height_of}
@@ -10,7 +10,7 @@ use Rattle.render_list.specs.Surfaces.{is_reversed, is_outside_grid, is_outside_
 use Rattle.render_list.specs.Frame.{is_present, is_multisample, tile_side, is_full}
 use Rattle.example_job.specs.{Example.frame_of, Lists.record_bytes, Lists.records_of}
 use Rattle.example_law.specs.Laws.{IsInRange}
-use Rattle.example_law.proofs.Numbers.{is_over, is_under, table_for, states_are, told}
+use Rattle.example_law.proofs.Numbers.{is_over, is_under, table_for, states_are, report}
 use Rattle.emitted_facts.specs.Records.{attribute_size, attribute_stride, is_single}
 use Rattle.packets.specs.StateWord.{attribute_count, is_extended, record_size}
 use Rattle.bin_list.specs.States.{state}
@@ -19,7 +19,7 @@ use Rattle.shader_records.specs.Rules.{cut_questions, code_questions, handle_que
 use Rattle.shader_records.specs.Inputs.{InputModel}
 use Rattle.example_job.proofs.Formed.{records_length}
 
--- No rule stands for the frame and the surfaces of an example.
+-- No rule is broken by the frame and the surfaces of an example.
 
 -- the tests of the rules on a frame of so many tiles
 record IsFrame (across down : ℕ) : Type 0 where
@@ -76,7 +76,7 @@ input tiles count = record {
   uniforms = [];
   table = table_for tiles;
   handles = 0 ∷ 1 ∷ 2 ∷ [];
-  shaders = Some told ∷ None ∷ None ∷ [];
+  shaders = Some report ∷ None ∷ None ∷ [];
 }
 
 -- from a place on the bytes begin with a text
@@ -87,13 +87,13 @@ pub record BeginsAt (bytes : List ℕ) (at : ℕ) (text : List ℕ) : Type 0 whe
 drop_on : (n : ℕ) (text bytes : List ℕ) → drop (length text + n) (text ++ bytes) ≡ drop n bytes
 drop_on n text bytes = sym (drop-drop n (length text) (text ++ bytes)) ∙ ap (drop n) (drop_at text bytes (length text) refl)
 
-begins : (i n : ℕ) → i < n → BeginsAt (joined (replicate n record_bytes)) (60 * i) record_bytes
+begins : (i n : ℕ) → i < n → BeginsAt (joined_texts (replicate n record_bytes)) (60 * i) record_bytes
 begins i zero inside = absurd (omega arith)
-begins zero (suc n) inside = record { rest = joined (replicate n record_bytes); same = refl }
+begins zero (suc n) inside = record { rest = joined_texts (replicate n record_bytes); same = refl }
 begins (suc i) (suc n) inside =
     let later = begins i n (omega arith) in
     let further : 60 * suc i ≡ 60 + 60 * i = omega arith in
-    record { rest = later.rest; same = ap (λ at. drop at (joined (replicate (suc n) record_bytes))) further ∙ drop_on (60 * i) record_bytes (joined (replicate n record_bytes)) ∙ later.same }
+    record { rest = later.rest; same = ap (λ at. drop at (joined_texts (replicate (suc n) record_bytes))) further ∙ drop_on (60 * i) record_bytes (joined_texts (replicate n record_bytes)) ∙ later.same }
 
 pub record_begins : (i count : ℕ) → i < count → BeginsAt (records_of count) (60 * i) record_bytes
 unfolding records_of
@@ -138,7 +138,7 @@ record_none : (tiles count at most : ℕ) → Words (records_of count) at → na
 unfolding each attribute_count is_extended record_size attribute_size attribute_stride is_single handles_size source_size code_number attribute_number shader_used record_word cut_questions code_questions handle_questions disagrees fixed_questions is_attribute_past has_vertex_past attribute_questions names_questions body_questions record_questions data_of code_of buffer_at
 record_none tiles count at most w handles whole vertices = grind (arith, common_steps, nat_tests)
 
--- its shaders take no uniforms, so no rule on uniforms stands
+-- its shaders take no uniforms, so no rule on uniforms is broken
 uniforms_none : (tiles count at : ℕ) → Words (records_of count) at → first_of (each (shader_questions (input tiles count) at 0) 0 3) ≡ None
 unfolding each code_number shader_used taken_before use_questions shader_questions code_of buffer_at
 uniforms_none tiles count at w = rw (w.fragment, w.vertex, w.coordinate) refl

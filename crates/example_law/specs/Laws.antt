@@ -15,7 +15,7 @@ pub record IsInRange (across down count : ℕ) : Type 0 where
   pub memory : 0x581000 + frame_bytes (across * down) ≤ most_memory
   pub records : 60 * count ≤ most_list
 
--- A file is within the limits of the format, and no rule stands for it.
+-- A file is within the limits of the format, and no rule is broken by it.
 pub record IsFaultless (f : FileModel) : Type 0 where
   pub well_formed : IsWellFormed f
   pub none : first_of (file_stages f) ≡ None

@@ -1,4 +1,4 @@
-//! Why no rule stands for an example job, whatever its number.
+//! Why no rule is broken by an example job, whatever its number.
 //!
 //! Each law is named by a function with an empty body, so that a call can cite it.
 #![tactic(auto)]
@@ -10,7 +10,7 @@ ghost use Rattle.example_job.specs.Example.{file_of, example};
 ghost use Rattle.example_law.specs.Laws.{IsInRange, IsFaultless};
 
 /// A file that is made as examples are, of a frame of any such size with any such number of triangles, is within the limits of the
-/// format, and no rule stands for it: none on its memory, its shader, its handles, its binner list, its shader records, its surfaces
+/// format, and no rule is broken by it: none on its memory, its shader, its handles, its binner list, its shader records, its surfaces
 /// and its layout.
 #[tactic(auto, using(crate::proofs::Whole::frame_faultless))]
 pub fn frames_have_no_fault()

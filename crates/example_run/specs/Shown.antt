@@ -5,12 +5,12 @@ use Rattle.field_words.specs.declared.access.{Access.Access, Way.TheVariants.Rea
 use Rattle.field_words.specs.declared.access.Actor.TheVariants.{Binner as TheBinner, Renderer as TheRenderer, Qpu as TheQpu, Tmu as TheTmu}
 use Rattle.job_format.specs.{Model.FileModel, Reading.file_at}
 use Rattle.job_check.specs.Emit.{memory_of}
-use Rattle.machine_plan.specs.{Regions.Agree, Runs.reached}
+use Rattle.machine_plan.specs.{Regions.Agree, Runs.state_reached}
 use Rattle.qpu_machine.specs.{declared.state.Qpu.Qpu, Qpu.oldest, Qpu.queue_of}
 use Rattle.qpu_machine.specs.declared.state.Ask.{Ask, TheVariants.Direct, TheVariants.Texture}
 use Rattle.machine.specs.declared.job.Start.{Start}
 use Rattle.machine.specs.State.{State, start_of, item_at}
-use Rattle.machine.specs.Step.{Event, IsRun, step, finished}
+use Rattle.machine.specs.Step.{Event, IsRun, step, is_finished}
 use Rattle.promises.specs.Holdings.{interval, buffer_interval, fixed_of, file_starts}
 use Rattle.textured_job.specs.Laws.{IsAccepted}
 
@@ -58,7 +58,7 @@ whole_run =
 
 -- the state after such events, of jobs that begin there over a memory
 abbrev pub after : List Start → List ℕ → List Event → State
-after starts m events = reached step (start_of m starts) events
+after starts m events = state_reached step (start_of m starts) events
 
 -- what TMU 0 of the first processor is asked for next
 abbrev pub ask_of : Option Qpu → Option Ask
@@ -66,8 +66,8 @@ ask_of None = None
 ask_of (Some q) = option_map (λ request. request.ask) (oldest (queue_of q 0))
 
 -- its read of so many bytes from a place on, for job 0
-abbrev pub read : (place len : ℕ) → Access
-read place len = record { way = Read; place = place; len = len; unit = TheTmu 0 0; job = 0 }
+abbrev pub read_access : (place len : ℕ) → Access
+read_access place len = record { way = Read; place = place; len = len; unit = TheTmu 0 0; job = 0 }
 
 -- It is asked for this, and its step makes these accesses.
 pub record Serves (s : State) (ask : Ask) (accesses : List Access) : Type 0 where
@@ -77,17 +77,17 @@ pub record Serves (s : State) (ask : Ask) (accesses : List Access) : Type 0 wher
 -- It is asked for the texture at 0x84000, of which each of its 128 reads takes the first 64 bytes; or directly for the words at 16 addresses,
 -- which are one, and reads them.
 abbrev pub TakesTexture : State → Type 0
-TakesTexture s = Serves s (Texture (0x84000 ∷ 0x800800 ∷ 0 ∷ 0 ∷ [])) (replicate 128 (read 0x84000 64))
+TakesTexture s = Serves s (Texture (0x84000 ∷ 0x800800 ∷ 0 ∷ 0 ∷ [])) (replicate 128 (read_access 0x84000 64))
 
 abbrev pub ReadsDirectly : State → Type 0
-ReadsDirectly s = Serves s (Direct (replicate 16 0x84400)) (replicate 16 (read 0x84400 4))
+ReadsDirectly s = Serves s (Direct (replicate 16 0x84400)) (replicate 16 (read_access 0x84400 4))
 
 -- These 43 events are a run, at whose end the machine is finished; and on the way the texture unit does both.
 pub record Happens (starts : List Start) (m : List ℕ) : Type 0 where
   pub found : List Access
   pub run : IsRun (start_of m starts) whole_run found (after starts m whole_run)
   pub steps : length whole_run ≡ 43
-  pub ends : finished (after starts m whole_run) ≡ true
+  pub ends : is_finished (after starts m whole_run) ≡ true
   pub texture : TakesTexture (after starts m to_texture)
   pub direct : ReadsDirectly (after starts m to_direct)
 

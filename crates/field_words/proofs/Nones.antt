@@ -1,7 +1,7 @@
--- Where no question of a list stands, none of its parts does.
+-- Where no rule of a list is broken, none of its parts is.
 use Rattle.std.proofs.Common.{◌≡◌, ℕ, zero, suc, ◌+◌, ◌<◌, ◌≤◌, true, false, List, [], ◌∷◌, ◌++◌, None, refl, sym, ap, arith, ◌∙◌}
 use Rattle.std.proofs.{Common.inl, Common.inr, Math.Nat.eq-or-lt_of_le}
-use Rattle.field_words.specs.Questions.{Question, Ask, first_of, each, answered}
+use Rattle.field_words.specs.Questions.{Question, Ask, first_of, each, with_answers}
 use Rattle.field_words.proofs.Questions.{passes}
 
 pub front_none : {F : Type 0} → (front rest : List (Question F)) → first_of (front ++ rest) ≡ None → first_of front ≡ None
@@ -23,8 +23,8 @@ each_none questions i (suc n) k none from below =
     ]
 
 -- and under other answers
-pub none_answered : {F G : Type 0} (change : F → G) → (questions : List (Question F)) → first_of (answered change questions) ≡ None → first_of questions ≡ None
-unfolding answered
+pub none_answered : {F G : Type 0} (change : F → G) → (questions : List (Question F)) → first_of (with_answers change questions) ≡ None → first_of questions ≡ None
+unfolding with_answers
 none_answered change [] none = refl
 none_answered change (Ask true answer ∷ later) none = cc
 none_answered change (Ask false answer ∷ later) none = none_answered change later none

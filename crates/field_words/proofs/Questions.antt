@@ -1,32 +1,32 @@
 -- Laws on rules that are asked in an order.
 use Rattle.std.proofs.Common.{◌≡◌, ℕ, zero, suc, ◌+◌, ◌-◌, ◌<◌, ◌≤◌, true, false, List, [], ◌∷◌, ◌++◌, Some, None, Result, Ok, Err, refl, sym, ap, arith, ◌∙◌}
-use Rattle.field_words.specs.Questions.{Question, Ask, first_of, NoneStands, IsFirst, each, answered, Refuses, Answers, NamesFirst}
+use Rattle.field_words.specs.Questions.{Question, Ask, first_of, NoneBroken, IsFirst, each, with_answers, Refuses, Answers, NamesFirst}
 use Rattle.field_words.specs.{declared.stop.Stop.Stop, declared.stop.Stop.TheVariants.Fault, declared.stop.Stop.TheVariants.NoMemory}
 
--- Where no question of the front stands, the rest decides.
+-- Where no rule of the front is broken, the rest decides.
 pub passes : {F : Type 0} → (front rest : List (Question F)) → first_of front ≡ None → first_of (front ++ rest) ≡ first_of rest
 passes [] rest none = refl
 passes (Ask true answer ∷ front) rest none = cc
 passes (Ask false answer ∷ front) rest none = passes front rest none
 
--- Where one of the front stands, the rest is not asked.
+-- Where one of the front is broken, the rest is not asked.
 pub stops : {F : Type 0} → (front rest : List (Question F)) (f : F) → first_of front ≡ Some f → first_of (front ++ rest) ≡ Some f
 stops [] rest f some = cc
 stops (Ask true answer ∷ front) rest f some = some
 stops (Ask false answer ∷ front) rest f some = stops front rest f some
 
--- the list form and the answer of the first agree: none stands exactly where the answer is None
-pub none_stands : {F : Type 0} → (questions : List (Question F)) → first_of questions ≡ None → NoneStands questions
-none_stands [] none = tt
-none_stands (Ask true answer ∷ later) none = cc
-none_stands (Ask false answer ∷ later) none = (refl, none_stands later none)
+-- the list form and the answer of the first agree: none is broken exactly where the answer is None
+pub none_broken : {F : Type 0} → (questions : List (Question F)) → first_of questions ≡ None → NoneBroken questions
+none_broken [] none = tt
+none_broken (Ask true answer ∷ later) none = cc
+none_broken (Ask false answer ∷ later) none = (refl, none_broken later none)
 
-pub stands_none : {F : Type 0} → (questions : List (Question F)) → NoneStands questions → first_of questions ≡ None
-stands_none [] none = refl
-stands_none (Ask true answer ∷ later) none = cc
-stands_none (Ask false answer ∷ later) none = stands_none later none.1
+pub first_none : {F : Type 0} → (questions : List (Question F)) → NoneBroken questions → first_of questions ≡ None
+first_none [] none = refl
+first_none (Ask true answer ∷ later) none = cc
+first_none (Ask false answer ∷ later) none = first_none later none.1
 
--- The answer of the first question that stands is the first that stands, as a sentence about the
+-- The answer of the first question whose rule is broken is the first that is broken, as a sentence about the
 -- whole list.
 pub first_is : {F : Type 0} → (questions : List (Question F)) (f : F) → first_of questions ≡ Some f → IsFirst questions f
 first_is [] f some = cc
@@ -43,14 +43,14 @@ first_is (Ask false answer ∷ rest) f some =
     }
 
 -- The answer changes with the change of the answers.
-pub answered_none : {F G : Type 0} (change : F → G) → (questions : List (Question F)) → first_of questions ≡ None → first_of (answered change questions) ≡ None
-unfolding answered
+pub answered_none : {F G : Type 0} (change : F → G) → (questions : List (Question F)) → first_of questions ≡ None → first_of (with_answers change questions) ≡ None
+unfolding with_answers
 answered_none change [] none = refl
 answered_none change (Ask true answer ∷ later) none = cc
 answered_none change (Ask false answer ∷ later) none = answered_none change later none
 
-pub answered_some : {F G : Type 0} (change : F → G) → (questions : List (Question F)) (f : F) → first_of questions ≡ Some f → first_of (answered change questions) ≡ Some (change f)
-unfolding answered
+pub answered_some : {F G : Type 0} (change : F → G) → (questions : List (Question F)) (f : F) → first_of questions ≡ Some f → first_of (with_answers change questions) ≡ Some (change f)
+unfolding with_answers
 answered_some change [] f some = cc
 answered_some change (Ask true answer ∷ later) f some = let e : answer ≡ f = cc in ap (λ a. Some (change a)) e
 answered_some change (Ask false answer ∷ later) f some = answered_some change later f some
@@ -69,7 +69,7 @@ each_on questions k n below none =
     ∙ ap first_of (each_step questions k (n - (k + 1)))
     ∙ passes (questions k) (each questions (k + 1) (n - (k + 1))) none)
 
--- the same where item k has a fault, which is then the first of all from k on
+-- where item k has a fault, it is the first of all from k on
 pub each_stop : {F : Type 0} (questions : ℕ → List (Question F)) (k n : ℕ) (f : F) → k < n → first_of (questions k) ≡ Some f
     → first_of (each questions k (n - k)) ≡ Some f
 each_stop questions k n f below some =
@@ -97,7 +97,7 @@ pub refuses_front : {F : Type 0} (front rest : List (Question F)) → (stop : St
 refuses_front front rest (Fault f) refuses = stops front rest f refuses
 refuses_front front rest NoMemory refuses = tt
 
--- What answers the first that stands names it, as a sentence about the whole list.
+-- What answers the first that is broken names it, as a sentence about the whole list.
 pub names_first : {X F : Type 0} (questions : List (Question F)) (P : X → Type 0) → (result : Result X (Stop F)) → Answers questions P result → NamesFirst questions result
 names_first questions P (Ok made) answers = tt
 names_first questions P (Err (Fault f)) answers = first_is questions f answers

@@ -8,6 +8,6 @@ pub record IsPiece (bytes : List ℕ) (at n : ℕ) (text : List ℕ) : Type 0 wh
   pub same : take n (drop at bytes) ≡ text
 
 -- the texts joined in order
-abbrev pub joined : List (List ℕ) → List ℕ
-joined [] = []
-joined (text ∷ texts) = text ++ joined texts
+abbrev pub joined_texts : List (List ℕ) → List ℕ
+joined_texts [] = []
+joined_texts (text ∷ texts) = text ++ joined_texts texts

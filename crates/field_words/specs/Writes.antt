@@ -16,10 +16,10 @@ pub record Part : Type 0 where
   pub bytes : List ℕ
 
 -- the parts put one after the other
-abbrev pub placed : List ℕ → List Part → List ℕ
-placed memory [] = memory
-placed memory (part ∷ parts) = placed (with_bytes memory part.place part.bytes) parts
+abbrev pub parts_placed : List ℕ → List Part → List ℕ
+parts_placed memory [] = memory
+parts_placed memory (part ∷ parts) = parts_placed (with_bytes memory part.place part.bytes) parts
 
 -- a memory of a size that is zero but for its parts
-abbrev pub emitted : ℕ → List Part → List ℕ
-emitted size parts = placed (zeros size) parts
+abbrev pub memory_emitted : ℕ → List Part → List ℕ
+memory_emitted size parts = parts_placed (zeros size) parts

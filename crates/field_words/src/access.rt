@@ -27,7 +27,7 @@ pub enum Way {
 }
 
 /// One access of a unit to memory: `len` bytes from the byte address `place` on, on behalf of
-/// the job of this number. A wild access has place 0 and length 0.
+/// the job of this number. An undefined access has place 0 and length 0.
 #[derive(Clone, Copy, Debug, Default, PartialEq, Eq)]
 pub struct Access {
     pub way: Way,

@@ -27,7 +27,7 @@ impl<T: Drop> From<AllocFailed<T>> for NoMemory {
 #[derive(Clone, Copy, Debug, PartialEq, Eq, Error)]
 #[error_bound(F: Display)]
 pub enum Stop<F> {
-    /// A rule stands of the input.
+    /// A rule is broken by the input.
     #[error("{0}")]
     Fault(F),
     /// Memory ran out.

@@ -11,9 +11,9 @@ use Rattle.promises.specs.Holdings.{OfEachJob, plain_of, fixed_of, file_rights, 
 use Rattle.promises.specs.{Sound.ReadInOne, Sound.Sound, Sound.AreSound, MayRun.MayRun, MayRun.AcceptedMayRun}
 use Rattle.accepted_law.specs.Held.{AreFixed}
 use Rattle.job_safety.proofs.Safety.{fixed_upto}
-use Rattle.textured_job.specs.{Job.textured, Job.two_clients, Laws.IsAccepted, Laws.textured_bytes, Laws.two_clients_bytes}
+use Rattle.textured_job.specs.{Job.textured_file, Job.two_clients, Laws.IsAccepted, Laws.textured_bytes, Laws.two_clients_bytes}
 use Rattle.textured_job.proofs.Witness.{is_file, two_are_file, textured_witness, two_clients_witness}
-use Rattle.headline.specs.Numbers.{Span, Numbers, alone, first, second, reached, numbers_of, Misses, intervals, rights, start, fixed, KeepAnywhere, InNumbers}
+use Rattle.headline.specs.Numbers.{Span, Numbers, alone, first, second, spans_reached, numbers_of, Misses, intervals, rights, start, spans_fixed, KeepAnywhere, InNumbers}
 use Rattle.headline.proofs.Stages.{AreOf, alone_is, two_are}
 
 -- an access that keeps to the rights of the job of a number
@@ -38,13 +38,13 @@ said headline bytes f accepted is =
     subst Says (read_again bytes f is).1
     (record { sound = may.sound; fixed = λ j inside. record { lists = may.lists_fixed j inside; code = may.code_fixed j inside } })
 
-sound_in : (f : FileModel) (jobs : List Numbers) (m : List ℕ) → AreOf f jobs → Says f → Agree (intervals (flat_map fixed jobs)) (memory_of f) m
+sound_in : (f : FileModel) (jobs : List Numbers) (m : List ℕ) → AreOf f jobs → Says f → Agree (intervals (flat_map spans_fixed jobs)) (memory_of f) m
     → Sound (map rights jobs) (plain_of f) m (units_start (map start jobs))
 sound_in f jobs m are says agree =
     subst (λ s. Sound (map rights jobs) (plain_of f) m (units_start s)) are.starts
     (subst (λ r. Sound r (plain_of f) m (units_start (file_starts f))) are.rights (says.sound m (subst (λ k. Agree k (memory_of f) m) (sym are.fixed) agree)))
 
-fixed_in : (f : FileModel) (jobs : List Numbers) (p : ℕ) → AreOf f jobs → Says f → Inside (intervals (flat_map fixed jobs)) p 1 → IsOutside (map rights jobs) p
+fixed_in : (f : FileModel) (jobs : List Numbers) (p : ℕ) → AreOf f jobs → Says f → Inside (intervals (flat_map spans_fixed jobs)) p 1 → IsOutside (map rights jobs) p
 unfolding fixed_of
 fixed_in f jobs p are says lies =
     subst (λ r. IsOutside r p) are.rights (fixed_upto f (length f.jobs) p (omega arith) says.fixed (subst (λ k. Inside k p 1) (sym are.fixed) lies))
@@ -72,7 +72,7 @@ misses from upto (span ∷ spans) a (inl before, others) (inl here) = λ p is_fr
 misses from upto (span ∷ spans) a (inr behind, others) (inl here) = λ p is_from is_upto begins ends. omega (arith, behind, here.from, here.upto, is_from, is_upto, begins, ends)
 misses from upto (span ∷ spans) a (clear, others) (inr there) = misses from upto spans a others there
 
-first_clear : AllByRecursion (IsClear 1069056 1085440) (reached first)
+first_clear : AllByRecursion (IsClear 1069056 1085440) (spans_reached first)
 first_clear = (
   inl (omega arith),
   (
@@ -84,7 +84,7 @@ first_clear = (
   ),
 )
 
-second_clear : AllByRecursion (IsClear 1052672 1069056) (reached second)
+second_clear : AllByRecursion (IsClear 1052672 1069056) (spans_reached second)
 second_clear = (
   inl (omega arith),
   (
@@ -105,8 +105,8 @@ clients_miss : (found : List Access) → AllByRecursion (λ a. (a.job < 2) × Is
 clients_miss [] all = tt
 clients_miss (a ∷ found) all = (
   (
-    λ is. misses 1069056 1085440 (reached first) a first_clear (subst (λ j. IsSafeIn (rights (numbers_of both j)) a) is all.0.1).inside,
-    λ is. misses 1052672 1069056 (reached second) a second_clear (subst (λ j. IsSafeIn (rights (numbers_of both j)) a) is all.0.1).inside,
+    λ is. misses 1069056 1085440 (spans_reached first) a first_clear (subst (λ j. IsSafeIn (rights (numbers_of both j)) a) is all.0.1).inside,
+    λ is. misses 1052672 1069056 (spans_reached second) a second_clear (subst (λ j. IsSafeIn (rights (numbers_of both j)) a) is all.0.1).inside,
   ),
   clients_miss found all.1,
 )
@@ -115,7 +115,7 @@ pub all_in_numbers : AcceptedMayRun → InNumbers
 all_in_numbers headline =
     let two : KeepAnywhere two_clients both = keep two_clients both two_are (said headline two_clients_bytes two_clients two_clients_witness.accepted two_are_file) in
     record {
-      one_job = keep textured (alone ∷ []) alone_is (said headline textured_bytes textured textured_witness.accepted is_file);
+      one_job = keep textured_file (alone ∷ []) alone_is (said headline textured_bytes textured_file textured_witness.accepted is_file);
       two_jobs = two;
       clients = λ m agree happenings found t run. clients_miss found ((two m agree).accesses happenings found t run);
     }

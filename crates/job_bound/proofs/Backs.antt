@@ -12,7 +12,7 @@ use Rattle.promises.specs.Finished.{may_wait, waits, job_waits, file_waits}
 use Rattle.promises.specs.Bounded.{loops, shader_named, job_loops, file_loops}
 use Rattle.promises.specs.Steps.{goes_back, has_loop}
 use Rattle.strict_rules.specs.Rules.{waits_at, wait_question, wait_questions}
-use Rattle.job_bound.specs.Back.{branch_question, branches, wait_places, asked, handle_places, job_places, file_places, NoneWithoutLoop, NoneWhereServed}
+use Rattle.job_bound.specs.Back.{branch_question, branches, wait_places, sought_questions, handle_places, job_places, file_places, NoneWithoutLoop, NoneWhereServed}
 use Rattle.job_bound.specs.declared.named.Sought.{Sought}
 use Rattle.job_bound.specs.declared.named.Sought.TheVariants.{LeadsBack, MayWait}
 
@@ -75,7 +75,7 @@ abbrev tested : Sought → Option (List ℕ) → Bool
 tested LeadsBack shader = loops shader
 tested MayWait shader = waits shader
 
-tells : (sought : Sought) → Tells (asked sought) (tested sought)
+tells : (sought : Sought) → Tells (sought_questions sought) (tested sought)
 tells LeadsBack = record { from = back_from; to = back_to }
 tells MayWait = record { from = wait_from; to = wait_to }
 

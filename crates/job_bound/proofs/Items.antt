@@ -3,7 +3,7 @@ use Rattle.std.proofs.Common.{◌≡◌, ℕ, zero, suc, ◌+◌, ◌*◌, ◌<�
 use Rattle.std.proofs.lemmas.List.Sums.{sum_by-cons}
 use Rattle.std.specs.List.{range_with_len, sum_by}
 use Rattle.bin_walks.specs.Walks.{nothing_kept}
-use Rattle.bin_list.specs.{Packets.packets, Packets.passed, Seen.seen_before}
+use Rattle.bin_list.specs.{Packets.packets, Packets.packets_passed, Seen.seen_before}
 use Rattle.job_format.specs.{declared.file.Frame.Frame, Model.FileModel}
 use Rattle.render_list.specs.{Frame.IsTileSet, Surfaces.is_outside_grid, Text.number_where, Text.render_slots}
 use Rattle.job_check.specs.{Emit.memory_of, Shaders.table_of}
@@ -40,7 +40,7 @@ has_grid false grid = refl
 
 grid_there : (f : FileModel) (j : ℕ) → is_some (grid_of f j) ≡ has_bin f j
 unfolding grid_of
-grid_there f j = has_grid (has_bin f j) (grid_from (seen_before (passed (job_of f j).bin)))
+grid_there f j = has_grid (has_bin f j) (grid_from (seen_before (packets_passed (job_of f j).bin)))
 
 pub frame_set : (f : FileModel) (j : ℕ) → IsFaultless f → j < length f.jobs → IsTileSet (job_of f j).frame
 frame_set f j faultless inside = (frame_setup f j (settled f j faultless inside)).tiles

@@ -47,7 +47,7 @@ region_long f fit =
     let blank = zeros_long size in
     length_placed (zeros size) (regions_parts f (length f.jobs)) (subst (λ k. PartsFit k (regions_parts f (length f.jobs))) (sym blank) fit) ∙ blank
 
--- Where the lists of a job lie, and how long its binner list is, as they are told.
+-- Where the lists of a job lie, and how long its binner list is, as they are reported.
 pub layout_is : (f : FileModel) (j : ℕ) (layouts : List Layout) (none : Layout) → layouts ≡ layouts_of f → j < length f.jobs → get_or layouts j none ≡ layout_of f j
 unfolding layouts_of
 layout_is f j layouts none same inside =

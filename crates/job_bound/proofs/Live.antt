@@ -8,7 +8,7 @@ use Rattle.field_words.specs.declared.access.Actor.TheVariants.{Binner as TheBin
 use Rattle.field_words.specs.declared.access.Actor.{Actor}
 use Rattle.bin_list.specs.Packets.{packets}
 use Rattle.machine_plan.specs.Regions.{Inside, Rights, rights_of, IsSafeAccess, HasReadOnly}
-use Rattle.machine_plan.specs.{Choice.word_at, Glance.glanced, Glance.Now, Glance.At}
+use Rattle.machine_plan.specs.{Choice.word_at, Glance.glance_result, Glance.Now, Glance.At}
 use Rattle.machine_plan.proofs.Worlds.{keeps_result}
 use Rattle.list_machine.specs.Binner.{binner_may, binner_ready, binner_plan}
 use Rattle.list_machine.specs.Lists.{Lists, binner_of, renderer_of, binner_ended, renderer_ended}
@@ -63,14 +63,14 @@ quiet_binner : (s : Lists) (work : Option Work) (free : Free) → (nat_lt s.binn
 quiet_binner s None free off on = let parts = or_left (nat_lt s.binner.place s.binner.end) false off in false≢true (sym parts.0 ∙ on)
 quiet_binner s (Some work) free off on = let parts = or_left (nat_lt s.binner.place s.binner.end) true off in false≢true (sym parts.1)
 
-quiet_renderer : (s : Lists) (inside : Option SubList) (m : List ℕ) → (nat_lt s.renderer.place s.renderer.end || is_some inside) ≡ false → glanced (ready_in s inside) m ≡ true → ⊥
+quiet_renderer : (s : Lists) (inside : Option SubList) (m : List ℕ) → (nat_lt s.renderer.place s.renderer.end || is_some inside) ≡ false → glance_result (ready_in s inside) m ≡ true → ⊥
 quiet_renderer s None m off on =
     let parts = or_left (nat_lt s.renderer.place s.renderer.end) false off in
-    false≢true (sym (ap (λ b. glanced (if b then At s.renderer.place 1 (λ head. Now (may_pass s (slice_index head 0))) else Now false) m) parts.0) ∙ on)
+    false≢true (sym (ap (λ b. glance_result (if b then At s.renderer.place 1 (λ head. Now (may_pass s (slice_index head 0))) else Now false) m) parts.0) ∙ on)
 quiet_renderer s (Some sub) m off on = let parts = or_left (nat_lt s.renderer.place s.renderer.end) true off in false≢true (sym parts.1)
 
 -- So a step of a list unit of the job keeps what is known.
-own_binner : (one : Admitted) (j most number : ℕ) (s : Lists) (free : Free) (words m : List ℕ) → Holds m one → OwnKeeps one most s → glanced (binner_ready s free) m ≡ true
+own_binner : (one : Admitted) (j most number : ℕ) (s : Lists) (free : Free) (words m : List ℕ) → Holds m one → OwnKeeps one most s → glance_result (binner_ready s free) m ≡ true
     → Comes (binner_of number) (λ turned. OnlyOwn one j most number turned.lists) (binner_plan s free words) m
 unfolding binner_ready
 own_binner one j most number s free words m here (few, inl quiet) on = absurd (quiet_binner s s.binner.work free quiet.binner on)
@@ -78,7 +78,7 @@ own_binner one j most number s free words m here (few, inr keeps) on =
     weaker (binner_of number) (λ turned. JobKeeps (solo one) (solo_plain one) one.first 1 (λ k. most) 0 turned.lists) (λ turned. OnlyOwn one j most number turned.lists) (λ turned known. λ is. alone one most turned.lists known) (binner_plan s free words) m
     (binner_turned (binner_of number) (solo one) (solo_plain one) one.first 1 (λ k. most) 0 s free words m here keeps on)
 
-own_renderer : (one : Admitted) (j most number : ℕ) (s : Lists) (free : Free) (words m : List ℕ) → Holds m one → OwnKeeps one most s → glanced (renderer_ready s) m ≡ true
+own_renderer : (one : Admitted) (j most number : ℕ) (s : Lists) (free : Free) (words m : List ℕ) → Holds m one → OwnKeeps one most s → glance_result (renderer_ready s) m ≡ true
     → Comes (renderer_of number) (λ turned. OnlyOwn one j most number turned.lists) (renderer_plan s free words) m
 unfolding renderer_ready
 own_renderer one j most number s free words m here (few, inl quiet) on = absurd (quiet_renderer s s.renderer.inside m quiet.renderer on)
@@ -86,13 +86,13 @@ own_renderer one j most number s free words m here (few, inr keeps) on =
     weaker (renderer_of number) (λ turned. JobKeeps (solo one) (solo_plain one) one.first 1 (λ k. most) 0 turned.lists) (λ turned. OnlyOwn one j most number turned.lists) (λ turned known. λ is. alone one most turned.lists known) (renderer_plan s free words) m
     (renderer_turned (renderer_of number) (solo one) (solo_plain one) one.first 1 (λ k. most) 0 s free words m here keeps on)
 
-binner_by : (one : Admitted) (j most number : ℕ) (s : Lists) (free : Free) (words m : List ℕ) (own : Bool) → (number == j) ≡ own → Holds m one → OnlyOwn one j most number s → glanced (binner_ready s free) m ≡ true
+binner_by : (one : Admitted) (j most number : ℕ) (s : Lists) (free : Free) (words m : List ℕ) (own : Bool) → (number == j) ≡ own → Holds m one → OnlyOwn one j most number s → glance_result (binner_ready s free) m ≡ true
     → Comes (binner_of number) (λ turned. OnlyOwn one j most number turned.lists) (binner_plan s free words) m
 binner_by one j most number s free words m true is here known on = own_binner one j most number s free words m here (known (same number j is)) on
 binner_by one j most number s free words m false other here known on =
     all_come (binner_of number) (λ turned. OnlyOwn one j most number turned.lists) (λ turned. λ is. absurd (not_same number j other is)) (binner_plan s free words) m
 
-renderer_by : (one : Admitted) (j most number : ℕ) (s : Lists) (free : Free) (words m : List ℕ) (own : Bool) → (number == j) ≡ own → Holds m one → OnlyOwn one j most number s → glanced (renderer_ready s) m ≡ true
+renderer_by : (one : Admitted) (j most number : ℕ) (s : Lists) (free : Free) (words m : List ℕ) (own : Bool) → (number == j) ≡ own → Holds m one → OnlyOwn one j most number s → glance_result (renderer_ready s) m ≡ true
     → Comes (renderer_of number) (λ turned. OnlyOwn one j most number turned.lists) (renderer_plan s free words) m
 renderer_by one j most number s free words m true is here known on = own_renderer one j most number s free words m here (known (same number j is)) on
 renderer_by one j most number s free words m false other here known on =

@@ -3,7 +3,7 @@ use Rattle.std.proofs.Common.{◌≡◌, ℕ, zero, suc, ◌+◌, ◌-◌, ◌*�
 use Rattle.std.proofs.{lemmas.Bool.or_cases, lemmas.Bool.eqb-true, lemmas.Bool.Decides.nat_tests, lemmas.Grind.common_steps}
 use Rattle.field_words.specs.Words.{u32_at}
 use Rattle.packets.specs.{Opcode.indexed_primitive_list, Opcode.array_primitive_list, Length.bin_length}
-use Rattle.bin_list.specs.Packets.{opcode, front_packet, behind, cut, packets}
+use Rattle.bin_list.specs.Packets.{opcode, front_packet, behind, front_packets, packets}
 use Rattle.bin_list.proofs.Walk.{front_behind, front_some, cut_nothing}
 use Rattle.list_machine.specs.Binner.{work_of, primitive_of}
 use Rattle.ends_law.specs.Left.{IsWhole, AllWhole}
@@ -11,7 +11,7 @@ use Rattle.promises.specs.Steps.{room_in, room_of, draws, programs_left, work_st
 use Rattle.bin_walks.proofs.Walking.{long_indexed}
 
 -- Cutting at most as many packets as there are bytes cuts all.
-cut_same : (n k : ℕ) (bytes : List ℕ) → length bytes ≤ n → length bytes ≤ k → cut n bytes ≡ cut k bytes
+cut_same : (n k : ℕ) (bytes : List ℕ) → length bytes ≤ n → length bytes ≤ k → front_packets n bytes ≡ front_packets k bytes
 cut_same n k [] enough more = cut_nothing n [] refl ∙ sym (cut_nothing k [] refl)
 cut_same zero k (o ∷ body) enough more = absurd (omega (arith, enough))
 cut_same (suc n) zero (o ∷ body) enough more = absurd (omega (arith, more))

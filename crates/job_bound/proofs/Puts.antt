@@ -2,18 +2,18 @@
 use Rattle.std.proofs.Common.{Bool, ◌≡◌, ◌≢◌, ◌≤◌, ◌<◌, ℕ, ◌+◌, ◌%◌, ◌==◌, ◌||◌, true, false, List, [], ◌∷◌, ◌++◌, length, slice_index, Option, Some, None, if◌then◌else◌, refl, sym, ◌∙◌, ap, subst, arith}
 use Rattle.std.proofs.{lemmas.Grind.common_steps, lemmas.Bool.and_parts, lemmas.Bool.Decides.nat_tests, lemmas.List.length-append}
 use Rattle.std.specs.Prelude.{nat_lt, max}
-use Rattle.field_words.specs.Pieces.{joined}
+use Rattle.field_words.specs.Pieces.{joined_texts}
 use Rattle.packets.specs.declared.packet.Packet.TheVariants.{WaitOnSemaphore, BranchToSubList, StoreTileColor, StoreTileColorAndEnd, StoreFullResolution, LoadFullResolution, StoreTileBuffer, LoadTileBuffer, TileRenderingMode, ClearColors, TileCoordinates}
 use Rattle.packets.specs.Opcode.{halt, flush, start_tile_binning, increment_semaphore, indexed_primitive_list, array_primitive_list, gl_shader_state, tile_binning_mode}
 use Rattle.packets.specs.{declared.config.Config.Config, declared.packet.Packet.Packet, Length.bin_length, Length.bin_taken, Config.config_in}
 use Rattle.bin_list.specs.Packets.{opcode}
-use Rattle.machine_plan.specs.{declared.who.Who.Who, declared.launch.Free.Free, Choice.word_at, Glance.glanced, World.mapped}
-use Rattle.machine_plan.specs.{Memory.bytes_at, Memory.stored, Plan.Plan, Plan.Done, Plan.Wilds, Plan.Reads, Plan.Looks, Plan.Writes}
+use Rattle.machine_plan.specs.{declared.who.Who.Who, declared.launch.Free.Free, Choice.word_at, Glance.glance_result, World.plan_mapped}
+use Rattle.machine_plan.specs.{Memory.bytes_at, Memory.bytes_stored, Plan.Plan, Plan.Done, Plan.Wilds, Plan.Reads, Plan.Looks, Plan.Writes}
 use Rattle.machine_plan.proofs.Worlds.{keeps_mapped}
-use Rattle.list_machine.specs.Lists.{Lists, Turned, turned_to, quiet, past, incremented, flushed, with_work, with_block, most_items}
+use Rattle.list_machine.specs.Lists.{Lists, Turned, turned_to, quiet, past, after_increment, after_flush, with_work, with_block, most_items}
 use Rattle.list_machine.specs.Blocks.{tiles_of, has_room, spot_of, item_of, zeros, is_full, block_place, next_place, link_place, put_here, put_plan}
-use Rattle.list_machine.specs.Binner.{configured, with_word, started, clear_plan, begin_plan, work_of, drawn, draw_plan, halted, is_unknown, packet_plan, read_plan, fetched_with, started_with, chosen_tile, tile_plan, item_plan, work_plan, binner_by, binner_plan, item_may, work_may, binner_may, binner_ready}
-use Rattle.list_machine.specs.Renderer.{beyond, enter_plan, tile_by, branch_plan, tile_plan as at_tile_plan, at_tile, act, acted, packet_plan as render_packet_plan, item_at, at_item, fetched, vertex_plan, program_plan, choice_plan, found_plan, plan_in, renderer_plan}
+use Rattle.list_machine.specs.Binner.{config_set, with_word, after_start, clear_plan, begin_plan, work_of, plan_of_draw, draw_plan, after_halt, is_unknown, packet_plan, read_plan, fetched_with, started_with, chosen_tile, tile_plan, item_plan, work_plan, binner_by, binner_plan, item_may, work_may, binner_may, binner_ready}
+use Rattle.list_machine.specs.Renderer.{beyond, enter_plan, tile_by, branch_plan, tile_plan as at_tile_plan, at_tile, act, plan_of_packet, packet_plan as render_packet_plan, item_at, at_item, item_fetched, vertex_plan, program_plan, choice_plan, found_plan, plan_in, renderer_plan}
 use Rattle.list_machine.specs.{declared.state.Found.Found, declared.state.Item.Item, declared.state.SubList.SubList, declared.state.Work.Work}
 use Rattle.list_machine.specs.declared.state.Load.TheVariants.{Full, General}
 use Rattle.list_machine.specs.declared.state.{Program.Program, Program.TheVariants.Coordinate, Program.TheVariants.Fragment, Program.TheVariants.Vertex}
@@ -35,13 +35,13 @@ all_come who P all (Done r) m = all r
 all_come who P all Wilds m = tt
 all_come who P all (Reads p n next) m = (tt, all_come who P all (next (bytes_at m p n)) m)
 all_come who P all (Looks p n next) m = (tt, all_come who P all (next (bytes_at m p n)) m)
-all_come who P all (Writes p bs next) m = (tt, all_come who P all next (stored m p bs))
+all_come who P all (Writes p bs next) m = (tt, all_come who P all next (bytes_stored m p bs))
 
 -- The binner stands at packets that make room for no more items than `most`; so does the configuration that is kept; and there are no more.
 pub record RoomLeft (K : List ℕ → Type 0) (c : Config) (most place end : ℕ) (config : Option Config) (blocks : ℕ) (items : List Item) : Type 0 where
   pub packets : List (List ℕ)
-  pub ends : place + length (joined packets) ≡ end
-  pub stands : (m : List ℕ) → K m → bytes_at m place (length (joined packets)) ≡ joined packets
+  pub ends : place + length (joined_texts packets) ≡ end
+  pub stands : (m : List ℕ) → K m → bytes_at m place (length (joined_texts packets)) ≡ joined_texts packets
   pub whole : AllWhole packets
   pub counted : Counted c blocks items
   pub few : length items ≤ most
@@ -63,8 +63,8 @@ behind K c most place end config after blocks items packet packets left is room 
     let kept = left.kept_room in
     record {
       packets = packets;
-      ends = behind_ends place end packet (joined packets) (subst (λ (ps : List (List ℕ)). place + length (joined ps) ≡ end) is left.ends);
-      stands = λ m here. bytes_behind m place packet (joined packets) (subst (λ (ps : List (List ℕ)). bytes_at m place (length (joined ps)) ≡ joined ps) is (left.stands m here));
+      ends = behind_ends place end packet (joined_texts packets) (subst (λ (ps : List (List ℕ)). place + length (joined_texts ps) ≡ end) is left.ends);
+      stands = λ m here. bytes_behind m place packet (joined_texts packets) (subst (λ (ps : List (List ℕ)). bytes_at m place (length (joined_texts ps)) ≡ joined_texts ps) is (left.stands m here));
       whole = whole.1;
       counted = left.counted;
       few = left.few;
@@ -77,21 +77,21 @@ unfolding bytes_at
 at_end K c most place end config blocks items left =
     record { packets = []; ends = omega arith; stands = λ m here. refl; whole = tt; counted = left.counted; few = left.few; kept_room = left.kept_room; rest_room = omega arith }
 
-drawn_goes : (who : Who) (P : Lists → Type 0) (s : Lists) (packet m : List ℕ) (on : Bool) (kept : Option ℕ) → ((word : ℕ) → P (with_work s (Some (work_of word packet)))) → Comes who P (if on then drawn s kept packet else Wilds) m
+drawn_goes : (who : Who) (P : Lists → Type 0) (s : Lists) (packet m : List ℕ) (on : Bool) (kept : Option ℕ) → ((word : ℕ) → P (with_work s (Some (work_of word packet)))) → Comes who P (if on then plan_of_draw s kept packet else Wilds) m
 drawn_goes who P s packet m false kept draw = tt
 drawn_goes who P s packet m true None draw = tt
 drawn_goes who P s packet m true (Some word) draw = draw word
 
-begin_goes : (who : Who) (P : Lists → Type 0) (s : Lists) (m : List ℕ) (config : Option Config) → P (started s) → Comes who P (begin_plan s config) m
+begin_goes : (who : Who) (P : Lists → Type 0) (s : Lists) (m : List ℕ) (config : Option Config) → P (after_start s) → Comes who P (begin_plan s config) m
 unfolding clear_plan
 begin_goes who P s m None here = tt
 begin_goes who P s m (Some c) here = (tt, here)
 
 -- What a packet says.
 packet_goes : (who : Who) (K : List ℕ → Type 0) (c : Config) (most : ℕ) (s : Lists) (packet m : List ℕ) → JobRoom K c most (past s (length packet))
-    → ((opcode packet == tile_binning_mode) ≡ true → JobRoom K c most (configured (past s (length packet)) packet)) → JobRoom K c most (halted (past s (length packet)))
+    → ((opcode packet == tile_binning_mode) ≡ true → JobRoom K c most (config_set (past s (length packet)) packet)) → JobRoom K c most (after_halt (past s (length packet)))
     → Comes who (JobRoom K c most) (packet_plan (past s (length packet)) packet) m
-unfolding packet_plan configured with_word started halted draw_plan
+unfolding packet_plan config_set with_word after_start after_halt draw_plan
 packet_goes who K c most s packet m left config end =
     let P = λ (k : List ℕ) (next : Lists). JobRoom K c most next in
     let after : Lists = past s (length packet) in
@@ -99,15 +99,15 @@ packet_goes who K c most s packet m left config end =
     let L = AnyLook in
     let G = AnyAccess in
     keeps_if who L G P m (is_unknown o) Wilds (plan_halt after packet) (λ on. tt)
-    (λ known. keeps_if who L G P m (o == halt) (Done (halted after)) (plan_config after packet) (λ on. end)
-    (λ no_halt. keeps_if who L G P m (o == tile_binning_mode) (Done (configured after packet)) (plan_start after packet) (λ on. config on)
+    (λ known. keeps_if who L G P m (o == halt) (Done (after_halt after)) (plan_config after packet) (λ on. end)
+    (λ no_halt. keeps_if who L G P m (o == tile_binning_mode) (Done (config_set after packet)) (plan_start after packet) (λ on. config on)
     (λ no_config. keeps_if who L G P m (o == start_tile_binning) (begin_plan after after.binner.kept.config) (plan_word after packet)
     (λ on. begin_goes who (JobRoom K c most) after m after.binner.kept.config left)
     (λ no_start. keeps_if who L G P m (o == gl_shader_state) (Done (with_word after packet)) (plan_draw after packet) (λ on. left)
     (λ no_word. keeps_if who L G P m (o == indexed_primitive_list || o == array_primitive_list) (draw_plan after packet) (plan_raise after packet)
     (λ on. drawn_goes who (JobRoom K c most) after packet m after.binner.kept.started after.binner.kept.word (λ word. left))
-    (λ no_draw. keeps_if who L G P m (o == increment_semaphore) (Done (incremented after)) (plan_flush after packet) (λ on. left)
-    (λ no_raise. keeps_if who L G P m (o == flush) (Done (flushed after)) (Done after) (λ on. left) (λ off. left))))))))
+    (λ no_draw. keeps_if who L G P m (o == increment_semaphore) (Done (after_increment after)) (plan_flush after packet) (λ on. left)
+    (λ no_raise. keeps_if who L G P m (o == flush) (Done (after_flush after)) (Done after) (λ on. left) (λ off. left))))))))
 
 room_set : (packet : List ℕ) → (opcode packet == tile_binning_mode) ≡ true → room_by (Some (config_in packet)) ≡ room_in packet
 unfolding room_in
@@ -116,16 +116,16 @@ room_set packet on = sym (ap (λ b. if b then items_within (config_in packet) el
 -- The binner reads its next packet.
 read_goes : (who : Who) (K : List ℕ → Type 0) (c : Config) (most : ℕ) (s : Lists) (m : List ℕ) (packets : List (List ℕ)) → K m → (left : JobRoom K c most s) → left.packets ≡ packets → s.binner.place < s.binner.end
     → Comes who (JobRoom K c most) (read_plan s) m
-unfolding halted configured
+unfolding after_halt config_set
 read_goes who K c most s m [] here left is below =
-    absurd (none_left s.binner.place s.binner.end (subst (λ (ps : List (List ℕ)). s.binner.place + length (joined ps) ≡ s.binner.end) is left.ends) below)
+    absurd (none_left s.binner.place s.binner.end (subst (λ (ps : List (List ℕ)). s.binner.place + length (joined_texts ps) ≡ s.binner.end) is left.ends) below)
 read_goes who K c most s m (packet ∷ packets) here left is below =
     let place : ℕ = s.binner.place in
     let end : ℕ = s.binner.end in
     let kept : Option Config = s.binner.kept.config in
     let whole : AllWhole (packet ∷ packets) = subst AllWhole is left.whole in
-    let all : bytes_at m place (length (packet ++ joined packets)) ≡ packet ++ joined packets = subst (λ (ps : List (List ℕ)). bytes_at m place (length (joined ps)) ≡ joined ps) is (left.stands m here) in
-    let bytes : bytes_at m place (length packet) ≡ packet = bytes_front m place packet (joined packets) all in
+    let all : bytes_at m place (length (packet ++ joined_texts packets)) ≡ packet ++ joined_texts packets = subst (λ (ps : List (List ℕ)). bytes_at m place (length (joined_texts ps)) ≡ joined_texts ps) is (left.stands m here) in
+    let bytes : bytes_at m place (length packet) ≡ packet = bytes_front m place packet (joined_texts packets) all in
     let long : length packet ≡ bin_length (opcode packet) = whole.0.whole in
     let known : bin_length (opcode packet) ≢ 0 = whole.0.known in
     let some : 1 ≤ length packet = omega (arith, long, known) in
@@ -178,9 +178,9 @@ work_goes who K c most s k free words m only left ready =
     let P = λ (i : List ℕ) (turned : Turned). TurnedRoom K c most turned in
     let L = AnyLook in
     let G = AnyAccess in
-    let item : Plan Turned = mapped quiet (item_plan s s.binner.kept.config k words) in
-    let fetch : Plan Turned = mapped (fetched_with s k) (fetch_plan k.primitive k.word k.done) in
-    keeps_if who L G P m k.due (mapped (started_with s k) (start_plan Coordinate free k.word)) (if nat_lt k.done k.primitive.length then fetch else item)
+    let item : Plan Turned = plan_mapped quiet (item_plan s s.binner.kept.config k words) in
+    let fetch : Plan Turned = plan_mapped (fetched_with s k) (fetch_plan k.primitive k.word k.done) in
+    keeps_if who L G P m k.due (plan_mapped (started_with s k) (start_plan Coordinate free k.word)) (if nat_lt k.done k.primitive.length then fetch else item)
     (λ due. keeps_mapped (started_with s k) who L G P (start_plan Coordinate free k.word) m (all_come who (λ launch. TurnedRoom K c most (started_with s k launch)) (λ launch. left) (start_plan Coordinate free k.word) m))
     (λ off. keeps_if who L G P m (nat_lt k.done k.primitive.length) fetch item
     (λ more. keeps_mapped (fetched_with s k) who L G P (fetch_plan k.primitive k.word k.done) m (all_come who (λ index. TurnedRoom K c most (fetched_with s k index)) (λ index. left) (fetch_plan k.primitive k.word k.done) m))
@@ -196,7 +196,7 @@ binner_by_goes who K c most s None free words m here only left ready =
 binner_by_goes who K c most s (Some k) free words m here only left ready = work_goes who K c most s k free words m only left ready
 
 -- One step of the binner.
-pub binner_goes : (who : Who) (K : List ℕ → Type 0) (c : Config) (most : ℕ) (s : Lists) (free : Free) (words m : List ℕ) → K m → IsOnly c s.binner.kept.config → JobRoom K c most s → glanced (binner_ready s free) m ≡ true
+pub binner_goes : (who : Who) (K : List ℕ → Type 0) (c : Config) (most : ℕ) (s : Lists) (free : Free) (words m : List ℕ) → K m → IsOnly c s.binner.kept.config → JobRoom K c most s → glance_result (binner_ready s free) m ≡ true
     → Comes who (TurnedRoom K c most) (binner_plan s free words) m
 unfolding binner_plan binner_ready
 binner_goes who K c most s free words m here only left ready = binner_by_goes who K c most s s.binner.work free words m here only left ready
@@ -222,7 +222,7 @@ act_goes who K c most s len words m (TileRenderingMode address width height bits
 act_goes who K c most s len words m (ClearColors first second z stencil) left = left
 act_goes who K c most s len words m (TileCoordinates x y) left = waiting_loaded who (JobRoom K c most) s.renderer.waiting s.renderer.frame x y (at_tile (beyond s len) x y) m left
 
-acted_goes : (who : Who) (K : List ℕ → Type 0) (c : Config) (most : ℕ) (s : Lists) (len : ℕ) (words m : List ℕ) (packet : Option Packet) → JobRoom K c most s → Comes who (JobRoom K c most) (acted (beyond s len) words packet) m
+acted_goes : (who : Who) (K : List ℕ → Type 0) (c : Config) (most : ℕ) (s : Lists) (len : ℕ) (words m : List ℕ) (packet : Option Packet) → JobRoom K c most s → Comes who (JobRoom K c most) (plan_of_packet (beyond s len) words packet) m
 acted_goes who K c most s len words m None left = tt
 acted_goes who K c most s len words m (Some packet) left = act_goes who K c most s len words m packet left
 
@@ -235,7 +235,7 @@ vertex_goes : (who : Who) (K : List ℕ → Type 0) (c : Config) (most : ℕ) (s
 unfolding vertex_plan
 vertex_goes who K c most s item words m left =
     let plan = fetch_plan item.primitive item.word (word_at words 1 % item.primitive.length) in
-    keeps_if who AnyLook AnyAccess (λ k turned. TurnedRoom K c most turned) m (item.primitive.length == 0) (Done (quiet s)) (mapped (fetched s) plan) (λ on. left) (λ off. comes_any who (TurnedRoom K c most) (fetched s) (λ index. left) plan m)
+    keeps_if who AnyLook AnyAccess (λ k turned. TurnedRoom K c most turned) m (item.primitive.length == 0) (Done (quiet s)) (plan_mapped (item_fetched s) plan) (λ on. left) (λ off. comes_any who (TurnedRoom K c most) (item_fetched s) (λ index. left) plan m)
 
 program_goes : (who : Who) (K : List ℕ → Type 0) (c : Config) (most : ℕ) (s : Lists) (program : Program) (free : Free) (item : Item) (m : List ℕ) → JobRoom K c most s → Comes who (TurnedRoom K c most) (program_plan s program free item) m
 unfolding program_plan

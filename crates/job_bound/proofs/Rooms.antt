@@ -5,10 +5,10 @@ use Rattle.std.proofs.lemmas.Bool.Decides.{nat_tests}
 use Rattle.std.specs.Prelude.{is_some, unwrap_or}
 use Rattle.field_words.specs.declared.access.Actor.TheVariants.{Binner as TheBinner, Renderer as TheRenderer, Qpu as TheQpu, Tmu as TheTmu}
 use Rattle.field_words.specs.declared.access.Actor.{Actor}
-use Rattle.field_words.specs.Pieces.{joined as joined_bytes}
+use Rattle.field_words.specs.Pieces.{joined_texts as joined_bytes}
 use Rattle.bin_walks.specs.Walks.{nothing_kept}
 use Rattle.machine_plan.specs.Regions.{Interval, Inside, Rights, rights_of, IsSafeAccess, HasReadOnly}
-use Rattle.machine_plan.specs.{declared.launch.Free.Free, declared.who.Who.Who, Choice.word_at, Glance.glanced, Plan.Plan, World.mapped}
+use Rattle.machine_plan.specs.{declared.launch.Free.Free, declared.who.Who.Who, Choice.word_at, Glance.glance_result, Plan.Plan, World.plan_mapped}
 use Rattle.machine_plan.specs.Others.{Happening, Steps, Changes, AllMayHappen}
 use Rattle.machine_plan.proofs.{Others.Holds, Others.run_holds, Worlds.keeps_result}
 use Rattle.list_machine.specs.Binner.{has_binner_work, binner_ready, binner_plan}
@@ -30,14 +30,14 @@ use Rattle.job_bound.proofs.Puts.{JobRoom, TurnedRoom, all_come, binner_goes, re
 
 -- What is known of each job, by its number, stays known in a step of its list units over this memory.
 pub record ListsKeep (P : ℕ → Lists → Type 0) (m : List ℕ) : Type 0 where
-  pub binner : (j : ℕ) (s : Lists) (free : Free) (words : List ℕ) → P j s → glanced (binner_ready s free) m ≡ true → Comes (binner_of j) (λ turned. P j turned.lists) (binner_plan s free words) m
-  pub renderer : (j : ℕ) (s : Lists) (free : Free) (words : List ℕ) → P j s → glanced (renderer_ready s) m ≡ true → Comes (renderer_of j) (λ turned. P j turned.lists) (renderer_plan s free words) m
+  pub binner : (j : ℕ) (s : Lists) (free : Free) (words : List ℕ) → P j s → glance_result (binner_ready s free) m ≡ true → Comes (binner_of j) (λ turned. P j turned.lists) (binner_plan s free words) m
+  pub renderer : (j : ℕ) (s : Lists) (free : Free) (words : List ℕ) → P j s → glance_result (renderer_ready s) m ≡ true → Comes (renderer_of j) (λ turned. P j turned.lists) (renderer_plan s free words) m
 
 abbrev pub AllKeep : (ℕ → Lists → Type 0) → Units → Type 0
 AllKeep P u = EachAt P 0 u.jobs
 
 -- So it stays known in a step of any unit.
-binner_unit : (P : ℕ → Lists → Type 0) (u : Units) (found : Option (Picked Lists)) (words m : List ℕ) → ListsKeep P m → AllKeep P u → IfSome found (PickedFine P) → IsTrue (glanced (binner_may u found) m)
+binner_unit : (P : ℕ → Lists → Type 0) (u : Units) (found : Option (Picked Lists)) (words m : List ℕ) → ListsKeep P m → AllKeep P u → IfSome found (PickedFine P) → IsTrue (glance_result (binner_may u found) m)
     → Comes (binner_turn u found words).who (AllKeep P) (binner_turn u found words).plan m
 binner_unit P u None words m keep all picked may = absurd (false≢true may)
 binner_unit P u (Some b) words m keep all picked may =
@@ -45,14 +45,14 @@ binner_unit P u (Some b) words m keep all picked may =
     comes_into (binner_of b.number) (with_lists u b.number) (λ turned. P b.number turned.lists) (AllKeep P) (λ turned known. put_each P 0 b.number b.number u.jobs turned.lists (omega arith) known all) (binner_plan b.item free words) m
     (keep.binner b.number b.item free words picked (not_held (is_ahead b.number (renderer_job u)) (binner_ready b.item free) m may))
 
-renderer_unit : (P : ℕ → Lists → Type 0) (u : Units) (found : Option (Picked Lists)) (words m : List ℕ) → ListsKeep P m → AllKeep P u → IfSome found (PickedFine P) → IsTrue (glanced (renderer_may found) m)
+renderer_unit : (P : ℕ → Lists → Type 0) (u : Units) (found : Option (Picked Lists)) (words m : List ℕ) → ListsKeep P m → AllKeep P u → IfSome found (PickedFine P) → IsTrue (glance_result (renderer_may found) m)
     → Comes (renderer_turn u found words).who (AllKeep P) (renderer_turn u found words).plan m
 renderer_unit P u None words m keep all picked may = absurd (false≢true may)
 renderer_unit P u (Some r) words m keep all picked may =
     comes_into (renderer_of r.number) (with_lists u r.number) (λ turned. P r.number turned.lists) (AllKeep P) (λ turned known. put_each P 0 r.number r.number u.jobs turned.lists (omega arith) known all) (renderer_plan r.item (free_in u.qpus) words) m
     (keep.renderer r.number r.item (free_in u.qpus) words picked may)
 
-qpu_unit : (P : ℕ → Lists → Type 0) (u : Units) (who : Who) (k : ℕ) (plan : Plan Qpu) (m : List ℕ) → AllKeep P u → Comes who (AllKeep P) (mapped (with_qpu u k) plan) m
+qpu_unit : (P : ℕ → Lists → Type 0) (u : Units) (who : Who) (k : ℕ) (plan : Plan Qpu) (m : List ℕ) → AllKeep P u → Comes who (AllKeep P) (plan_mapped (with_qpu u k) plan) m
 qpu_unit P u who k plan m all = comes_into who (with_qpu u k) (λ q. Unit {0}) (AllKeep P) (λ q any. all) plan m (all_come who (λ q. Unit {0}) (λ q. tt) plan m)
 
 qpu_by : (P : ℕ → Lists → Type 0) (u : Units) (k : ℕ) (found : Option Qpu) (words m : List ℕ) → AllKeep P u → Comes (qpu_turn u k found words).who (AllKeep P) (qpu_turn u k found words).plan m
@@ -63,7 +63,7 @@ tmu_by : (P : ℕ → Lists → Type 0) (u : Units) (k n : ℕ) (found : Option 
 tmu_by P u k n None words m all = all
 tmu_by P u k n (Some q) words m all = qpu_unit P u (tmu_turn u k n (Some q) words).who k (tmu_plan q n words) m all
 
-pub unit_keeps : (P : ℕ → Lists → Type 0) (u : Units) (unit : Actor) (words m : List ℕ) → ListsKeep P m → AllKeep P u → IsTrue (glanced (unit_ready u unit) m) → Comes (unit_turn u unit words).who (AllKeep P) (unit_turn u unit words).plan m
+pub unit_keeps : (P : ℕ → Lists → Type 0) (u : Units) (unit : Actor) (words m : List ℕ) → ListsKeep P m → AllKeep P u → IsTrue (glance_result (unit_ready u unit) m) → Comes (unit_turn u unit words).who (AllKeep P) (unit_turn u unit words).plan m
 unit_keeps P u TheBinner words m keep all may = binner_unit P u (binner_job u) words m keep all (first_fine P has_binner_work 0 u.jobs all) may
 unit_keeps P u TheRenderer words m keep all may = renderer_unit P u (renderer_job u) words m keep all (first_fine P has_renderer_work 0 u.jobs all) may
 unit_keeps P u (TheQpu k) words m keep all may = qpu_by P u k (processor_at u.qpus k) words m all
@@ -85,7 +85,7 @@ turned_keeps rights plains first count most j s turned keeps fine room = record 
 }
 
 pub binner_turned : (who : Who) (rights : List Rights) (plains : ℕ → List Interval) (first : List ℕ) (count : ℕ) (most : ℕ → ℕ) (j : ℕ) (s : Lists) (free : Free) (words m : List ℕ) → HasReadOnly rights first m
-    → JobKeeps rights plains first count most j s → glanced (binner_ready s free) m ≡ true → Comes who (λ turned. JobKeeps rights plains first count most j turned.lists) (binner_plan s free words) m
+    → JobKeeps rights plains first count most j s → glance_result (binner_ready s free) m ≡ true → Comes who (λ turned. JobKeeps rights plains first count most j turned.lists) (binner_plan s free words) m
 binner_turned who rights plains first count most j s free words m here keeps on =
     let r : Rights = rights_of rights j in
     let K = HasReadOnly rights first in
@@ -97,7 +97,7 @@ binner_turned who rights plains first count most j s free words m here keeps on 
     (binner_goes who K fine.config (most j) s free words m here fine.lists.configs keeps.room on)
 
 pub renderer_turned : (who : Who) (rights : List Rights) (plains : ℕ → List Interval) (first : List ℕ) (count : ℕ) (most : ℕ → ℕ) (j : ℕ) (s : Lists) (free : Free) (words m : List ℕ) → HasReadOnly rights first m
-    → JobKeeps rights plains first count most j s → glanced (renderer_ready s) m ≡ true → Comes who (λ turned. JobKeeps rights plains first count most j turned.lists) (renderer_plan s free words) m
+    → JobKeeps rights plains first count most j s → glance_result (renderer_ready s) m ≡ true → Comes who (λ turned. JobKeeps rights plains first count most j turned.lists) (renderer_plan s free words) m
 renderer_turned who rights plains first count most j s free words m here keeps on =
     let r : Rights = rights_of rights j in
     let K = HasReadOnly rights first in

@@ -7,7 +7,7 @@ use Rattle.packets.specs.declared.packet.Packet.TheVariants.{LoadFullResolution,
 use Rattle.packets.specs.declared.packet.Packet.{Packet}
 use Rattle.render_list.specs.Frame.{place_at, surface_at, is_full, full_place, is_first_tile, is_last_tile, tiles_across, tiles_down, IsTileSet, ArePlacesOf}
 use Rattle.render_list.specs.Text.{number_where, packet_where, idle_store, head_packet, clear_packet, clear_slots, front_slots, load_packet, load_slot, wait_slot, list_place, list_slot, full_store, full_store_slot, zs_store, zs_store_slot, color_store, color_store_slot, is_there, some_before_zs, some_before_color, more_after_multisample_zs, more_after_multisample_color, load_slots, list_slots, write_slots, tile_slots, span_slots, row_slots, all_tile_slots, render_slots}
-use Rattle.promises.specs.Steps.{entered, all_entered, render_steps}
+use Rattle.promises.specs.Steps.{list_entered, all_entered, render_steps}
 use Rattle.job_bound.specs.Frames.{loads_steps, write_steps, writes_steps, frame_loads, frame_writes, tile_steps, frame_steps}
 
 -- All tiles of a set take less than a million steps.
@@ -17,11 +17,11 @@ tiles_limit down across size h k l = grind arith
 -- The steps of the packet of a slot, and the tile's own list that it goes into.
 abbrev slot_steps : Option Packet → ℕ
 slot_steps None = 0
-slot_steps (Some packet) = 1 + length (entered packet)
+slot_steps (Some packet) = 1 + length (list_entered packet)
 
 abbrev pub slot_entered : Option Packet → List ℕ
 slot_entered None = []
-slot_entered (Some packet) = entered packet
+slot_entered (Some packet) = list_entered packet
 
 steps_more : (slot : Option Packet) (slots : List (Option Packet)) → render_steps (slot ∷ slots) ≡ slot_steps slot + render_steps slots
 steps_more None slots = omega arith
@@ -41,11 +41,11 @@ pub record IsQuiet (slot : Option Packet) (test : Bool) : Type 0 where
   pub steps : slot_steps slot ≡ number_where test 1
   pub none : slot_entered slot ≡ []
 
-quiet_where : (test : Bool) (packet : Packet) → entered packet ≡ [] → IsQuiet (packet_where test packet) test
+quiet_where : (test : Bool) (packet : Packet) → list_entered packet ≡ [] → IsQuiet (packet_where test packet) test
 quiet_where true packet none = record { steps = ap (λ l. 1 + length l) none; none = none }
 quiet_where false packet none = record { steps = refl; none = refl }
 
-quiet_some : (packet : Packet) → entered packet ≡ [] → IsQuiet (Some packet) true
+quiet_some : (packet : Packet) → list_entered packet ≡ [] → IsQuiet (Some packet) true
 quiet_some packet none = record { steps = ap (λ l. 1 + length l) none; none = none }
 
 -- the loads
@@ -172,7 +172,7 @@ quiet_writes frame places x y =
     (quiet_more _ (is_there places 1 && three) _ _ (quiet_where (is_there places 1 && three) (TileCoordinates x y) refl)
     (quiet_more _ (is_there places 1) [] 0 (quiet_color frame (place_at places 1) x y) quiet_end)))))))
 
--- The same by the frame, whose surfaces the places are.
+-- Loads by the frame, whose surfaces the places are.
 pub loads_of : (frame : Frame) (places : List (Option ℕ)) (x y : ℕ) → ArePlacesOf frame places → AreQuiet (load_slots frame places x y) (frame_loads frame)
 loads_of frame places x y agree =
     let same : loads_steps (is_there places 0) (is_there places 2) ≡ frame_loads frame = rw (sym (agree 0 (lit< tt)), sym (agree 2 (lit< tt))) refl in
@@ -277,7 +277,7 @@ steps_render frame places grid slot agree set =
 pub entered_two : (front rest : List (Option Packet)) → all_entered (front ++ rest) ≡ all_entered front ++ all_entered rest
 entered_two [] rest = refl
 entered_two (None ∷ front) rest = entered_two front rest
-entered_two (Some packet ∷ front) rest = ap (λ l. entered packet ++ l) (entered_two front rest) ∙ sym (append_assoc (entered packet) (all_entered front) (all_entered rest))
+entered_two (Some packet ∷ front) rest = ap (λ l. list_entered packet ++ l) (entered_two front rest) ∙ sym (append_assoc (list_entered packet) (all_entered front) (all_entered rest))
 
 abbrev pub own_list : Option (ℕ × ℕ) → ℕ → ℕ → ℕ → List ℕ
 own_list None slot x y = []

@@ -20,7 +20,7 @@ writes_steps multisample_color multisample_zs zs color =
     + (write_steps zs (multisample_color || multisample_zs)
     + write_steps color ((multisample_color || multisample_zs) || zs)))
 
--- the same by the surfaces that the frame has
+-- the loads by the surfaces that the frame has
 abbrev pub frame_loads : Frame → ℕ
 frame_loads frame = loads_steps (is_present (surface_at frame 0)) (is_present (surface_at frame 2))
 

@@ -55,7 +55,7 @@ pub fn end_holds()
     ensures { EndHolds }
 {}
 
-/// The same of a job that a driver hands in, whatever other jobs come and go: where its renderer stays at none of its items more than K
+/// The bound of a job that a driver hands in, whatever other jobs come and go: where its renderer stays at none of its items more than K
 /// times, the steps for it are at most the job's share of the first number, and K times the second for each item for which its tile lists
 /// have room.
 pub fn submissions_end_at_items()

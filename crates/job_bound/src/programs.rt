@@ -19,7 +19,7 @@ use shader_flow::{checked, flow};
 use std::alloc::Global;
 
 /// What is kept of the shader in a buffer: the most steps of a program of it, where it doesn't loop, and where in the file its first
-/// branch stands that leads back, and the first instruction that may wait for a request that isn't there. A Plain buffer has no steps
+/// branch stands that leads back, and the first instruction that may wait for a request that isn't there. A data buffer has no steps
 /// and neither place.
 #[derive(Clone, Copy, Debug, PartialEq, Eq)]
 pub struct Program {

@@ -1,6 +1,6 @@
 //! What is printed of the bound.
 ghost use Rattle.std.specs.Prelude.{◌≡◌, IfOk, IsOk};
-ghost use Rattle.field_words.specs.Questions.{Answers, NeverHidesFault, answered};
+ghost use Rattle.field_words.specs.Questions.{Answers, NeverHidesFault, with_answers};
 ghost use Rattle.job_format.specs.Faults.{format_questions};
 ghost use Rattle.job_format.specs.File.{IsFileOf};
 ghost use Rattle.job_format.specs.Reading.{file_at};
@@ -35,15 +35,16 @@ fn line(alloc: Global, bound: &Bound) -> Result<Vec<u8>, NoMemory>
     Ok(line.into_bytes())
 }
 
-/// The bound of the file that these bytes spell. `Ok` comes exactly where no rule stands of them.
+/// The bound of the file that these bytes spell. `Ok` comes exactly where no rule is broken by them.
 ///
 /// # Errors
-/// The first rule that stands, by its letter, its number and its place in the bytes; or want of memory.
+/// The first broken rule, by its letter, its number and its place in the bytes; or want of memory.
 #[tactic(auto, unfolding(job_check::specs::Whole::questions_within))]
 pub fn bound_bytes(alloc: Global, bytes: &[u8]) -> Result<Bound, Stop<Refusal>>
     ensures answers { Answers (all_questions bytes.now)
         (λ bound. bound ≡ bound_in (file_at bytes.now)) result }
-    ensures format { NeverHidesFault (answered format_refused (format_questions bytes.now)) result }
+    ensures format { NeverHidesFault (with_answers format_refused
+        (format_questions bytes.now)) result }
     ensures spelled { IsOk result → IsFileOf bytes.now (file_at bytes.now) }
 {
     match read_parts(alloc, bytes) {
@@ -53,10 +54,10 @@ pub fn bound_bytes(alloc: Global, bytes: &[u8]) -> Result<Bound, Stop<Refusal>>
 }
 
 /// What is printed of the bound of these bytes: `steps N and W a stay` and then `ends` or `may wait at OFFSET`, or `loops at OFFSET` alone.
-/// `Ok` comes exactly where no rule stands of them.
+/// `Ok` comes exactly where no rule is broken by them.
 ///
 /// # Errors
-/// The first rule that stands, by its letter, its number and its place in the bytes; or want of memory.
+/// The first broken rule, by its letter, its number and its place in the bytes; or want of memory.
 #[tactic(auto, unfolding(crate::specs::Bound::bound_text))]
 pub fn bound_text(alloc: Global, bytes: &[u8]) -> Result<Vec<u8>, Stop<Refusal>>
     ensures answers { Answers (all_questions bytes.now)

@@ -86,13 +86,13 @@ shader_count f = length-map-range_with_len (shader_of f) 0 (length f.buffers)
 
 -- What is kept of all shaders is what the layers above ask for.
 pub are_shaders : (f : FileModel) (shaders : List (Option ShaderModel)) → shaders ≡ shaders_of f → AllSound shaders → AreShadersIn f shaders
-are_shaders f shaders told sound =
+are_shaders f shaders report sound =
     record {
-      told = told;
+      report = report;
       sound = record {
-        count = ap length told ∙ shader_count f;
+        count = ap length report ∙ shader_count f;
         code = λ n below.
-            is_code (buffer_at f.buffers n).kind (content_of f n) ∙ sym (ap (λ shaders. not (is_some (shader_in shaders n))) told ∙ ap (λ o. not (is_some o)) (shader_at f n below));
+            is_code (buffer_at f.buffers n).kind (content_of f n) ∙ sym (ap (λ shaders. not (is_some (shader_in shaders n))) report ∙ ap (λ o. not (is_some o)) (shader_at f n below));
         sound = λ n shader is. sound_at shaders n shader sound is;
       };
     }

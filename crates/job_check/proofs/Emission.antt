@@ -1,14 +1,14 @@
 -- Parts put into a memory, and contents that fit it.
 use Rattle.std.proofs.Common.{◌≡◌, ℕ, suc, ◌+◌, ◌<◌, ◌≤◌, List, [], ◌∷◌, ◌++◌, length, get_or, map, refl, sym, ap, subst, arith, ◌∙◌}
 use Rattle.std.proofs.lemmas.List.{get_or_default, length-replicate}
-use Rattle.field_words.specs.Writes.{Part, placed, with_bytes, zeros}
+use Rattle.field_words.specs.Writes.{Part, parts_placed, with_bytes, zeros}
 use Rattle.buffer_table.specs.{declared.buffer.Buffer.Buffer, Table.no_buffer, Table.past_end, Table.buffer_at, Sound.IsSound}
 use Rattle.buffer_table.proofs.Sounds.{sound_buffer}
 use Rattle.job_format.specs.Model.{FileModel}
 use Rattle.job_check.specs.{Shaders.table_of, Emit.ContentsFit}
 
 -- Parts put one after the other: first those in front, then the rest.
-pub placed-append : (memory : List ℕ) (front rest : List Part) → placed memory (front ++ rest) ≡ placed (placed memory front) rest
+pub placed-append : (memory : List ℕ) (front rest : List Part) → parts_placed memory (front ++ rest) ≡ parts_placed (parts_placed memory front) rest
 placed-append memory [] rest = refl
 placed-append memory (part ∷ front) rest = placed-append (with_bytes memory part.place part.bytes) front rest
 
@@ -38,7 +38,7 @@ pub length_zeros : (n : ℕ) → length (zeros n) ≡ n
 unfolding zeros
 length_zeros n = length-replicate n 0
 
--- the same of the memory, buffers and contents that the code holds
+-- contents fit the memory and the buffers that the code holds
 pub fit_at : (f : FileModel) (m : List ℕ) (buffers : List Buffer) (contents : List (List ℕ)) → m ≡ zeros f.mem_size → buffers ≡ f.buffers → contents ≡ f.contents
     → IsSound f.mem_size f.regions f.buffers → map length f.contents ≡ map (λ b. b.content) f.buffers → ContentsFit (length m) buffers contents
 fit_at f m buffers contents a b c sound same =

@@ -21,7 +21,7 @@ pub job_limits : (f : FileModel) (j : ℕ) → AllByRecursion IsJobWellFormed f.
 unfolding job_of
 job_limits f j all below = all_at f.jobs j all below
 
--- the same of the jobs that the code holds
+-- each job that the code holds is well formed
 pub limits_at : (jobs : List JobParts) (k : ℕ) (job : JobParts) → AllByRecursion IsJobWellFormed (map job_parts_view jobs) → k < length jobs → job ≡ get_or jobs k job → IsJobWellFormed (job_parts_view job)
 limits_at [] k job all below read = absurd (omega arith)
 limits_at (first ∷ jobs) zero job all below read = subst (λ x. IsJobWellFormed (job_parts_view x)) (sym read) all.0

@@ -4,10 +4,10 @@ use Rattle.std.proofs.lemmas.Bool.{le-ltb, lt-ltb, cases_lt, false≢true}
 use Rattle.std.specs.Result.{IsErrAnd}
 use Rattle.field_words.specs.{declared.stop.Stop.Stop}
 use Rattle.field_words.specs.Questions.{Question, first_of, Refuses, Answers}
-use Rattle.field_words.proofs.{Questions.stands_none, Nones.front_none}
+use Rattle.field_words.proofs.{Questions.first_none, Nones.front_none}
 use Rattle.job_format.specs.{Model.FileModel, declared.rule.Stage.TheVariants.X}
 use Rattle.relocation.specs.Layout.{region_end}
-use Rattle.job_check.specs.Faults.{refused, layout_stage, table_stage, shaders_stage, jobs_stages, file_stages, stages_within}
+use Rattle.job_check.specs.Faults.{refusal_by, layout_stage, table_stage, shaders_stage, jobs_stages, file_stages, stages_within}
 use Rattle.job_check.specs.{Jobs.layout_of, Region.Under, Offsets.job_offset, Offsets.layout_offset}
 
 -- What leaves by a `?` is the fault that it was.
@@ -18,12 +18,12 @@ exits questions P (Err other) stop is refuses = subst (Refuses questions) (sym i
 -- the lists fit, or they don't
 pub layout_fits : (f : FileModel) (j : ℕ) → (layout_of f j).place + (layout_of f j).end ≤ region_end f.regions → first_of (layout_stage f j) ≡ None
 unfolding layout_stage
-layout_fits f j fits = stands_none (layout_stage f j) (le-ltb (region_end f.regions) ((layout_of f j).place + (layout_of f j).end) fits, tt)
+layout_fits f j fits = first_none (layout_stage f j) (le-ltb (region_end f.regions) ((layout_of f j).place + (layout_of f j).end) fits, tt)
 
-pub layout_stands : (f : FileModel) (j : ℕ) → region_end f.regions < (layout_of f j).place + (layout_of f j).end
-    → first_of (layout_stage f j) ≡ Some (refused X 1 (layout_offset (job_offset f j)))
+pub layout_over : (f : FileModel) (j : ℕ) → region_end f.regions < (layout_of f j).place + (layout_of f j).end
+    → first_of (layout_stage f j) ≡ Some (refusal_by X 1 (layout_offset (job_offset f j)))
 unfolding layout_stage
-layout_stands f j past = rw (lt-ltb (region_end f.regions) ((layout_of f j).place + (layout_of f j).end) past) refl
+layout_over f j past = rw (lt-ltb (region_end f.regions) ((layout_of f j).place + (layout_of f j).end) past) refl
 
 pub is_past : (f : FileModel) (j : ℕ) → ((layout_of f j).place + (layout_of f j).end ≤ region_end f.regions → false ≡ true) → region_end f.regions < (layout_of f j).place + (layout_of f j).end
 is_past f j fits =
@@ -37,14 +37,14 @@ pub if_ok : {X E : Type 0} {P Q : Type 0} (result : Result X E) → (P → Q) �
 if_ok (Ok x) follows h = follows h
 if_ok (Err e) follows h = tt
 
--- what holds where what was told does
-pub under : {X : Type 0} {P : Type 0} (told : Option X) (Holds : X → Type 0) → (IfSome told Holds → P) → Under told Holds P
+-- what holds where what was reported does
+pub under : {X : Type 0} {P : Type 0} (report : Option X) (Holds : X → Type 0) → (IfSome report Holds → P) → Under report Holds P
 under None Holds follows = follows tt
-under (Some told) Holds follows = follows
+under (Some report) Holds follows = follows
 
-pub under_more : {X : Type 0} {P Q : Type 0} (told : Option X) (Holds : X → Type 0) → (P → Q) → Under told Holds P → Under told Holds Q
+pub under_more : {X : Type 0} {P Q : Type 0} (report : Option X) (Holds : X → Type 0) → (P → Q) → Under report Holds P → Under report Holds Q
 under_more None Holds follows p = follows p
-under_more (Some told) Holds follows p = λ holds. follows (p holds)
+under_more (Some report) Holds follows p = λ holds. follows (p holds)
 
 -- what follows of an answer
 pub ok_of : {X F : Type 0} (questions : List (Question F)) (P Q : X → Type 0) (result : Result X (Stop F)) → Answers questions P result → ((made : X) → P made → Q made) → IfOk result Q
@@ -61,7 +61,7 @@ pub if_both : {X E : Type 0} {P Q R : Type 0} (result : Result X E) → (P → Q
 if_both (Ok x) follows p q = follows p q
 if_both (Err e) follows p q = tt
 
--- where no rule of a file stands, none of its memory table does
+-- where no rule of a file is broken, none of its memory table is
 pub table_none : (f : FileModel) → first_of (file_stages f) ≡ None → first_of (table_stage f) ≡ None
 unfolding stages_within
 table_none f none = front_none (table_stage f) (shaders_stage f ++ jobs_stages f) none

@@ -1,9 +1,9 @@
--- The check of the jobs, one after the other: what stands once no rule of the first n does.
+-- The check of the jobs, one after the other: what is known once no rule of the first n is broken.
 use Rattle.std.proofs.Common.{◌≡◌, ℕ, suc, ◌+◌, ◌-◌, ◌<◌, ◌≤◌, List, [], ◌∷◌, ◌++◌, length, map, None, refl, sym, ap, subst, arith, ◌∙◌, zero-add}
 use Rattle.std.proofs.lemmas.List.{length-append, FromFn.map-range_with_len_more}
 use Rattle.std.specs.List.{AllByRecursion, range_with_len}
 use Rattle.field_words.specs.{declared.stop.Stop.Stop, declared.stop.Stop.TheVariants.Fault, declared.stop.Stop.TheVariants.NoMemory}
-use Rattle.field_words.specs.{Questions.first_of, Questions.each, Questions.Refuses, Writes.placed, Writes.emitted, Writes.zeros}
+use Rattle.field_words.specs.{Questions.first_of, Questions.each, Questions.Refuses, Writes.parts_placed, Writes.memory_emitted, Writes.zeros}
 use Rattle.field_words.proofs.Questions.{each_on, each_stop, each_end}
 use Rattle.buffer_table.specs.Sound.{IsSound}
 use Rattle.job_format.specs.{declared.rule.Refusal.Refusal, Model.FileModel}
@@ -15,7 +15,7 @@ use Rattle.job_check.specs.Jobs.{lists_room, lists_begin, layout_of, layouts_of}
 use Rattle.job_check.proofs.Regions.{emitted_grown, fit_more, fit_moved, fit_append, size_more, size_before, from_is}
 use Rattle.job_check.proofs.{Emission.placed-append, Layouts.layout_order, Layouts.next_inside}
 
--- Whatever is told of the shaders: where the lists of the first n jobs lie, and how many bytes of the region they take.
+-- Whatever is reported of the shaders: where the lists of the first n jobs lie, and how many bytes of the region they take.
 pub record Laid (f : FileModel) (n : ℕ) (bytes : List ℕ) (layouts : List Layout) (lengths : List Lengths) (place : ℕ) : Type 0 where
   pub size : length bytes ≡ region_size f n
   pub room : f.regions.lists_place + region_size f n ≤ region_end f.regions
@@ -28,7 +28,7 @@ pub record Laid (f : FileModel) (n : ℕ) (bytes : List ℕ) (layouts : List Lay
 -- And where that is true.
 pub record SoFar (f : FileModel) (n : ℕ) (bytes : List ℕ) (lengths : List Lengths) : Type 0 where
   pub asked : first_of (each (job_stages f) n (length f.jobs - n)) ≡ first_of (each (job_stages f) 0 (length f.jobs))
-  pub bytes_are : bytes ≡ emitted (region_size f n) (regions_parts f n)
+  pub bytes_are : bytes ≡ memory_emitted (region_size f n) (regions_parts f n)
   pub fit : PartsFit (region_size f n) (regions_parts f n)
   pub lengths_are : lengths ≡ map (lengths_of f) (range_with_len 0 n)
 
@@ -69,18 +69,18 @@ more_fit f n before here =
     (fit_more (region_size f n) (region_size f (n + 1)) (regions_parts f n) (omega (arith, size, size_before f n)) before)
     (fit_moved (region_from f n) (layout_of f n).end (region_size f (n + 1)) (list_parts f n) (omega (arith, size)) here))
 
-more_bytes : (f : FileModel) (n : ℕ) (bytes after : List ℕ) → bytes ≡ emitted (region_size f n) (regions_parts f n) → length bytes ≡ region_size f n → PartsFit (region_size f n) (regions_parts f n)
-    → after ≡ placed (bytes ++ zeros (region_size f (n + 1) - length bytes)) (region_parts f n)
-    → after ≡ emitted (region_size f (n + 1)) (regions_parts f (n + 1))
+more_bytes : (f : FileModel) (n : ℕ) (bytes after : List ℕ) → bytes ≡ memory_emitted (region_size f n) (regions_parts f n) → length bytes ≡ region_size f n → PartsFit (region_size f n) (regions_parts f n)
+    → after ≡ parts_placed (bytes ++ zeros (region_size f (n + 1) - length bytes)) (region_parts f n)
+    → after ≡ memory_emitted (region_size f (n + 1)) (regions_parts f (n + 1))
 more_bytes f n bytes after is size fit put =
     let a = region_size f n in
     let b = region_size f (n + 1) in
     put
-    ∙ ap (λ k. placed (bytes ++ zeros (b - k)) (region_parts f n)) size
-    ∙ ap (λ m. placed (m ++ zeros (b - a)) (region_parts f n)) is
-    ∙ ap (λ m. placed m (region_parts f n)) (emitted_grown a b (regions_parts f n) (omega (arith, more_size f n, size_before f n)) fit)
+    ∙ ap (λ k. parts_placed (bytes ++ zeros (b - k)) (region_parts f n)) size
+    ∙ ap (λ m. parts_placed (m ++ zeros (b - a)) (region_parts f n)) is
+    ∙ ap (λ m. parts_placed m (region_parts f n)) (emitted_grown a b (regions_parts f n) (omega (arith, more_size f n, size_before f n)) fit)
     ∙ sym (placed-append (zeros b) (regions_parts f n) (region_parts f n))
-    ∙ ap (emitted b) (sym (more_parts f n))
+    ∙ ap (memory_emitted b) (sym (more_parts f n))
 
 pub next_laid : (f : FileModel) (n : ℕ) (bytes after : List ℕ) (layouts : List Layout) (lengths : List Lengths) (place begin : ℕ) (layout : Layout) (long : Lengths)
     → Laid f n bytes layouts lengths place → IsSound f.mem_size f.regions f.buffers → layout ≡ layout_of f n → length after ≡ region_size f (n + 1)
@@ -103,7 +103,7 @@ next_laid f n bytes after layouts lengths place begin layout long laid sound is 
 
 pub next : (f : FileModel) (n : ℕ) (bytes after : List ℕ) (lengths : List Lengths) (long : Lengths)
     → SoFar f n bytes lengths → length bytes ≡ region_size f n → n < length f.jobs → first_of (job_stages f n) ≡ None → long ≡ lengths_of f n
-    → after ≡ placed (bytes ++ zeros (region_size f (n + 1) - length bytes)) (region_parts f n) → PartsFit (layout_of f n).end (list_parts f n)
+    → after ≡ parts_placed (bytes ++ zeros (region_size f (n + 1) - length bytes)) (region_parts f n) → PartsFit (layout_of f n).end (list_parts f n)
     → SoFar f (n + 1) after (lengths ++ (long ∷ []))
 next f n bytes after lengths long so_far size below passes is put fit = record {
   asked = each_on (job_stages f) n (length f.jobs) below passes ∙ so_far.asked;
@@ -120,13 +120,13 @@ pub wider : (a b : ℕ) (layouts : List Layout) → a ≤ b → AllByRecursion (
 wider a b [] below all = tt
 wider a b (layout ∷ layouts) below all = (record { inside = omega (arith, below, all.0.inside); order = all.0.order }, wider a b layouts below all.1)
 
--- a rule of job n stands
+-- a rule of job n is broken
 pub refused : (f : FileModel) (n : ℕ) (bytes : List ℕ) (lengths : List Lengths) (stop : Stop Refusal) → SoFar f n bytes lengths → n < length f.jobs
     → Refuses (job_stages f n) stop → Refuses (each (job_stages f) 0 (length f.jobs)) stop
 refused f n bytes lengths (Fault refusal) so_far below refuses = sym so_far.asked ∙ each_stop (job_stages f) n (length f.jobs) refusal below refuses
 refused f n bytes lengths NoMemory so_far below refuses = tt
 
--- All have passed: their lists are laid, and where what is told of the shaders is true, no rule stands of any, and the bytes are the region.
+-- All have passed: their lists are laid, and where what is reported of the shaders is true, no rule is broken by any, and the bytes are the region.
 pub all_laid : (f : FileModel) (n : ℕ) (place : ℕ) (region : Region) → Laid f n region.bytes.items region.layouts.items region.lengths.items place → n ≡ length f.jobs → IsLaid f region
 unfolding layouts_of
 all_laid f n place region laid end = record {
@@ -140,7 +140,7 @@ pub all : (f : FileModel) (n : ℕ) (place : ℕ) (region : Region) → Laid f n
     → SoFar f n region.bytes.items region.lengths.items → n ≡ length f.jobs → (first_of (each (job_stages f) 0 (length f.jobs)) ≡ None) × IsRegion f region
 unfolding layouts_of all_lengths_of region_of
 all f n place region laid so_far end =
-    let bytes_are = so_far.bytes_are ∙ ap (λ k. emitted (region_size f k) (regions_parts f k)) end in
+    let bytes_are = so_far.bytes_are ∙ ap (λ k. memory_emitted (region_size f k) (regions_parts f k)) end in
     let long : length (region_of f) ≡ region_size f n = sym (ap length bytes_are) ∙ laid.size in (
       sym so_far.asked ∙ each_end (job_stages f) n (length f.jobs) (omega (arith, end)),
       record {

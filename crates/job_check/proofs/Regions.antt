@@ -2,7 +2,7 @@
 use Rattle.std.proofs.Common.{◌≡◌, ℕ, zero, suc, ◌+◌, ◌-◌, ◌<◌, ◌≤◌, List, [], ◌∷◌, ◌++◌, length, get_or, map, take, drop, ◌⊎◌, inl, inr, refl, sym, ap, subst, arith, ◌∙◌}
 use Rattle.std.proofs.lemmas.Grind.{common_steps}
 use Rattle.std.proofs.lemmas.List.{places, same_lists, length-map, length-append}
-use Rattle.field_words.specs.Writes.{Part, placed, with_bytes, zeros, emitted}
+use Rattle.field_words.specs.Writes.{Part, parts_placed, with_bytes, zeros, memory_emitted}
 use Rattle.field_words.proofs.Writes.{length-with_bytes}
 use Rattle.phys_mem.specs.Window.{window_of, with_window}
 use Rattle.buffer_table.specs.{declared.buffer.Buffer.Buffer, declared.item.Item.Item, Sound.IsSound, Sound.AreApart}
@@ -10,7 +10,7 @@ use Rattle.buffer_table.specs.Table.{no_buffer, item_at, items_of, buffer_item}
 use Rattle.buffer_table.proofs.Sounds.{item_of_entry}
 use Rattle.job_format.specs.Model.{FileModel}
 use Rattle.relocation.specs.Layout.{region_end}
-use Rattle.job_check.specs.Emit.{PartsFit, moved, list_parts, memory_parts, jobs_parts, memory_of, content_parts}
+use Rattle.job_check.specs.Emit.{PartsFit, parts_moved, list_parts, memory_parts, jobs_parts, memory_of, content_parts}
 use Rattle.job_check.specs.Jobs.{lists_begin, layout_of, lists_room}
 use Rattle.job_check.specs.Region.{region_size, region_from, region_parts, regions_parts, region_of}
 use Rattle.job_check.proofs.{Emission.placed-append, Layouts.begin_from, Layouts.next_begins, Layouts.lists_inside}
@@ -21,12 +21,12 @@ use Rattle.phys_mem.proofs.Parts.{window_long}
 write_grown : (m behind : List ℕ) (at : ℕ) (bytes : List ℕ) → at + length bytes ≤ length m → with_bytes (m ++ behind) at bytes ≡ with_bytes m at bytes ++ behind
 write_grown m behind at bytes fits = same_lists _ _ (grind (arith, places)) (λ k d h. grind (arith, places))
 
-pub placed_grown : (m behind : List ℕ) (parts : List Part) → PartsFit (length m) parts → placed (m ++ behind) parts ≡ placed m parts ++ behind
+pub placed_grown : (m behind : List ℕ) (parts : List Part) → PartsFit (length m) parts → parts_placed (m ++ behind) parts ≡ parts_placed m parts ++ behind
 placed_grown m behind [] fit = refl
 placed_grown m behind (part ∷ parts) fit =
     let after : List ℕ = with_bytes m part.place part.bytes in
     let same : length after ≡ length m = length-with_bytes m part.place part.bytes fit.0 in
-    ap (λ x. placed x parts) (write_grown m behind part.place part.bytes fit.0)
+    ap (λ x. parts_placed x parts) (write_grown m behind part.place part.bytes fit.0)
     ∙ placed_grown after behind parts (subst (λ n. PartsFit n parts) (sym same) fit.1)
 
 pub zeros_grown : (a b : ℕ) → a ≤ b → zeros a ++ zeros (b - a) ≡ zeros b
@@ -37,17 +37,17 @@ pub zeros_long : (n : ℕ) → length (zeros n) ≡ n
 unfolding zeros
 zeros_long n = grind (arith, places)
 
-pub emitted_grown : (a b : ℕ) (parts : List Part) → a ≤ b → PartsFit a parts → emitted a parts ++ zeros (b - a) ≡ emitted b parts
+pub emitted_grown : (a b : ℕ) (parts : List Part) → a ≤ b → PartsFit a parts → memory_emitted a parts ++ zeros (b - a) ≡ memory_emitted b parts
 emitted_grown a b parts below fit =
     sym (placed_grown (zeros a) (zeros (b - a)) parts (subst (λ n. PartsFit n parts) (sym (zeros_long a)) fit))
-    ∙ ap (λ z. placed z parts) (zeros_grown a b below)
+    ∙ ap (λ z. parts_placed z parts) (zeros_grown a b below)
 
 -- parts that fit
 pub fit_more : (a b : ℕ) (parts : List Part) → a ≤ b → PartsFit a parts → PartsFit b parts
 fit_more a b [] below fit = tt
 fit_more a b (part ∷ parts) below fit = (omega (arith, below, fit.0), fit_more a b parts below fit.1)
 
-pub fit_moved : (by len size : ℕ) (parts : List Part) → by + len ≤ size → PartsFit len parts → PartsFit size (moved by parts)
+pub fit_moved : (by len size : ℕ) (parts : List Part) → by + len ≤ size → PartsFit len parts → PartsFit size (parts_moved by parts)
 fit_moved by len size [] room fit = tt
 fit_moved by len size (part ∷ parts) room fit = (omega (arith, room, fit.0), fit_moved by len size parts room fit.1)
 
@@ -56,15 +56,15 @@ fit_append size [] rest a b = b
 fit_append size (part ∷ front) rest a b = (a.0, fit_append size front rest a.1 b)
 
 -- parts that are moved
-moved_append : (by : ℕ) (front rest : List Part) → moved by (front ++ rest) ≡ moved by front ++ moved by rest
+moved_append : (by : ℕ) (front rest : List Part) → parts_moved by (front ++ rest) ≡ parts_moved by front ++ parts_moved by rest
 moved_append by [] rest = refl
 moved_append by (part ∷ front) rest = ap (λ parts. record { place = by + part.place; bytes = part.bytes } ∷ parts) (moved_append by front rest)
 
-moved_twice : (a b : ℕ) (parts : List Part) → moved a (moved b parts) ≡ moved (a + b) parts
+moved_twice : (a b : ℕ) (parts : List Part) → parts_moved a (parts_moved b parts) ≡ parts_moved (a + b) parts
 moved_twice a b [] = refl
 moved_twice a b (part ∷ parts) =
     let one : a + (b + part.place) ≡ a + b + part.place = omega arith in
-    ap (λ k. record { place = k; bytes = part.bytes } ∷ moved a (moved b parts)) one
+    ap (λ k. record { place = k; bytes = part.bytes } ∷ parts_moved a (parts_moved b parts)) one
     ∙ ap (λ ps. record { place = a + b + part.place; bytes = part.bytes } ∷ ps) (moved_twice a b parts)
 
 -- the lists of a job, in the region and in the memory
@@ -72,16 +72,16 @@ pub from_is : (f : FileModel) (j : ℕ) → f.regions.lists_place + region_from 
 unfolding layout_of
 from_is f j = omega (arith, begin_from f j)
 
-region_moved : (f : FileModel) (j : ℕ) → moved f.regions.lists_place (region_parts f j) ≡ memory_parts f j
+region_moved : (f : FileModel) (j : ℕ) → parts_moved f.regions.lists_place (region_parts f j) ≡ memory_parts f j
 unfolding region_parts memory_parts
-region_moved f j = moved_twice f.regions.lists_place (region_from f j) (list_parts f j) ∙ ap (λ k. moved k (list_parts f j)) (from_is f j)
+region_moved f j = moved_twice f.regions.lists_place (region_from f j) (list_parts f j) ∙ ap (λ k. parts_moved k (list_parts f j)) (from_is f j)
 
-pub regions_moved : (f : FileModel) (n : ℕ) → moved f.regions.lists_place (regions_parts f n) ≡ jobs_parts f n
+pub regions_moved : (f : FileModel) (n : ℕ) → parts_moved f.regions.lists_place (regions_parts f n) ≡ jobs_parts f n
 unfolding regions_parts jobs_parts
 regions_moved f zero = refl
 regions_moved f (suc n) =
     moved_append f.regions.lists_place (regions_parts f n) (region_parts f n)
-    ∙ ap (λ parts. parts ++ moved f.regions.lists_place (region_parts f n)) (regions_moved f n)
+    ∙ ap (λ parts. parts ++ parts_moved f.regions.lists_place (region_parts f n)) (regions_moved f n)
     ∙ ap (λ parts. jobs_parts f n ++ parts) (region_moved f n)
 
 -- Each job's lists lie behind those before.
@@ -110,12 +110,12 @@ rest_joined : (m : List ℕ) (from len : ℕ) (inside : List ℕ) → from + len
 rest_joined m from len inside whole long = grind (arith, common_steps)
 
 pub rest_placed : (m : List ℕ) (from len : ℕ) (parts : List Part) → from + len ≡ length m → PartsFit len parts
-    → take from m ++ (placed (window_of m from len) parts ++ drop len (drop from m)) ≡ placed m (moved from parts)
+    → take from m ++ (parts_placed (window_of m from len) parts ++ drop len (drop from m)) ≡ parts_placed m (parts_moved from parts)
 rest_placed m from len parts whole fit =
     let fits : from + len ≤ length m = omega (arith, whole) in
     let wide = window_long m from len fits in
     let long = length_placed (window_of m from len) parts (subst (λ n. PartsFit n parts) (sym wide) fit) ∙ wide in
-    rest_joined m from len (placed (window_of m from len) parts) whole long ∙ window_placed m from len parts fits fit
+    rest_joined m from len (parts_placed (window_of m from len) parts) whole long ∙ window_placed m from len parts fits fit
 
 -- what a list of the same length leaves of another
 pub kept : (n : ℕ) (new old : List ℕ) → n ≡ length old → length new ≡ length old → take n (new ++ drop (length new) old) ≡ new
@@ -132,7 +132,7 @@ write_outside m place len at bytes inside fits (inl before) = same_lists _ _ (gr
 write_outside m place len at bytes inside fits (inr behind) = same_lists _ _ (grind (arith, places)) (λ k d h. grind (arith, places))
 
 placed_outside : (m : List ℕ) (place len : ℕ) (parts : List Part) → place + len ≤ length m → AllOutside (length m) place len parts
-    → window_of (placed m parts) place len ≡ window_of m place len
+    → window_of (parts_placed m parts) place len ≡ window_of m place len
 placed_outside m place len [] inside out = refl
 placed_outside m place len (part ∷ parts) inside out =
     let after : List ℕ = with_bytes m part.place part.bytes in
@@ -188,7 +188,7 @@ region_long f fit =
     length_placed (zeros size) (regions_parts f (length f.jobs)) (subst (λ k. PartsFit k (regions_parts f (length f.jobs))) (sym blank) fit) ∙ blank
 
 -- The contents, and the region written once: the memory of the file.
-pub memory_made : (f : FileModel) (fresh : List ℕ) → fresh ≡ emitted f.mem_size (content_parts f.buffers f.contents) → length fresh ≡ f.mem_size
+pub memory_made : (f : FileModel) (fresh : List ℕ) → fresh ≡ memory_emitted f.mem_size (content_parts f.buffers f.contents) → length fresh ≡ f.mem_size
     → IsSound f.mem_size f.regions f.buffers → map length f.contents ≡ map (λ b. b.content) f.buffers
     → f.regions.lists_place + length (region_of f) ≤ region_end f.regions → PartsFit (region_size f (length f.jobs)) (regions_parts f (length f.jobs))
     → with_bytes fresh f.regions.lists_place (region_of f) ≡ memory_of f
@@ -206,9 +206,9 @@ memory_made f fresh is long sound same fits parts_fit =
     ap (λ m. window_of m place len) is
     ∙ placed_outside (zeros f.mem_size) place len contents (omega (arith, inside, zero_size)) (subst (λ k. AllOutside k place len contents) (sym zero_size) out)
     ∙ window_zeros f.mem_size place len inside in
-    write_window fresh place (emitted len (regions_parts f n)) (omega (arith, inside, size, long))
-    ∙ ap (λ w. with_window fresh place (placed w (regions_parts f n))) (sym blank)
+    write_window fresh place (memory_emitted len (regions_parts f n)) (omega (arith, inside, size, long))
+    ∙ ap (λ w. with_window fresh place (parts_placed w (regions_parts f n))) (sym blank)
     ∙ window_placed fresh place len (regions_parts f n) (omega (arith, inside, long)) parts_fit
-    ∙ ap (placed fresh) (regions_moved f n)
-    ∙ ap (λ m. placed m (jobs_parts f n)) is
+    ∙ ap (parts_placed fresh) (regions_moved f n)
+    ∙ ap (λ m. parts_placed m (jobs_parts f n)) is
     ∙ sym (placed-append (zeros f.mem_size) contents (jobs_parts f n))

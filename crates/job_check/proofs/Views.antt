@@ -2,8 +2,8 @@
 use Rattle.std.proofs.Common.{◌≡◌, ℕ, ◌+◌, ◌≤◌, Bool, true, false, List, [], ◌++◌, length, take, drop, is_some, Some, None, Option, refl, sym, ap, arith, add-zero, ◌∙◌}
 use Rattle.std.proofs.lemmas.List.{take-append-drop}
 use Rattle.std.specs.Prelude.{if◌then◌else◌}
-use Rattle.field_words.specs.{Writes.placed, Writes.with_bytes}
-use Rattle.field_words.specs.Questions.{first_of, answered}
+use Rattle.field_words.specs.{Writes.parts_placed, Writes.with_bytes}
+use Rattle.field_words.specs.Questions.{first_of, with_answers}
 use Rattle.field_words.proofs.Questions.{answered_none, answered_some}
 use Rattle.buffer_table.specs.Table.{TableModel}
 use Rattle.job_format.specs.{declared.file.Frame.Frame, Model.FileModel, Model.JobModel}
@@ -11,14 +11,14 @@ use Rattle.relocation.specs.{declared.layout.Layout.Layout, declared.layout.Leng
 use Rattle.render_list.specs.{Frame.IsTileSet, Frame.IsSetupFor, Length.render_length, Text.render_text}
 use Rattle.render_list.proofs.Length.{length_render}
 use Rattle.bin_list.specs.{declared.info.BinInfo.BinInfo, declared.state.State.State, Seen.seen_before}
-use Rattle.bin_list.specs.{Packets.packets, Packets.passed, States.states_of, Emitted.bin_text, Info.IsInfo, Rules.bin_questions}
+use Rattle.bin_list.specs.{Packets.packets, Packets.packets_passed, States.states_of, Emitted.bin_text, Info.IsInfo, Rules.bin_questions}
 use Rattle.qpu_isa.specs.Shader.{ShaderModel}
 use Rattle.shader_records.specs.{declared.fault.RecordFault.RecordFault, Inputs.InputModel, Rules.all_questions, Emitted.streams_place}
 use Rattle.shader_records.specs.Emission.{emitted_records, emitted_uniforms}
 use Rattle.shader_records.proofs.Lengths.{length_records, length_uniforms, offset_le, stream_le, record_end, uniform_end}
 use Rattle.job_check.specs.Jobs.{job_of, has_bin, grid_from, grid_of, slot_of, places_in, render_list_of, layout_of, states_in, input_for, bin_list_of, records_of, streams_of}
 use Rattle.job_check.specs.Faults.{bin_refused, bin_stage, record_refused, records_stage, surfaces_stage, lists_stages}
-use Rattle.job_check.specs.{Shaders.table_of, Context.InView, Context.IsContext, Context.IsTold, Told.IsBinOf}
+use Rattle.job_check.specs.{Shaders.table_of, Context.InView, Context.IsContext, Context.IsReported, Report.IsBinOf}
 use Rattle.job_check.specs.Emit.{PartsFit, list_parts, later_parts, lengths_of}
 use Rattle.job_check.proofs.{Layouts.room_is, Layouts.layout_numbers, Layouts.layout_apart}
 
@@ -65,7 +65,7 @@ list_length f j places same setup =
     let room = room_is (job_of f j).frame (has_bin f j) setup.tiles in
     omega (arith, text, ap (render_length (job_of f j).frame) (grid_some f j), room, apart.last)
 
--- what the check of a binner list tells is what is told of the job's
+-- what the check of a binner list tells is what is reported of the job's
 bin_questions_are : (v : InView) (job : JobModel) (table : TableModel) (shaders : List (Option ShaderModel)) (handles : List ℕ) (layout : Layout) → IsContext v job table shaders handles layout
     → bin_questions job.bin job.declared table handles ≡ bin_questions (job_of v.file v.number).bin (job_of v.file v.number).declared (table_of v.file) (job_of v.file v.number).handles
 bin_questions_are v job table shaders handles layout h =
@@ -74,9 +74,9 @@ bin_questions_are v job table shaders handles layout h =
     ∙ ap (λ x. bin_questions x.bin x.declared (table_of v.file) x.handles) h.job_is
 
 bin_stage_is : (f : FileModel) (j : ℕ) → has_bin f j ≡ true
-    → bin_stage f j ≡ answered (bin_refused f j) (bin_questions (job_of f j).bin (job_of f j).declared (table_of f) (job_of f j).handles)
+    → bin_stage f j ≡ with_answers (bin_refused f j) (bin_questions (job_of f j).bin (job_of f j).declared (table_of f) (job_of f j).handles)
 unfolding bin_stage
-bin_stage_is f j some = ap (λ b. if b then answered (bin_refused f j) (bin_questions (job_of f j).bin (job_of f j).declared (table_of f) (job_of f j).handles) else []) some
+bin_stage_is f j some = ap (λ b. if b then with_answers (bin_refused f j) (bin_questions (job_of f j).bin (job_of f j).declared (table_of f) (job_of f j).handles) else []) some
 
 pub bin_none : (v : InView) (job : JobModel) (table : TableModel) (shaders : List (Option ShaderModel)) (handles : List ℕ) (layout : Layout) → IsContext v job table shaders handles layout
     → has_bin v.file v.number ≡ true → first_of (bin_questions job.bin job.declared table handles) ≡ None → first_of (bin_stage v.file v.number) ≡ None
@@ -95,49 +95,49 @@ bin_text_is v job table shaders handles layout h some =
     ∙ ap (bin_text (job_of v.file v.number).bin (job_of v.file v.number).declared (table_of v.file) (job_of v.file v.number).handles) h.layout_is
     ∙ sym (ap (λ b. if b then bin_text (job_of v.file v.number).bin (job_of v.file v.number).declared (table_of v.file) (job_of v.file v.number).handles (layout_of v.file v.number) else []) some)
 
-grid_is : (f : FileModel) (j : ℕ) → has_bin f j ≡ true → Some (grid_from (seen_before (passed (job_of f j).bin))) ≡ grid_of f j
+grid_is : (f : FileModel) (j : ℕ) → has_bin f j ≡ true → Some (grid_from (seen_before (packets_passed (job_of f j).bin))) ≡ grid_of f j
 unfolding grid_of
-grid_is f j some = sym (ap (λ b. if b then Some (grid_from (seen_before (passed (job_of f j).bin))) else None) some)
+grid_is f j some = sym (ap (λ b. if b then Some (grid_from (seen_before (packets_passed (job_of f j).bin))) else None) some)
 
-pub bin_told : (v : InView) (job : JobModel) (table : TableModel) (shaders : List (Option ShaderModel)) (handles : List ℕ) (layout : Layout) (info : BinInfo) → IsContext v job table shaders handles layout
+pub bin_reported : (v : InView) (job : JobModel) (table : TableModel) (shaders : List (Option ShaderModel)) (handles : List ℕ) (layout : Layout) (info : BinInfo) → IsContext v job table shaders handles layout
     → has_bin v.file v.number ≡ true → IsInfo job.bin job.declared table handles layout info → IsBinOf v.file v.number info
 unfolding states_in
-bin_told v job table shaders handles layout info h some told =
+bin_reported v job table shaders handles layout info h some report =
     let list = ap (λ x. x.bin) h.job_is in
-    let x_is = told.tiles_x ∙ ap (λ l. (seen_before (passed l)).tiles_x) list in
-    let y_is = told.tiles_y ∙ ap (λ l. (seen_before (passed l)).tiles_y) list in
+    let x_is = report.tiles_x ∙ ap (λ l. (seen_before (packets_passed l)).tiles_x) list in
+    let y_is = report.tiles_y ∙ ap (λ l. (seen_before (packets_passed l)).tiles_y) list in
     record {
-      grid = ap (λ n. Some (n, info.tiles_y)) x_is ∙ ap (λ n. Some ((seen_before (passed (job_of v.file v.number).bin)).tiles_x, n)) y_is ∙ grid_is v.file v.number some;
-      states = told.states ∙ ap (λ l. states_of (packets l)) list;
-      length_is = told.length_is ∙ ap length (bin_text_is v job table shaders handles layout h some);
+      grid = ap (λ n. Some (n, info.tiles_y)) x_is ∙ ap (λ n. Some ((seen_before (packets_passed (job_of v.file v.number).bin)).tiles_x, n)) y_is ∙ grid_is v.file v.number some;
+      states = report.states ∙ ap (λ l. states_of (packets l)) list;
+      length_is = report.length_is ∙ ap length (bin_text_is v job table shaders handles layout h some);
     }
 
--- the same of records and uniforms
+-- what the rules of records and uniforms take
 abbrev input : List State → List ℕ → List ℕ → TableModel → List ℕ → List (Option ShaderModel) → InputModel
 input states records uniforms table handles shaders =
     record { states = states; records = records; uniforms = uniforms; table = table; handles = handles; shaders = shaders }
 
 pub input_is : (v : InView) (states : List State) (job : JobModel) (table : TableModel) (shaders : List (Option ShaderModel)) (handles : List ℕ) (layout : Layout) → IsContext v job table shaders handles layout
-    → states ≡ states_in v.file v.number → IsTold v
+    → states ≡ states_in v.file v.number → IsReported v
     → record { states = states; records = job.records; uniforms = job.uniforms; table = table; handles = handles; shaders = shaders } ≡ input_for v.file v.number
 unfolding input_for
-input_is v states job table shaders handles layout h same told =
+input_is v states job table shaders handles layout h same report =
     let at = job_of v.file v.number in
     ap (λ s. input s job.records job.uniforms table handles shaders) same
     ∙ ap (λ x. input (states_in v.file v.number) x.records x.uniforms table handles shaders) h.job_is
     ∙ ap (λ t. input (states_in v.file v.number) at.records at.uniforms t handles shaders) h.table_is
     ∙ ap (λ l. input (states_in v.file v.number) at.records at.uniforms (table_of v.file) l shaders) (h.handles_are ∙ ap (λ x. x.handles) h.job_is)
-    ∙ ap (input (states_in v.file v.number) at.records at.uniforms (table_of v.file) at.handles) (h.shaders_are ∙ told)
+    ∙ ap (input (states_in v.file v.number) at.records at.uniforms (table_of v.file) at.handles) (h.shaders_are ∙ report)
 
-records_stage_is : (f : FileModel) (j : ℕ) → has_bin f j ≡ true → records_stage f j ≡ answered (record_refused f j) (all_questions (input_for f j))
+records_stage_is : (f : FileModel) (j : ℕ) → has_bin f j ≡ true → records_stage f j ≡ with_answers (record_refused f j) (all_questions (input_for f j))
 unfolding records_stage
-records_stage_is f j some = ap (λ b. if b then answered (record_refused f j) (all_questions (input_for f j)) else []) some
+records_stage_is f j some = ap (λ b. if b then with_answers (record_refused f j) (all_questions (input_for f j)) else []) some
 
 pub records_none : (f : FileModel) (j : ℕ) → has_bin f j ≡ true → first_of (all_questions (input_for f j)) ≡ None → first_of (records_stage f j) ≡ None
 records_none f j some none = ap first_of (records_stage_is f j some) ∙ answered_none (record_refused f j) (all_questions (input_for f j)) none
 
 pub records_some : (f : FileModel) (j : ℕ) (fault : RecordFault) → has_bin f j ≡ true → first_of (all_questions (input_for f j)) ≡ Some fault → first_of (records_stage f j) ≡ Some (record_refused f j fault)
-records_some f j fault some stands = ap first_of (records_stage_is f j some) ∙ answered_some (record_refused f j) (all_questions (input_for f j)) fault stands
+records_some f j fault some broken = ap first_of (records_stage_is f j some) ∙ answered_some (record_refused f j) (all_questions (input_for f j)) fault broken
 
 pub records_are : (f : FileModel) (j : ℕ) → has_bin f j ≡ true → emitted_records (input_for f j) (streams_place (layout_of f j)) ≡ records_of f j
 unfolding records_of
@@ -189,7 +189,7 @@ unfolding lists_stages bin_stage records_stage
 unbinned_none f j none surfaces = rw none surfaces
 
 pub render_alone : (f : FileModel) (j : ℕ) (out : List ℕ) → has_bin f j ≡ false
-    → with_bytes out (layout_of f j).render (render_list_of f j) ≡ placed out (list_parts f j)
+    → with_bytes out (layout_of f j).render (render_list_of f j) ≡ parts_placed out (list_parts f j)
 unfolding list_parts later_parts
 render_alone f j out none =
     let render : List ℕ → List ℕ = λ o. with_bytes o (layout_of f j).render (render_list_of f j) in
@@ -203,14 +203,14 @@ render_alone f j out none =
 -- one after the other the lists are put
 pub later_placed : (f : FileModel) (j : ℕ) (out first second : List ℕ)
     → first ≡ with_bytes (with_bytes out (layout_of f j).records (records_of f j)) (layout_of f j).uniforms (streams_of f j)
-    → second ≡ with_bytes first (layout_of f j).render (render_list_of f j) → second ≡ placed out (later_parts f j)
+    → second ≡ with_bytes first (layout_of f j).render (render_list_of f j) → second ≡ parts_placed out (later_parts f j)
 unfolding later_parts
 later_placed f j out first second a b = b ∙ ap (λ o. with_bytes o (layout_of f j).render (render_list_of f j)) a
 
 pub all_placed : (f : FileModel) (j : ℕ) (out first second : List ℕ)
-    → first ≡ with_bytes out (layout_of f j).bin (bin_list_of f j) → second ≡ placed first (later_parts f j) → second ≡ placed out (list_parts f j)
+    → first ≡ with_bytes out (layout_of f j).bin (bin_list_of f j) → second ≡ parts_placed first (later_parts f j) → second ≡ parts_placed out (list_parts f j)
 unfolding list_parts
-all_placed f j out first second a b = b ∙ ap (λ o. placed o (later_parts f j)) a
+all_placed f j out first second a b = b ∙ ap (λ o. parts_placed o (later_parts f j)) a
 
 -- the lists lie inside the layout
 pub parts_fit : (f : FileModel) (j : ℕ) → length (bin_list_of f j) ≤ length (job_of f j).bin → length (records_of f j) ≤ length (job_of f j).records → length (streams_of f j) ≤ length (job_of f j).uniforms

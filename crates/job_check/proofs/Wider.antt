@@ -1,4 +1,4 @@
--- A job file in which no rule stands is one in which none stands under the greatest limit of a memory.
+-- A job file in which no rule is broken is one in which none is broken under the greatest limit of a memory.
 use Rattle.std.proofs.Common.{◌≡◌, ◌++◌, None, arith, ◌∙◌}
 use Rattle.field_words.specs.{Questions.first_of, Sizes.most_memory}
 use Rattle.field_words.proofs.{Questions.passes, Questions.answered_none, Nones.front_none, Nones.rest_none, Nones.none_answered}

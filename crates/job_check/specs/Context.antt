@@ -1,5 +1,5 @@
--- A job in view: a file in whose memory table no rule stands, what is told of its shaders, and one of its jobs, each of whose handles names a buffer
--- of the job's client, and whose lists begin in the lists' region or where it ends.
+-- A job in view: a file in whose memory table no rule is broken, what is reported of its shaders, and one of its jobs, each of whose handles names a
+-- buffer of the job's client, and whose lists begin in the lists' region or where it ends.
 use Rattle.std.specs.Prelude.{◌≡◌, ℕ, ◌<◌, ◌≤◌, List, length, Option}
 use Rattle.buffer_table.specs.{Table.TableModel, Handles.AreNumbersOf, Sound.IsSound}
 use Rattle.job_format.specs.{File.IsWellFormed, File.IsJobWellFormed, Model.FileModel, Model.JobModel}
@@ -9,7 +9,7 @@ use Rattle.shader_records.specs.Inputs.{AreShaped}
 use Rattle.job_check.specs.{Shaders.table_of, Shaders.shaders_of, Emit.lengths_of}
 use Rattle.job_check.specs.Jobs.{job_of, lists_begin, layout_of, bin_list_of, records_of, streams_of, render_list_of}
 
--- what contracts see: the file, the job's number, and what is told of the shaders
+-- what contracts see: the file, the job's number, and what is reported of the shaders
 pub record InView : Type 0 where
   pub file : FileModel
   pub number : ℕ
@@ -18,9 +18,9 @@ pub record InView : Type 0 where
 abbrev pub in_view : FileModel → ℕ → List (Option ShaderModel) → InView
 in_view f j shaders = record { file = f; number = j; shaders = shaders }
 
--- What is told of the shaders is true.
-abbrev pub IsTold : InView → Type 0
-IsTold v = v.shaders ≡ shaders_of v.file
+-- What is reported of the shaders is true.
+abbrev pub IsReported : InView → Type 0
+IsReported v = v.shaders ≡ shaders_of v.file
 
 -- its entry, where its lists go, and the lists that the hardware is given, with how many bytes they are
 abbrev pub job_in : InView → JobModel

@@ -1,7 +1,7 @@
 -- The memory of an accepted file: zeros, but for the contents of each buffer at its place and the lists of each job in the lists' region.
 use Rattle.std.specs.Prelude.{◌≡◌, ℕ, zero, suc, ◌+◌, ◌%◌, ◌≤◌, ◌<◌, List, [], ◌∷◌, ◌++◌, length, map}
 use Rattle.std.specs.List.{AllByRecursion, range_with_len}
-use Rattle.field_words.specs.{Sizes.most_memory, Writes.Part, Writes.emitted}
+use Rattle.field_words.specs.{Sizes.most_memory, Writes.Part, Writes.memory_emitted}
 use Rattle.buffer_table.specs.declared.buffer.Buffer.{Buffer}
 use Rattle.job_format.specs.Model.{FileModel}
 use Rattle.relocation.specs.{declared.layout.Layout.Layout, declared.layout.Lengths.Lengths}
@@ -34,19 +34,19 @@ later_parts f j =
 unfoldable pub list_parts : FileModel → ℕ → List Part
 list_parts f j = part (layout_of f j).bin (bin_list_of f j) ∷ later_parts f j
 
--- the same parts, each so many bytes further on
-abbrev pub moved : ℕ → List Part → List Part
-moved by [] = []
-moved by (part ∷ parts) = record { place = by + part.place; bytes = part.bytes } ∷ moved by parts
+-- these parts, each so many bytes further on
+abbrev pub parts_moved : ℕ → List Part → List Part
+parts_moved by [] = []
+parts_moved by (part ∷ parts) = record { place = by + part.place; bytes = part.bytes } ∷ parts_moved by parts
 
 -- each part lies inside so many bytes
 abbrev pub PartsFit : ℕ → List Part → Type 0
 PartsFit size [] = Unit {0}
 PartsFit size (part ∷ parts) = (part.place + length part.bytes ≤ size) × PartsFit size parts
 
--- the same parts in the memory
+-- the parts of a job's lists in the memory
 unfoldable pub memory_parts : FileModel → ℕ → List Part
-memory_parts f j = moved (layout_of f j).place (list_parts f j)
+memory_parts f j = parts_moved (layout_of f j).place (list_parts f j)
 
 -- those of the first n jobs, one job after the other
 unfoldable pub jobs_parts : FileModel → ℕ → List Part
@@ -55,10 +55,10 @@ jobs_parts f (suc n) = jobs_parts f n ++ memory_parts f n
 
 -- the memory before any list, and with all of them
 abbrev pub fresh_memory_of : FileModel → List ℕ
-fresh_memory_of f = emitted f.mem_size (content_parts f.buffers f.contents)
+fresh_memory_of f = memory_emitted f.mem_size (content_parts f.buffers f.contents)
 
 unfoldable pub memory_of : FileModel → List ℕ
-memory_of f = emitted f.mem_size (content_parts f.buffers f.contents ++ jobs_parts f (length f.jobs))
+memory_of f = memory_emitted f.mem_size (content_parts f.buffers f.contents ++ jobs_parts f (length f.jobs))
 
 -- each buffer's contents lie inside a memory of this size
 unfoldable pub ContentsFit : ℕ → List Buffer → List (List ℕ) → Type 0
@@ -72,7 +72,7 @@ pub record IsEmitted (f : FileModel) (memory : List ℕ) (layouts : List Layout)
   pub layouts_are : layouts ≡ layouts_of f
   pub lengths_are : lengths ≡ all_lengths_of f
 
--- the same of what the check answers
+-- what the check answers is that memory, those places and lengths
 abbrev pub Emits : FileModel → Checked → Type 0
 Emits f checked = IsEmitted f checked.memory checked.layouts.items checked.lengths.items
 

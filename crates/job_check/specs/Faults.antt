@@ -1,7 +1,7 @@
 -- All rules that can refuse a file that was read, in the order of refusal: the memory table, the shaders by buffer,
 -- and then job by job its handles, its binner list, its shader records with their uniforms, its frame and surfaces, and its layout.
 use Rattle.std.specs.Prelude.{◌≡◌, ℕ, Bool, not, ◌+◌, ◌*◌, ◌%◌, ◌==◌, ◌<◌, nat_lt, List, [], ◌∷◌, ◌++◌, length, None, Result, Ok, Err, if◌then◌else◌}
-use Rattle.field_words.specs.{Questions.Question, Questions.Ask, Questions.first_of, Questions.each, Questions.answered, Sizes.most_memory}
+use Rattle.field_words.specs.{Questions.Question, Questions.Ask, Questions.first_of, Questions.each, Questions.with_answers, Sizes.most_memory}
 use Rattle.field_words.specs.{declared.stop.Stop.Stop, declared.stop.Stop.TheVariants.Fault, declared.stop.Stop.TheVariants.NoMemory}
 use Rattle.buffer_table.specs.{declared.buffer.TableFault.TableFault, declared.buffer.Kind.Kind, Handles.handles_questions}
 use Rattle.buffer_table.specs.declared.buffer.Kind.TheVariants.{Plain, Code}
@@ -18,29 +18,29 @@ use Rattle.job_check.specs.Shaders.{table_of, content_of, code_questions}
 use Rattle.shader_check.specs.declared.fault.ShaderFault.{ShaderFault}
 
 -- a refusal by a rule, at a place in the file
-abbrev pub refused : Stage → ℕ → ℕ → Refusal
-refused stage number offset = record { rule = record { stage = stage; number = number }; offset = offset }
+abbrev pub refusal_by : Stage → ℕ → ℕ → Refusal
+refusal_by stage number offset = record { rule = record { stage = stage; number = number }; offset = offset }
 
 -- M: the memory table, of a memory of at most so many bytes, which are 64 MiB for a file
 abbrev pub table_refused : TableFault → Refusal
-table_refused fault = refused M fault.number (item_offset fault.item)
+table_refused fault = refusal_by M fault.number (item_offset fault.item)
 
 unfoldable pub table_stage_within : (limit : ℕ) → FileModel → List (Question Refusal)
-table_stage_within limit f = answered table_refused (table_within limit f.mem_size f.regions f.buffers)
+table_stage_within limit f = with_answers table_refused (table_within limit f.mem_size f.regions f.buffers)
 
 abbrev pub table_stage : FileModel → List (Question Refusal)
 table_stage = table_stage_within most_memory
 
 -- S: the shader in buffer b, and all shaders by buffer
 abbrev pub shader_refused : FileModel → ℕ → ShaderFault → Refusal
-shader_refused f b fault = refused S fault.number (shader_offset f b fault)
+shader_refused f b fault = refusal_by S fault.number (shader_offset f b fault)
 
 abbrev pub shader_questions_in : Kind → List ℕ → List (Question ShaderFault)
 shader_questions_in Plain content = []
 shader_questions_in Code content = code_questions content
 
 unfoldable pub shader_stage : FileModel → ℕ → List (Question Refusal)
-shader_stage f b = answered (shader_refused f b) (shader_questions_in (buffer_at f.buffers b).kind (content_of f b))
+shader_stage f b = with_answers (shader_refused f b) (shader_questions_in (buffer_at f.buffers b).kind (content_of f b))
 
 unfoldable pub shaders_stage : FileModel → List (Question Refusal)
 shaders_stage f = each (shader_stage f) 0 (length f.buffers)
@@ -51,9 +51,9 @@ whole_questions_in Plain content = []
 whole_questions_in Code content = Ask (not (length content % 8 == 0)) (record { number = 1; index = 0 }) ∷ []
 
 unfoldable pub whole_stage : FileModel → ℕ → List (Question Refusal)
-whole_stage f b = answered (shader_refused f b) (whole_questions_in (buffer_at f.buffers b).kind (content_of f b))
+whole_stage f b = with_answers (shader_refused f b) (whole_questions_in (buffer_at f.buffers b).kind (content_of f b))
 
--- Where S may end for want of memory: at a buffer before which no rule of a shader stands, and whose own bytes are whole words.
+-- Where S may end for want of memory: at a buffer before which no rule of a shader is broken, and whose own bytes are whole words.
 pub record MayEndAt (f : FileModel) (b : ℕ) : Type 0 where
   pub inside : b < length f.buffers
   pub before : first_of (each (shader_stage f) 0 b) ≡ None
@@ -66,19 +66,19 @@ HidesNoShader f (Err NoMemory) = (b : ℕ) × MayEndAt f b
 
 -- H: the handles of job j
 abbrev pub handle_refused : FileModel → ℕ → ℕ → Refusal
-handle_refused f j index = refused H 1 (handles_offset f j + 4 * index)
+handle_refused f j index = refusal_by H 1 (handles_offset f j + 4 * index)
 
 unfoldable pub handles_stage : FileModel → ℕ → List (Question Refusal)
-handles_stage f j = answered (handle_refused f j) (handles_questions (table_of f) (job_of f j).client (job_of f j).handles)
+handles_stage f j = with_answers (handle_refused f j) (handles_questions (table_of f) (job_of f j).client (job_of f j).handles)
 
 -- B: the binner list of job j, where it has one
 abbrev pub bin_refused : FileModel → ℕ → ListFault → Refusal
-bin_refused f j fault = refused B fault.number (bin_offset f j + fault.at)
+bin_refused f j fault = refusal_by B fault.number (bin_offset f j + fault.at)
 
 unfoldable pub bin_stage : FileModel → ℕ → List (Question Refusal)
 bin_stage f j =
     if has_bin f j
-    then answered (bin_refused f j) (bin_questions (job_of f j).bin (job_of f j).declared (table_of f) (job_of f j).handles)
+    then with_answers (bin_refused f j) (bin_questions (job_of f j).bin (job_of f j).declared (table_of f) (job_of f j).handles)
     else []
 
 -- A and U: its shader records and uniforms, where it has a binner list
@@ -86,27 +86,27 @@ unfoldable pub part_offset : FileModel → ℕ → Bool → ℕ
 part_offset f j in_uniforms = if in_uniforms then uniforms_offset f j else records_offset f j
 
 abbrev pub record_refused : FileModel → ℕ → RecordFault → Refusal
-record_refused f j fault = refused fault.stage fault.number (part_offset f j fault.in_uniforms + fault.at)
+record_refused f j fault = refusal_by fault.stage fault.number (part_offset f j fault.in_uniforms + fault.at)
 
 unfoldable pub records_stage : FileModel → ℕ → List (Question Refusal)
-records_stage f j = if has_bin f j then answered (record_refused f j) (all_questions (input_for f j)) else []
+records_stage f j = if has_bin f j then with_answers (record_refused f j) (all_questions (input_for f j)) else []
 
 -- G: the frame and the surfaces of job j
 abbrev pub surface_refused : FileModel → ℕ → RenderFault → Refusal
-surface_refused f j fault = refused G fault.number (surface_offset (job_offset f j) fault.item)
+surface_refused f j fault = refusal_by G fault.number (surface_offset (job_offset f j) fault.item)
 
 unfoldable pub surfaces_stage : FileModel → ℕ → List (Question Refusal)
-surfaces_stage f j = answered (surface_refused f j) (surface_faults (job_of f j).frame (grid_of f j) (table_of f) (job_of f j).handles)
+surfaces_stage f j = with_answers (surface_refused f j) (surface_faults (job_of f j).frame (grid_of f j) (table_of f) (job_of f j).handles)
 
 -- X: the lists of job j end past the lists' region
 unfoldable pub layout_stage : FileModel → ℕ → List (Question Refusal)
-layout_stage f j = Ask (nat_lt (region_end f.regions) (end_of (layout_of f j))) (refused X 1 (layout_offset (job_offset f j))) ∷ []
+layout_stage f j = Ask (nat_lt (region_end f.regions) (end_of (layout_of f j))) (refusal_by X 1 (layout_offset (job_offset f j))) ∷ []
 
 -- the lists of a job
 unfoldable pub lists_stages : FileModel → ℕ → List (Question Refusal)
 lists_stages f j = bin_stage f j ++ (records_stage f j ++ surfaces_stage f j)
 
--- the same and where they end
+-- the lists of a job, and where they end
 abbrev pub laid_stages : FileModel → ℕ → List (Question Refusal)
 laid_stages f j = lists_stages f j ++ layout_stage f j
 

@@ -1,7 +1,7 @@
 -- The jobs of a file, and where the lists of each go.
 use Rattle.std.specs.Prelude.{ℕ, zero, suc, ◌+◌, ◌==◌, Bool, not, ◌&&◌, false, nat_le, List, [], length, map, slice_index_or, Option, Some, None, if◌then◌else◌}
 use Rattle.std.specs.List.{range_with_len}
-use Rattle.bin_list.specs.{declared.seen.Seen.Seen, declared.state.State.State, Packets.packets, Packets.passed, States.states_of}
+use Rattle.bin_list.specs.{declared.seen.Seen.Seen, declared.state.State.State, Packets.packets, Packets.packets_passed, States.states_of}
 use Rattle.bin_list.specs.{Seen.seen_before, Emitted.bin_text}
 use Rattle.shader_records.specs.{Inputs.InputModel, Emission.emitted_records, Emission.emitted_uniforms, Emitted.streams_place}
 use Rattle.job_check.specs.Shaders.{table_of, shaders_of}
@@ -37,7 +37,7 @@ abbrev pub grid_from : Seen → ℕ × ℕ
 grid_from seen = (seen.tiles_x, seen.tiles_y)
 
 unfoldable pub grid_of : FileModel → ℕ → Option (ℕ × ℕ)
-grid_of f j = if has_bin f j then Some (grid_from (seen_before (passed (job_of f j).bin))) else None
+grid_of f j = if has_bin f j then Some (grid_from (seen_before (packets_passed (job_of f j).bin))) else None
 
 -- the renderer list of job j
 unfoldable pub render_list_of : FileModel → ℕ → List ℕ

@@ -5,6 +5,6 @@ pub mod Jobs
 pub mod Offsets
 pub mod Region
 pub mod Shaders
-pub mod Told
+pub mod Report
 pub mod Upgrade
 pub mod Whole

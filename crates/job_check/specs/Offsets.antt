@@ -18,7 +18,7 @@ job_offset f j = entry_offset (length f.buffers) + job_size * j
 unfoldable pub content_offset : FileModel → ℕ → ℕ
 content_offset f b = job_offset f (length f.jobs) + sum (map (λ x. x.content) (take b f.buffers))
 
--- A rule on a shader stands at an instruction; the rule on its length stands at the buffer's length field.
+-- A rule on a shader is broken at an instruction; the rule on its length is broken at the buffer's length field.
 unfoldable pub shader_offset : FileModel → ℕ → ShaderFault → ℕ
 shader_offset f b fault = if fault.number == 1 then entry_offset b + 16 else content_offset f b + 8 * fault.index
 

@@ -26,18 +26,18 @@ words_of bytes = words_in bytes (length bytes / 8)
 unfoldable pub code_questions : List ℕ → List (Question ShaderFault)
 code_questions bytes = Ask (not (length bytes % 8 == 0)) (record { number = 1; index = 0 }) ∷ shader_questions (words_of bytes)
 
--- what is told of a shader without faults
-unfoldable pub told_of : List ℕ → ShaderModel
-told_of code = record { uniforms = uniforms_of code; samples = samples_of code; address_words = address_words_of code; threaded = is_threaded code }
+-- what is reported of a shader without faults
+unfoldable pub report_of : List ℕ → ShaderModel
+report_of code = record { uniforms = uniforms_of code; samples = samples_of code; address_words = address_words_of code; threaded = is_threaded code }
 
 -- the contents of buffer b
 unfoldable pub content_of : FileModel → ℕ → List ℕ
 content_of f b = slice_index_or f.contents b []
 
--- the shader in buffer b, None in a Plain one, and all by buffer
+-- the shader in buffer b, None in a data buffer, and all by buffer
 abbrev pub shader_for : Kind → List ℕ → Option ShaderModel
 shader_for Plain content = None
-shader_for Code content = Some (told_of (words_of content))
+shader_for Code content = Some (report_of (words_of content))
 
 unfoldable pub shader_of : FileModel → ℕ → Option ShaderModel
 shader_of f b = shader_for (buffer_at f.buffers b).kind (content_of f b)
@@ -48,7 +48,7 @@ shaders_up_to f n = map (shader_of f) (range_with_len 0 n)
 abbrev pub shaders_of : FileModel → List (Option ShaderModel)
 shaders_of f = shaders_up_to f (length f.buffers)
 
--- What is kept of them is what is told, one for each buffer, and each is sound.
+-- What is kept of them is what is reported, one for each buffer, and each is sound.
 pub record AreShadersIn (f : FileModel) (shaders : List (Option ShaderModel)) : Type 0 where
-  pub told : shaders ≡ shaders_of f
+  pub report : shaders ≡ shaders_of f
   pub sound : AreShadersOf (table_of f) shaders

@@ -71,7 +71,7 @@ fn with_memory(alloc: Global, parts: &FileParts, region: &Region) -> Result<Chec
     })
 }
 
-/// The same as `check_job` of the parts of a file; their contents are copied only into the memory.
+/// `check_job` of the parts of a file; their contents are copied only into the memory.
 pub fn check_read(alloc: Global, parts: &FileParts) -> Result<Checked, Stop<Refusal>>
     requires { IsWellFormed (parts_view parts.now) }
     ensures answers { Answers (file_stages (parts_view parts.now))
@@ -84,7 +84,7 @@ pub fn check_read(alloc: Global, parts: &FileParts) -> Result<Checked, Stop<Refu
     Ok(with_memory(alloc, parts, &region)?)
 }
 
-/// Checks a file that was read. `Ok` comes exactly where no rule stands of the memory table, of the shaders, and of any job's handles,
+/// Checks a file that was read. `Ok` comes exactly where no rule is broken by the memory table, by the shaders, or by any job's handles,
 /// its binner list, its records and uniforms, its frame and surfaces, and its layout; else the refusal is the first that does, job by
 /// job, with its place in the file. A fault of the memory table is never answered as want of memory. No memory of the jobs is made
 /// before all rules are asked.

@@ -11,7 +11,7 @@ ghost use Rattle.job_check.specs.Jobs.{job_of, lists_begin, layout_of, end_of};
 ghost use Rattle.job_check.specs.Context.{in_view};
 ghost use Rattle.relocation.specs.Layout.{region_end};
 ghost use Rattle.job_check.specs.Region.{region_from};
-ghost use Rattle.job_check.specs.Faults.{refused, handles_stage};
+ghost use Rattle.job_check.specs.Faults.{refusal_by, handles_stage};
 ghost use Rattle.job_check.specs.Offsets.{job_offset, layout_offset};
 
 use super::layout::{is_inside, job_layout};
@@ -24,7 +24,7 @@ use relocation::Layout;
 use std::alloc::Global;
 use std::marker::Model;
 
-/// A job in view, with what all its stages ask: the file with its memory table, of which no rule stands, what is told of its
+/// A job in view, with what all its stages ask: the file with its memory table, in which no rule is broken, what is reported of its
 /// shaders, the job's number, its handles, of which none is refused, and where its lists go. A further stage is a further method.
 #[derive(Drop)]
 pub struct Context<'a, 'b> {
@@ -119,7 +119,7 @@ impl<'a, 'b> Context<'a, 'b> {
 
     /// X1: the lists end past their region.
     pub fn layout_refusal(&self) -> Refusal
-        ensures { result ≡ refused StageX 1 (layout_offset
+        ensures { result ≡ refusal_by StageX 1 (layout_offset
             (job_offset self.now.file self.now.number)) }
     {
         layout_refusal(self.file, self.number)

@@ -1,6 +1,6 @@
 //! The memory that an accepted job is to run in.
 ghost use Rattle.std.specs.Prelude.{◌≡◌, ◌≤◌, ◌<◌, ◌+◌, length, map, slice_index_or, ℕ};
-ghost use Rattle.field_words.specs.Writes.{placed, with_bytes};
+ghost use Rattle.field_words.specs.Writes.{parts_placed, with_bytes};
 ghost use Rattle.job_check.specs.Emit.{content_parts, ContentsFit};
 
 use buffer_table::Buffer;
@@ -13,7 +13,7 @@ pub fn put_contents(memory: &mut PhysMem, buffers: &[Buffer], contents: &Vec<&[u
     requires fit { ContentsFit (length memory.old) buffers.now
         (map (λ c. c.now) contents.now.items) }
     ensures long { length memory.new ≡ length memory.old }
-    ensures put { memory.new ≡ placed memory.old
+    ensures put { memory.new ≡ parts_placed memory.old
         (content_parts buffers.now (map (λ c. c.now) contents.now.items)) }
 {
     for k in 0..buffers.len() {

@@ -1,4 +1,4 @@
-//! The check of a job file that was read: the first rule that stands, or the memory that its jobs are to run in.
+//! The check of a job file that was read: the first broken rule, or the memory that its jobs are to run in.
 //!
 //! `specs/Faults.antt` lists the stages in the order of refusal. A further stage is a line there, and a method of the
 //! job in view (`context.rt`) or, where it asks of the file as a whole, a function in `stages.rt`.

@@ -2,13 +2,13 @@
 ghost use Rattle.std.specs.Prelude.{◌≡◌, ◌≢◌, ◌<◌, ◌≤◌, ◌+◌, ◌++◌, true, false, length, IfOk, Err, Some};
 ghost use Rattle.field_words.specs.declared.stop.Stop.TheVariants.{NoMemory as OutOfMemory};
 ghost use Rattle.field_words.specs.Questions.{Answers};
-ghost use Rattle.field_words.specs.Writes.{placed, with_bytes};
+ghost use Rattle.field_words.specs.Writes.{parts_placed, with_bytes};
 ghost use Rattle.render_list.specs.Frame.{IsSetupFor};
 ghost use Rattle.job_check.specs.Jobs.{has_bin, grid_of, places_in, states_in};
-ghost use Rattle.job_check.specs.Context.{IsTold, job_in, layout_in, bin_list_in, records_in, streams_in, render_list_in, lengths_in};
+ghost use Rattle.job_check.specs.Context.{IsReported, job_in, layout_in, bin_list_in, records_in, streams_in, render_list_in, lengths_in};
 ghost use Rattle.job_check.specs.Faults.{bin_stage, records_stage, surfaces_stage, lists_stages};
 ghost use Rattle.job_check.specs.Emit.{list_parts, later_parts, PartsFit};
-ghost use Rattle.job_check.specs.Told.{IsBinOf, AreRecordsOf, HasStateFirst};
+ghost use Rattle.job_check.specs.Report.{IsBinOf, AreRecordsOf, HasStateFirst};
 
 use super::context::Context;
 use super::refusals::{bin_refusal, record_refusal, surface_refusal};
@@ -112,13 +112,16 @@ impl<'a, 'b> Context<'a, 'b> {
         requires some { has_bin self.now.file self.now.number ≡ true }
         requires states { states.now ≡ states_in self.now.file self.now.number }
         requires room { (layout_in self.now).end ≤ length out.old }
-        ensures answers { IsTold self.now →
-            Answers (records_stage self.now.file self.now.number) (AreRecordsOf self.now.file self.now.number) result }
-        ensures written { IsTold self.now → IfOk result (λ _. out.new ≡ with_bytes
-            (with_bytes out.old (layout_in self.now).records (records_in self.now)) (layout_in self.now).uniforms (streams_in self.now)) }
-        ensures records_fit { IsTold self.now
+        ensures answers { IsReported self.now
+            → Answers (records_stage self.now.file self.now.number)
+            (AreRecordsOf self.now.file self.now.number) result }
+        ensures written { IsReported self.now
+            → IfOk result (λ _. out.new
+            ≡ with_bytes (with_bytes out.old (layout_in self.now).records (records_in self.now))
+            (layout_in self.now).uniforms (streams_in self.now)) }
+        ensures records_fit { IsReported self.now
             → IfOk result (λ _. length (records_in self.now) ≤ length (job_in self.now).records) }
-        ensures streams_fit { IsTold self.now
+        ensures streams_fit { IsReported self.now
             → IfOk result (λ _. length (streams_in self.now) ≤ length (job_in self.now).uniforms) }
         ensures takes_no_memory { result ≢ Err OutOfMemory }
     {
@@ -144,7 +147,7 @@ impl<'a, 'b> Context<'a, 'b> {
         }
     }
 
-    /// The stages after the records, with what was told of the lists before.
+    /// The stages after the records, with what was reported of the lists before.
     fn after_records(
         &self,
         bin: &BinInfo,
@@ -152,11 +155,12 @@ impl<'a, 'b> Context<'a, 'b> {
         out: &mut [u8],
     ) -> Result<Lengths, Stop<Refusal>>
         requires bin { IsBinOf self.now.file self.now.number bin.now }
-        requires records { IsTold self.now
+        requires records { IsReported self.now
             → AreRecordsOf self.now.file self.now.number records.now }
         requires room { (layout_in self.now).end ≤ length out.old }
-        ensures answers { IsTold self.now →
-            Answers (surfaces_stage self.now.file self.now.number) (λ lengths. lengths ≡ lengths_in self.now) result }
+        ensures answers { IsReported self.now
+            → Answers (surfaces_stage self.now.file self.now.number)
+            (λ lengths. lengths ≡ lengths_in self.now) result }
         ensures written { IfOk result (λ _. out.new
             ≡ with_bytes out.old (layout_in self.now).render (render_list_in self.now)) }
         ensures fits { IfOk result (λ _. (layout_in self.now).render
@@ -172,7 +176,7 @@ impl<'a, 'b> Context<'a, 'b> {
         })
     }
 
-    /// The stages after the binner list, with what was told of it.
+    /// The stages after the binner list, with what was reported of it.
     fn after_bin(
         &self,
         alloc: Global,
@@ -183,12 +187,14 @@ impl<'a, 'b> Context<'a, 'b> {
         requires bin { IsBinOf self.now.file self.now.number bin.now }
         requires room { (layout_in self.now).end ≤ length out.old }
         requires bin_fits { length (bin_list_in self.now) ≤ length (job_in self.now).bin }
-        ensures answers { IsTold self.now → Answers (records_stage self.now.file self.now.number ++ surfaces_stage self.now.file self.now.number)
+        ensures answers { IsReported self.now
+            → Answers (records_stage self.now.file self.now.number
+            ++ surfaces_stage self.now.file self.now.number)
             (λ lengths. lengths ≡ lengths_in self.now) result }
-        ensures written { IsTold self.now
+        ensures written { IsReported self.now
             → IfOk result (λ _. out.new
-            ≡ placed out.old (later_parts self.now.file self.now.number)) }
-        ensures fit { IsTold self.now
+            ≡ parts_placed out.old (later_parts self.now.file self.now.number)) }
+        ensures fit { IsReported self.now
             → IfOk result (λ _. PartsFit (layout_in self.now).end
             (list_parts self.now.file self.now.number)) }
         ensures takes_no_memory { result ≢ Err OutOfMemory }
@@ -202,12 +208,13 @@ impl<'a, 'b> Context<'a, 'b> {
     fn binned(&self, alloc: Global, out: &mut [u8]) -> Result<Lengths, Stop<Refusal>>
         requires some { has_bin self.now.file self.now.number ≡ true }
         requires room { (layout_in self.now).end ≤ length out.old }
-        ensures answers { IsTold self.now →
-            Answers (lists_stages self.now.file self.now.number) (λ lengths. lengths ≡ lengths_in self.now) result }
-        ensures written { IsTold self.now
+        ensures answers { IsReported self.now
+            → Answers (lists_stages self.now.file self.now.number)
+            (λ lengths. lengths ≡ lengths_in self.now) result }
+        ensures written { IsReported self.now
             → IfOk result (λ _. out.new
-            ≡ placed out.old (list_parts self.now.file self.now.number)) }
-        ensures fit { IsTold self.now
+            ≡ parts_placed out.old (list_parts self.now.file self.now.number)) }
+        ensures fit { IsReported self.now
             → IfOk result (λ _. PartsFit (layout_in self.now).end
             (list_parts self.now.file self.now.number)) }
         ensures memory { result ≡ Err OutOfMemory → HasStateFirst self.now.file self.now.number }
@@ -225,7 +232,7 @@ impl<'a, 'b> Context<'a, 'b> {
         ensures answers { Answers (lists_stages self.now.file self.now.number)
             (λ lengths. lengths ≡ lengths_in self.now) result }
         ensures written { IfOk result (λ _. out.new
-            ≡ placed out.old (list_parts self.now.file self.now.number)) }
+            ≡ parts_placed out.old (list_parts self.now.file self.now.number)) }
         ensures fit { IfOk result (λ _. PartsFit (layout_in self.now).end
             (list_parts self.now.file self.now.number)) }
         ensures takes_no_memory { result ≢ Err OutOfMemory }
@@ -248,15 +255,16 @@ impl<'a, 'b> Context<'a, 'b> {
     }
 
     /// The stages that ask the job's lists and its surfaces, before that of the layout. The lists are written at their
-    /// offsets in the window of the lists' region; where a rule stands the window may hold anything.
+    /// offsets in the window of the lists' region; where a rule is broken the window may hold anything.
     pub fn write_lists(&self, alloc: Global, out: &mut [u8]) -> Result<Lengths, Stop<Refusal>>
         requires { (layout_in self.now).end ≤ length out.old }
-        ensures answers { IsTold self.now →
-            Answers (lists_stages self.now.file self.now.number) (λ lengths. lengths ≡ lengths_in self.now) result }
-        ensures written { IsTold self.now
+        ensures answers { IsReported self.now
+            → Answers (lists_stages self.now.file self.now.number)
+            (λ lengths. lengths ≡ lengths_in self.now) result }
+        ensures written { IsReported self.now
             → IfOk result (λ _. out.new
-            ≡ placed out.old (list_parts self.now.file self.now.number)) }
-        ensures fit { IsTold self.now
+            ≡ parts_placed out.old (list_parts self.now.file self.now.number)) }
+        ensures fit { IsReported self.now
             → IfOk result (λ _. PartsFit (layout_in self.now).end
             (list_parts self.now.file self.now.number)) }
         ensures memory { result ≡ Err OutOfMemory → HasStateFirst self.now.file self.now.number }

@@ -7,7 +7,7 @@ ghost use Rattle.job_format.specs.File.{IsWellFormed, IsJobWellFormed};
 ghost use Rattle.job_format.specs.Parts.{parts_view, job_parts_view};
 ghost use Rattle.job_format.specs.Offsets.{most_buffers, most_handles, most_jobs, entry_offset};
 ghost use Rattle.job_check.specs.Jobs.{job_of};
-ghost use Rattle.job_check.specs.Faults.{refused, table_refused, shader_refused, handle_refused, bin_refused, part_offset, record_refused, surface_refused};
+ghost use Rattle.job_check.specs.Faults.{refusal_by, table_refused, shader_refused, handle_refused, bin_refused, part_offset, record_refused, surface_refused};
 ghost use Rattle.job_check.specs.Offsets.{item_offset, job_offset, content_offset, shader_offset, handles_offset, bin_offset, records_offset, uniforms_offset, surface_offset, layout_offset, parts_size};
 
 use super::context::job_at;
@@ -19,7 +19,7 @@ use shader_check::ShaderFault;
 use shader_records::RecordFault;
 
 fn refusal(stage: Stage, number: u8, offset: u64) -> Refusal
-    ensures { result ≡ refused stage number offset }
+    ensures { result ≡ refusal_by stage number offset }
 {
     Refusal {
         rule: Rule { stage, number },
@@ -49,7 +49,7 @@ fn item_offset(item: u32) -> u64
     }
 }
 
-/// A memory rule that stands.
+/// A memory rule that is broken.
 pub fn table_refusal(fault: &TableFault) -> Refusal
     ensures { result ≡ table_refused fault.now }
 {
@@ -92,7 +92,7 @@ pub fn content_offset(file: &FileParts, b: usize) -> u64
     job_offset(file, file.jobs.len()) + content_before(&file.buffers, b)
 }
 
-/// A rule on the shader in buffer `b` that stands.
+/// A rule on the shader in buffer `b` that is broken.
 #[tactic(auto, unfolding(crate::specs::Offsets::shader_offset))]
 pub fn shader_refusal(file: &FileParts, b: usize, fault: &ShaderFault) -> Refusal
     requires well_formed { IsWellFormed (parts_view file.now) }
@@ -145,7 +145,7 @@ pub fn handles_offset(file: &FileParts, number: usize) -> u64
     content_offset(file, file.buffers.len()) + parts_before(&file.jobs, number)
 }
 
-/// The handle at which H1 stands.
+/// The handle at which H1 is broken.
 pub fn handle_refusal(file: &FileParts, number: usize, index: u32) -> Refusal
     requires well_formed { IsWellFormed (parts_view file.now) }
     requires inside { number < length file.now.jobs.items }
@@ -179,7 +179,7 @@ pub fn bin_offset(file: &FileParts, number: usize) -> u64
     handles_offset(file, number) + 4 * handle_count(file, number)
 }
 
-/// A rule on the binner list that stands, at a packet of it or at its end.
+/// A rule on the binner list that is broken, at a packet of it or at its end.
 pub fn bin_refusal(file: &FileParts, number: usize, fault: &ListFault) -> Refusal
     requires well_formed { IsWellFormed (parts_view file.now) }
     requires inside { number < length file.now.jobs.items }
@@ -221,7 +221,7 @@ pub fn part_offset(file: &FileParts, number: usize, in_uniforms: bool) -> u64
     offset
 }
 
-/// A rule on shader records or uniforms that stands.
+/// A rule on shader records or uniforms that is broken.
 pub fn record_refusal(file: &FileParts, number: usize, fault: &RecordFault) -> Refusal
     requires well_formed { IsWellFormed (parts_view file.now) }
     requires inside { number < length file.now.jobs.items }
@@ -243,7 +243,7 @@ fn surface_offset(entry: u64, item: u8) -> u64
     }
 }
 
-/// A rule on the frame and its surfaces that stands.
+/// A rule on the frame and its surfaces that is broken.
 pub fn surface_refusal(file: &FileParts, number: usize, fault: &RenderFault) -> Refusal
     requires well_formed { IsWellFormed (parts_view file.now) }
     requires inside { number < length file.now.jobs.items }
@@ -258,7 +258,8 @@ pub fn surface_refusal(file: &FileParts, number: usize, fault: &RenderFault) -> 
 pub fn layout_refusal(file: &FileParts, number: usize) -> Refusal
     requires well_formed { IsWellFormed (parts_view file.now) }
     requires inside { number < length file.now.jobs.items }
-    ensures { result ≡ refused StageX 1 (layout_offset (job_offset (parts_view file.now) number)) }
+    ensures { result ≡ refusal_by StageX 1
+        (layout_offset (job_offset (parts_view file.now) number)) }
 {
     refusal(Stage::X, 1, job_offset(file, number) + 12)
 }

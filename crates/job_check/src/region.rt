@@ -2,7 +2,7 @@
 ghost use Rattle.std.specs.Prelude.{◌≡◌, ◌<◌, ◌≤◌, ◌+◌, ◌++◌, ◌-◌, length, IfOk, IfSome, IsOk, drop, []};
 ghost use Rattle.buffer_table.specs.Table.{most_place};
 ghost use Rattle.field_words.specs.Questions.{Answers, NamesFirst, NeverHidesFault};
-ghost use Rattle.field_words.specs.Writes.{placed, zeros};
+ghost use Rattle.field_words.specs.Writes.{parts_placed, zeros};
 ghost use Rattle.job_format.specs.File.{IsWellFormed};
 ghost use Rattle.job_format.specs.Parts.{parts_view};
 ghost use Rattle.buffer_table.specs.Sound.{IsSound};
@@ -11,9 +11,9 @@ ghost use Rattle.job_check.specs.Shaders.{table_of, shaders_of};
 ghost use Rattle.relocation.specs.Layout.{region_end};
 ghost use Rattle.job_check.specs.Jobs.{lists_begin, layout_of, end_of};
 ghost use Rattle.job_check.specs.Faults.{table_stage_within, shaders_stage, lists_stages, laid_stages, job_stages, jobs_stages, stages_within};
-ghost use Rattle.job_check.specs.Emit.{ArePlaced, PartsFit, list_parts, lengths_of, moved};
+ghost use Rattle.job_check.specs.Emit.{ArePlaced, PartsFit, list_parts, lengths_of, parts_moved};
 ghost use Rattle.job_check.specs.Region.{region_size, region_from, region_parts, IsLaid, IsRegion, AreChecked, Under};
-ghost use Rattle.job_check.specs.Context.{IsTold};
+ghost use Rattle.job_check.specs.Context.{IsReported};
 
 use super::context::Context;
 use super::layout::next_place;
@@ -61,12 +61,12 @@ fn write_at(
     from: usize,
 ) -> Result<Lengths, Stop<Refusal>>
     requires { from + (layout_of job.now.file job.now.number).end ≡ length region.old }
-    ensures answers { IsTold job.now → Answers (lists_stages job.now.file job.now.number)
+    ensures answers { IsReported job.now → Answers (lists_stages job.now.file job.now.number)
         (λ lengths. lengths ≡ lengths_of job.now.file job.now.number) result }
-    ensures written { IsTold job.now
+    ensures written { IsReported job.now
         → IfOk result (λ _. region.new
-        ≡ placed region.old (moved from (list_parts job.now.file job.now.number))) }
-    ensures fit { IsTold job.now
+        ≡ parts_placed region.old (parts_moved from (list_parts job.now.file job.now.number))) }
+    ensures fit { IsReported job.now
         → IfOk result (λ _. PartsFit (layout_of job.now.file job.now.number).end
         (list_parts job.now.file job.now.number)) }
 {
@@ -83,12 +83,14 @@ fn write_region(
     requires { length region.old.items ≡ region_size job.now.file job.now.number }
     ensures size { IfOk result (λ _. length region.new.items
         ≡ region_size job.now.file (job.now.number + 1)) }
-    ensures answers { IsTold job.now → Answers (lists_stages job.now.file job.now.number)
+    ensures answers { IsReported job.now → Answers (lists_stages job.now.file job.now.number)
         (λ lengths. lengths ≡ lengths_of job.now.file job.now.number) result }
-    ensures written { IsTold job.now → IfOk result (λ _. region.new.items ≡
-        placed (region.old.items ++ zeros (region_size job.now.file (job.now.number + 1) - length region.old.items))
+    ensures written { IsReported job.now
+        → IfOk result (λ _. region.new.items
+        ≡ parts_placed (region.old.items
+        ++ zeros (region_size job.now.file (job.now.number + 1) - length region.old.items))
         (region_parts job.now.file job.now.number)) }
-    ensures fit { IsTold job.now
+    ensures fit { IsReported job.now
         → IfOk result (λ _. PartsFit (layout_of job.now.file job.now.number).end
         (list_parts job.now.file job.now.number)) }
 {
@@ -103,12 +105,15 @@ fn place_lists(alloc: Global, job: &Context, region: &mut Vec<u8>) -> Result<Lis
     ensures size { IfOk result (λ _. length region.new.items
         ≡ region_size job.now.file (job.now.number + 1)) }
     ensures layout { IfOk result (λ lists. lists.layout ≡ layout_of job.now.file job.now.number) }
-    ensures answers { IsTold job.now →
-        Answers (laid_stages job.now.file job.now.number) (ArePlaced job.now.file job.now.number) result }
-    ensures written { IsTold job.now → IfOk result (λ _. region.new.items ≡
-        placed (region.old.items ++ zeros (region_size job.now.file (job.now.number + 1) - length region.old.items))
+    ensures answers { IsReported job.now
+        → Answers (laid_stages job.now.file job.now.number)
+        (ArePlaced job.now.file job.now.number) result }
+    ensures written { IsReported job.now
+        → IfOk result (λ _. region.new.items
+        ≡ parts_placed (region.old.items
+        ++ zeros (region_size job.now.file (job.now.number + 1) - length region.old.items))
         (region_parts job.now.file job.now.number)) }
-    ensures fit { IsTold job.now
+    ensures fit { IsReported job.now
         → IfOk result (λ _. PartsFit (layout_of job.now.file job.now.number).end
         (list_parts job.now.file job.now.number)) }
     ensures fits { IfOk result (λ lists. end_of lists.layout ≤ region_end job.now.file.regions) }
@@ -145,8 +150,10 @@ fn check_one(
     ensures layout { IfOk result (λ lists. lists.layout ≡ layout_of (parts_view file.now) number) }
     ensures answers { shaders_view shaders.now.items ≡ shaders_of (parts_view file.now) →
         Answers (job_stages (parts_view file.now) number) (ArePlaced (parts_view file.now) number) result }
-    ensures written { shaders_view shaders.now.items ≡ shaders_of (parts_view file.now) → IfOk result (λ _. region.new.items ≡
-        placed (region.old.items ++ zeros (region_size (parts_view file.now) (number + 1) - length region.old.items))
+    ensures written { shaders_view shaders.now.items ≡ shaders_of (parts_view file.now)
+        → IfOk result (λ _. region.new.items
+        ≡ parts_placed (region.old.items
+        ++ zeros (region_size (parts_view file.now) (number + 1) - length region.old.items))
         (region_parts (parts_view file.now) number)) }
     ensures fit { shaders_view shaders.now.items ≡ shaders_of (parts_view file.now) →
         IfOk result (λ _. PartsFit (layout_of (parts_view file.now) number).end (list_parts (parts_view file.now) number)) }
@@ -209,75 +216,80 @@ fn check_jobs(
     Ok(())
 }
 
-/// What is told of the shaders: what was told before, or what S finds where nothing was.
-fn told_shaders(
+/// What is reported of the shaders: what was reported before, or what S finds where nothing was.
+fn reported_shaders(
     alloc: Global,
     file: &FileParts,
-    told: Option<Vec<Option<ShaderInfo>>>,
+    report: Option<Vec<Option<ShaderInfo>>>,
 ) -> Result<Vec<Option<ShaderInfo>>, Stop<Refusal>>
     requires well_formed { IsWellFormed (parts_view file.now) }
-    requires shaped { IfSome told (λ shaders. AreShaped (table_of (parts_view file.now))
+    requires shaped { IfSome report (λ shaders. AreShaped (table_of (parts_view file.now))
         (shaders_view shaders.items)) }
     ensures shaped { IfOk result (λ shaders. AreShaped (table_of (parts_view file.now))
         (shaders_view shaders.items)) }
-    ensures answers { IfSome told (λ shaders. AreChecked (parts_view file.now) (shaders_view shaders.items)) →
-        Answers (shaders_stage (parts_view file.now)) (λ shaders. shaders_view shaders.items ≡ shaders_of (parts_view file.now)) result }
+    ensures answers { IfSome report (λ shaders. AreChecked (parts_view file.now)
+        (shaders_view shaders.items))
+        → Answers (shaders_stage (parts_view file.now))
+        (λ shaders. shaders_view shaders.items ≡ shaders_of (parts_view file.now)) result }
 {
-    match told {
+    match report {
         Some(shaders) => Ok(shaders),
         None => shaders_stage(alloc, file),
     }
 }
 
-/// S where nothing was told of the shaders, and then the jobs.
-fn check_told(
+/// S where nothing was reported of the shaders, and then the jobs.
+fn check_reported(
     alloc: Global,
     file: &FileParts,
     table: &Table,
-    told: Option<Vec<Option<ShaderInfo>>>,
+    report: Option<Vec<Option<ShaderInfo>>>,
     region: &mut Region,
 ) -> Result<(), Stop<Refusal>>
     requires well_formed { IsWellFormed (parts_view file.now) }
     requires table_is { table.now ≡ table_of (parts_view file.now) }
-    requires shaped { IfSome told (λ shaders. AreShaped (table_of (parts_view file.now))
+    requires shaped { IfSome report (λ shaders. AreShaped (table_of (parts_view file.now))
         (shaders_view shaders.items)) }
     requires sound { IsSound file.now.mem_size file.now.regions file.now.buffers.items }
     requires no_bytes { region.old.bytes.items ≡ [] }
     requires no_layouts { region.old.layouts.items ≡ [] }
     requires no_lengths { region.old.lengths.items ≡ [] }
     ensures laid { IfOk result (λ _. IsLaid (parts_view file.now) region.new) }
-    ensures answers { IfSome told (λ shaders. AreChecked (parts_view file.now) (shaders_view shaders.items)) →
-        Answers (shaders_stage (parts_view file.now) ++ jobs_stages (parts_view file.now))
+    ensures answers { IfSome report (λ shaders. AreChecked (parts_view file.now)
+        (shaders_view shaders.items))
+        → Answers (shaders_stage (parts_view file.now) ++ jobs_stages (parts_view file.now))
         (λ _. IsRegion (parts_view file.now) region.new) result }
 {
-    let shaders = told_shaders(alloc, file, told)?;
+    let shaders = reported_shaders(alloc, file, report)?;
     check_jobs(alloc, file, table, &shaders, region)
 }
 
 /// Checks the parts of a file whose memory has at most `limit` bytes, and makes no memory of its jobs; contents and lists are read where
-/// they lie. The shaders may have been checked before: then `told` has what was told of the shader in each Code buffer, and S isn't asked
-/// again; the answer is the one that asking would give. Where `told` is false, the answer may be wrong; all places are inside all the same.
-/// `Ok` comes exactly where no rule stands of the memory table, of the shaders, and of
+/// they lie. The shaders may have been checked before: then `report` has what was reported of the shader in each Code buffer, and S isn't asked
+/// again; the answer is the one that asking would give. Where `report` is false, the answer may be wrong; all places are inside all the same.
+/// `Ok` comes exactly where no rule is broken by the memory table, by the shaders, or by
 /// any job's handles, its binner list, its records and uniforms, its frame and surfaces, and its layout.
 ///
 /// # Errors
-/// The first rule that stands, job by job, with its place in the file; or want of memory, which never hides a rule of the memory table.
+/// The first broken rule, job by job, with its place in the file; or want of memory, which never hides a rule of the memory table.
 #[tactic(auto, unfolding(crate::specs::Faults::stages_within, crate::specs::Faults::table_stage_within))]
 pub fn check_parts(
     alloc: Global,
     limit: u32,
     parts: &FileParts,
-    told: Option<Vec<Option<ShaderInfo>>>,
+    report: Option<Vec<Option<ShaderInfo>>>,
 ) -> Result<Region, Stop<Refusal>>
     requires limit { limit ≤ most_place }
     requires well_formed { IsWellFormed (parts_view parts.now) }
-    requires shaped { IfSome told (λ shaders. AreShaped (table_of (parts_view parts.now))
+    requires shaped { IfSome report (λ shaders. AreShaped (table_of (parts_view parts.now))
         (shaders_view shaders.items)) }
     ensures laid { IfOk result (IsLaid (parts_view parts.now)) }
-    ensures answers { Under told (λ shaders. AreChecked (parts_view parts.now) (shaders_view shaders.items))
-        (Answers (stages_within limit (parts_view parts.now)) (IsRegion (parts_view parts.now)) result) }
-    ensures first { Under told (λ shaders. AreChecked (parts_view parts.now) (shaders_view shaders.items))
-        (NamesFirst (stages_within limit (parts_view parts.now)) result) }
+    ensures answers { Under report (λ shaders. AreChecked (parts_view parts.now)
+        (shaders_view shaders.items)) (Answers (stages_within limit (parts_view parts.now))
+        (IsRegion (parts_view parts.now)) result) }
+    ensures first { Under report (λ shaders. AreChecked (parts_view parts.now)
+        (shaders_view shaders.items)) (NamesFirst
+        (stages_within limit (parts_view parts.now)) result) }
     ensures memory { NeverHidesFault (table_stage_within limit (parts_view parts.now)) result }
     ensures sound { IsOk result → IsSound parts.now.mem_size parts.now.regions
         parts.now.buffers.items }
@@ -285,6 +297,6 @@ pub fn check_parts(
 {
     let table = table_stage(limit, parts.mem_size, parts.regions, &parts.buffers)?;
     let mut region = Region::empty(alloc);
-    check_told(alloc, parts, &table, told, &mut region)?;
+    check_reported(alloc, parts, &table, report, &mut region)?;
     Ok(region)
 }

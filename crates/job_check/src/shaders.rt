@@ -9,7 +9,7 @@ ghost use Rattle.job_format.specs.File.{IsWellFormed};
 ghost use Rattle.job_format.specs.Parts.{parts_view};
 ghost use Rattle.qpu_isa.specs.Shader.{shader_view, IsSoundShader};
 ghost use Rattle.shader_records.specs.Inputs.{shader_option, shaders_view};
-ghost use Rattle.job_check.specs.Shaders.{words_in, words_of, code_questions, told_of, content_of, shader_of, AreShadersIn};
+ghost use Rattle.job_check.specs.Shaders.{words_in, words_of, code_questions, report_of, content_of, shader_of, AreShadersIn};
 ghost use Rattle.job_check.specs.Faults.{shader_stage, whole_questions_in, whole_stage, shaders_stage, HidesNoShader};
 
 use super::refusals::shader_refusal;
@@ -44,13 +44,13 @@ pub fn words_of(alloc: Global, bytes: &[u8]) -> Result<Vec<u64>, AllocError>
     Ok(words)
 }
 
-/// What the shader that these bytes hold takes and reads. The fault is the first rule of shaders that stands of them, of which the
+/// What the shader that these bytes hold takes and reads. The fault is the first broken rule of shaders of them, of which the
 /// first is that they are whole words.
-#[tactic(auto, unfolding(crate::specs::Shaders::code_questions, crate::specs::Shaders::told_of))]
+#[tactic(auto, unfolding(crate::specs::Shaders::code_questions, crate::specs::Shaders::report_of))]
 pub fn shader_in(alloc: Global, bytes: &[u8]) -> Result<ShaderInfo, Stop<ShaderFault>>
     requires { length bytes.now ≤ most_code }
     ensures answers { Answers (code_questions bytes.now)
-        (λ info. shader_view info ≡ told_of (words_of bytes.now)) result }
+        (λ info. shader_view info ≡ report_of (words_of bytes.now)) result }
     ensures memory { NeverHidesFault (whole_questions_in CodeKind bytes.now) result }
     ensures sound { IfOk result (λ info. IsSoundShader (shader_view info)) }
 {
@@ -84,7 +84,7 @@ pub fn content_at<'a>(file: &FileParts<'a>, b: usize) -> &'a [u8]
     file.contents[b]
 }
 
-/// S of buffer `b`: what its shader takes and reads, or `None` where it is a Plain one.
+/// S of buffer `b`: what its shader takes and reads, or `None` where it is a data buffer.
 #[tactic(auto, unfolding(crate::specs::Faults::shader_stage, crate::specs::Faults::whole_stage, crate::specs::Shaders::shader_of), using(field_words::proofs::Questions::answered_none, field_words::proofs::Questions::answered_some))]
 fn shader_at(alloc: Global, file: &FileParts, b: usize) -> Result<Option<ShaderInfo>, Stop<Refusal>>
     requires well_formed { IsWellFormed (parts_view file.now) }

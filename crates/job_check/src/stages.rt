@@ -1,7 +1,7 @@
 //! The stages of the check that are asked of the file as a whole.
 ghost use Rattle.std.specs.Prelude.{◌≡◌, ◌≤◌, length, IsOk};
 ghost use Rattle.buffer_table.specs.Table.{TableModel, most_place, table_within};
-ghost use Rattle.field_words.specs.Questions.{Answers, NeverHidesFault, answered};
+ghost use Rattle.field_words.specs.Questions.{Answers, NeverHidesFault, with_answers};
 ghost use Rattle.job_format.specs.Offsets.{most_buffers};
 ghost use Rattle.buffer_table.specs.Sound.{IsSound};
 ghost use Rattle.job_check.specs.Faults.{table_refused};
@@ -21,9 +21,11 @@ pub fn table_stage<'a>(
 ) -> Result<Table<'a>, Stop<Refusal>>
     requires limit { limit ≤ most_place }
     requires few { length buffers.now.items ≤ most_buffers }
-    ensures answers { Answers (answered table_refused (table_within limit mem_size regions buffers.now.items))
-        (λ table. table ≡ record { memory = mem_size; regions = regions; buffers = buffers.now.items }) result }
-    ensures memory { NeverHidesFault (answered table_refused
+    ensures answers { Answers (with_answers table_refused
+        (table_within limit mem_size regions buffers.now.items))
+        (λ table. table
+        ≡ record { memory = mem_size; regions = regions; buffers = buffers.now.items }) result }
+    ensures memory { NeverHidesFault (with_answers table_refused
         (table_within limit mem_size regions buffers.now.items)) result }
     ensures sound { IsOk result → IsSound mem_size regions buffers.now.items }
     ensures small { IsOk result → mem_size ≤ limit }

@@ -1,10 +1,10 @@
--- A file that is read from bytes has numbers that fit, and is well formed where no rule stands.
+-- A file that is read from bytes has numbers that fit, and is well formed where no rule is broken.
 use Rattle.std.proofs.Common.{◌≡◌, ℕ, zero, suc, ◌+◌, ◌*◌, ◌%◌, ◌<◌, ◌≤◌, ◌^◌, List, ◌∷◌, length, map, drop, refl, sym, ap, subst, arith, ◌∙◌}
 use Rattle.std.specs.List.{AllByRecursion, range_with_len}
 use Rattle.field_words.specs.{Sizes.most_list, Sizes.most_code, Words.IsBytes, Words.u32_at}
 use Rattle.field_words.proofs.Numbers.{u16_fits, u32_fits, front_bytes, rest_bytes}
 use Rattle.job_format.specs.Offsets.{most_buffers, most_handles, most_jobs, most_first, most_states, version_in, buffer_count, job_count, entry_offset, job_offset, job_word, content_size, content_offset, handles_offset, bin_offset, records_offset, uniforms_offset}
-use Rattle.job_format.specs.Reading.{cut, kind_of, regions_at, surface_at, entry_at, frame_at, words_at, buffers_at, contents_at, job_at, jobs_at, file_at}
+use Rattle.job_format.specs.Reading.{bytes_cut, kind_of, regions_at, surface_at, entry_at, frame_at, words_at, buffers_at, contents_at, job_at, jobs_at, file_at}
 use Rattle.job_format.specs.File.{BufferFits, SurfaceFits, FrameFits, JobFits, Fits, FitsShader, IsJobWellFormed, IsFirstVersion, IsWellFormed, IsFileOf}
 use Rattle.job_format.proofs.Found.{length_buffers, length_jobs, length_cut, contents_in, job_reads, file_text_found}
 use Rattle.job_format.proofs.{Passing.Passes, Standing.content_ends}
@@ -22,7 +22,7 @@ same_in g h f e a (suc n) each =
     ap (λ x. x ∷ map g (map f (range_with_len (a + 1) n))) (each a (omega arith) (omega arith))
     ∙ ap (λ xs. h (e a) ∷ xs) (same_in g h f e (a + 1) n (λ k from to. each k (omega arith) (omega arith)))
 
-cut_bytes : (bytes : List ℕ) (at n : ℕ) → IsBytes bytes → IsBytes (cut bytes at n)
+cut_bytes : (bytes : List ℕ) (at n : ℕ) → IsBytes bytes → IsBytes (bytes_cut bytes at n)
 cut_bytes bytes at n fits = front_bytes n (drop at bytes) (rest_bytes at bytes fits)
 
 entry_fits : (bytes : List ℕ) (at : ℕ) → IsBytes bytes → BufferFits (entry_at bytes at)
@@ -79,7 +79,7 @@ file_fits bytes fits = record {
   mem_size = u32_fits bytes 8 fits;
   regions = record { lists_place = u32_fits bytes 12 fits; lists_size = u32_fits bytes 16 fits; tile_place = u32_fits bytes 20 fits; tile_slots = u32_fits bytes 24 fits };
   buffers = all_in BufferFits (λ b. entry_at bytes (entry_offset b)) 0 (buffer_count bytes) (λ k from to. entry_fits bytes (entry_offset k) fits);
-  contents = all_in IsBytes (λ b. cut bytes (content_offset bytes b) (content_size bytes b)) 0 (buffer_count bytes) (λ k from to. cut_bytes bytes (content_offset bytes k) (content_size bytes k) fits);
+  contents = all_in IsBytes (λ b. bytes_cut bytes (content_offset bytes b) (content_size bytes b)) 0 (buffer_count bytes) (λ k from to. cut_bytes bytes (content_offset bytes k) (content_size bytes k) fits);
   jobs = all_in JobFits (job_at bytes) 0 (job_count bytes) (λ j from to. job_fits bytes j fits);
 }
 
@@ -125,7 +125,7 @@ file_well_formed bytes p =
       buffers = subst (λ k. k ≤ most_buffers) (sym (length_buffers bytes n)) h.buffers;
       code = all_in (λ b. FitsShader b.kind b.content) (λ b. entry_at bytes (entry_offset b)) 0 n
           (λ k from to. let e = p.entry k (omega arith) in fits_shader (u32_at bytes (entry_offset k + 12)) (u32_at bytes (entry_offset k + 16)) e.kind e.code);
-      contents = same_in length (λ b. b.content) (λ b. cut bytes (content_offset bytes b) (content_size bytes b)) (λ b. entry_at bytes (entry_offset b)) 0 n
+      contents = same_in length (λ b. b.content) (λ b. bytes_cut bytes (content_offset bytes b) (content_size bytes b)) (λ b. entry_at bytes (entry_offset b)) 0 n
           (λ k from to. let ends = content_ends bytes k n (omega arith) in length_cut bytes (content_offset bytes k) (content_size bytes k) (omega arith));
       some_job = subst (λ k. 1 ≤ k) (sym jobs) h.some_job;
       few_jobs = subst (λ k. k ≤ most_jobs) (sym jobs) h.few_jobs;

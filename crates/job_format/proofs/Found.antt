@@ -1,11 +1,11 @@
--- Where no rule of the format stands, the bytes are the text of the file that they hold.
+-- Where no rule of the format is broken, the bytes are the text of the file that they hold.
 use Rattle.std.proofs.Common.{◌≡◌, ℕ, zero, suc, ◌+◌, ◌*◌, ◌<◌, ◌≤◌, ◌==◌, List, [], ◌∷◌, ◌++◌, length, drop, refl, sym, ap, subst, arith, ◌∙◌, add-one, append_assoc, length-drop}
 use Rattle.std.proofs.{lemmas.List.append-nil, lemmas.List.length-take-le, lemmas.List.FromFn.length-map-range_with_len}
 use Rattle.std.specs.List.{flat_map}
-use Rattle.field_words.specs.{Words.IsBytes, Words.u32_at, Pieces.IsPiece, Pieces.joined, WordBytes.word}
+use Rattle.field_words.specs.{Words.IsBytes, Words.u32_at, Pieces.IsPiece, Pieces.joined_texts, WordBytes.word}
 use Rattle.field_words.proofs.{Pieces.join_two, Numbers.u32_piece}
 use Rattle.job_format.specs.Offsets.{buffer_count, job_count, entry_offset, job_offset, job_word, content_size, content_offset, handles_offset, bin_offset, records_offset, uniforms_offset, end_offset}
-use Rattle.job_format.specs.Reading.{cut, regions_at, entry_at, frame_at, words_at, buffers_at, contents_at, job_at, jobs_at, file_at}
+use Rattle.job_format.specs.Reading.{bytes_cut, regions_at, entry_at, frame_at, words_at, buffers_at, contents_at, job_at, jobs_at, file_at}
 use Rattle.job_format.specs.{Model.FileModel, Text.flag, Text.header_text, Text.buffer_text, Text.job_text, Text.parts_text, Text.file_text}
 use Rattle.job_format.proofs.Listed.{words_none, words_more, buffers_none, buffers_more, contents_none, contents_more, jobs_none, jobs_more}
 use Rattle.job_format.proofs.Standing.{content_offset_first, content_offset_step, handles_offset_first, handles_offset_step, parts_end}
@@ -24,10 +24,10 @@ pub length_words : (bytes : List ℕ) (at n : ℕ) → length (words_at bytes at
 unfolding words_at
 length_words bytes at n = length-map-range_with_len (λ i. u32_at bytes (at + 4 * i)) 0 n
 
-pub length_cut : (bytes : List ℕ) (at n : ℕ) → at + n ≤ length bytes → length (cut bytes at n) ≡ n
+pub length_cut : (bytes : List ℕ) (at n : ℕ) → at + n ≤ length bytes → length (bytes_cut bytes at n) ≡ n
 length_cut bytes at n inside = length-take-le n (drop at bytes) (rw length-drop (omega arith))
 
-cut_piece : (bytes : List ℕ) (at n : ℕ) → at + n ≤ length bytes → IsPiece bytes at n (cut bytes at n)
+cut_piece : (bytes : List ℕ) (at n : ℕ) → at + n ≤ length bytes → IsPiece bytes at n (bytes_cut bytes at n)
 cut_piece bytes at n inside = record { size = length_cut bytes at n inside; inside = inside; same = refl }
 
 empty_piece : (bytes : List ℕ) (at : ℕ) → at ≤ length bytes → IsPiece bytes at 0 []
@@ -37,9 +37,9 @@ same_piece : (bytes : List ℕ) (at m n : ℕ) (one two : List ℕ) → m ≡ n 
 same_piece bytes at m n one two long text piece = subst (λ k. IsPiece bytes at k two) long (subst (λ t. IsPiece bytes at m t) text piece)
 
 -- One more item at the end of a list of texts.
-joined_last : (xs : List (List ℕ)) (x : List ℕ) → joined (xs ++ x ∷ []) ≡ joined xs ++ x
+joined_last : (xs : List (List ℕ)) (x : List ℕ) → joined_texts (xs ++ x ∷ []) ≡ joined_texts xs ++ x
 joined_last [] x = append-nil x
-joined_last (y ∷ ys) x = ap (λ rest. y ++ rest) (joined_last ys x) ∙ sym (append_assoc y (joined ys) x)
+joined_last (y ∷ ys) x = ap (λ rest. y ++ rest) (joined_last ys x) ∙ sym (append_assoc y (joined_texts ys) x)
 
 -- The entries of the first m buffers.
 buffers_piece : (bytes : List ℕ) (m : ℕ) → IsBytes bytes → Passes bytes → m ≤ buffer_count bytes → IsPiece bytes 36 (20 * m) (flat_map buffer_text (buffers_at bytes m))
@@ -66,20 +66,20 @@ words_piece bytes at (suc m) fits inside =
 
 -- The contents from buffer b on, where what follows those of the last is a tail: read backwards.
 contents_tail : (bytes : List ℕ) (m : ℕ) (rest : List ℕ) → content_offset bytes m ≤ length bytes → IsTail bytes (content_offset bytes m) rest
-    → IsTail bytes (job_offset bytes (job_count bytes)) (joined (contents_at bytes m) ++ rest)
+    → IsTail bytes (job_offset bytes (job_count bytes)) (joined_texts (contents_at bytes m) ++ rest)
 contents_tail bytes zero rest inside tail =
-    subst (λ cs. IsTail bytes (job_offset bytes (job_count bytes)) (joined cs ++ rest)) (sym (contents_none bytes))
+    subst (λ cs. IsTail bytes (job_offset bytes (job_count bytes)) (joined_texts cs ++ rest)) (sym (contents_none bytes))
     (subst (λ p. IsTail bytes p rest) (content_offset_first bytes) tail)
 contents_tail bytes (suc m) rest inside tail =
     let step : content_offset bytes (suc m) ≡ content_offset bytes m + content_size bytes m = ap (content_offset bytes) (sym (add-one m)) ∙ content_offset_step bytes m in
-    let here : IsPiece bytes (content_offset bytes m) (content_size bytes m) (cut bytes (content_offset bytes m) (content_size bytes m)) =
+    let here : IsPiece bytes (content_offset bytes m) (content_size bytes m) (bytes_cut bytes (content_offset bytes m) (content_size bytes m)) =
     cut_piece bytes (content_offset bytes m) (content_size bytes m) (omega arith) in
-    let one : List ℕ = cut bytes (content_offset bytes m) (content_size bytes m) in
+    let one : List ℕ = bytes_cut bytes (content_offset bytes m) (content_size bytes m) in
     let joined_tail = tail_join bytes (content_offset bytes m) (content_size bytes m) (content_offset bytes (suc m)) one rest step here tail in
     let before = contents_tail bytes m (one ++ rest) (omega arith) joined_tail in
-    let text : joined (contents_at bytes m) ++ (one ++ rest) ≡ joined (contents_at bytes (suc m)) ++ rest =
-    sym (append_assoc (joined (contents_at bytes m)) one rest)
-    ∙ ap (λ t. t ++ rest) (sym (joined_last (contents_at bytes m) one) ∙ ap joined (sym (contents_more bytes m) ∙ ap (contents_at bytes) (add-one m))) in
+    let text : joined_texts (contents_at bytes m) ++ (one ++ rest) ≡ joined_texts (contents_at bytes (suc m)) ++ rest =
+    sym (append_assoc (joined_texts (contents_at bytes m)) one rest)
+    ∙ ap (λ t. t ++ rest) (sym (joined_last (contents_at bytes m) one) ∙ ap joined_texts (sym (contents_more bytes m) ∙ ap (contents_at bytes) (add-one m))) in
     subst (λ t. IsTail bytes (job_offset bytes (job_count bytes)) t) text before
 
 -- The parts of job j end inside the file.
@@ -97,9 +97,9 @@ unfolding parts_text job_at bin_offset records_offset uniforms_offset end_offset
 parts_tail bytes j rest fits inside tail =
     let count : ℕ = job_word bytes j 8 in
     let handles : List ℕ = flat_map word (words_at bytes (handles_offset bytes j) count) in
-    let bin : List ℕ = cut bytes (bin_offset bytes j) (job_word bytes j 12) in
-    let records : List ℕ = cut bytes (records_offset bytes j) (job_word bytes j 16) in
-    let uniforms : List ℕ = cut bytes (uniforms_offset bytes j) (job_word bytes j 24) in
+    let bin : List ℕ = bytes_cut bytes (bin_offset bytes j) (job_word bytes j 12) in
+    let records : List ℕ = bytes_cut bytes (records_offset bytes j) (job_word bytes j 16) in
+    let uniforms : List ℕ = bytes_cut bytes (uniforms_offset bytes j) (job_word bytes j 24) in
     let t4 : IsTail bytes (uniforms_offset bytes j) (uniforms ++ rest) =
     tail_join bytes (uniforms_offset bytes j) (job_word bytes j 24) (end_offset bytes j) uniforms rest refl (cut_piece bytes (uniforms_offset bytes j) (job_word bytes j 24) (omega arith)) tail in
     let t3 = tail_join bytes (records_offset bytes j) (job_word bytes j 16) (uniforms_offset bytes j) records (uniforms ++ rest) refl (cut_piece bytes (records_offset bytes j) (job_word bytes j 16) (omega arith)) t4 in
@@ -196,7 +196,7 @@ file_tail bytes fits p =
     let m : ℕ = job_count bytes in
     let f : FileModel = file_at bytes in
     let parts : List ℕ = flat_map parts_text (jobs_at bytes m) in
-    let contents : List ℕ = joined (contents_at bytes n) in
+    let contents : List ℕ = joined_texts (contents_at bytes n) in
     let jobs : List ℕ = flat_map job_text (jobs_at bytes m) in
     let entries : List ℕ = flat_map buffer_text (buffers_at bytes n) in
     let end = p.end in

@@ -2,7 +2,7 @@
 use Rattle.std.proofs.Common.{◌≡◌, ℕ, zero, suc, ◌+◌, ◌<◌, ◌≤◌, List, [], ◌∷◌, ◌++◌, length, map, take, get_or, refl, sym, ap, subst, arith, ◌∙◌, add-one, append_assoc}
 use Rattle.std.proofs.{lemmas.List.append-nil, lemmas.List.map-append, lemmas.Grind.flat_map-append, Math.Seq.take-suc}
 use Rattle.std.specs.List.{flat_map, AllByRecursion}
-use Rattle.field_words.specs.Pieces.{joined}
+use Rattle.field_words.specs.Pieces.{joined_texts}
 
 -- what holds of each holds of the one that is met
 pub all_at : {A B : Type 0} (P : B → Type 0) (f : A → B) (xs : List A) (i : ℕ) (x : A) → AllByRecursion P (map f xs) → i < length xs → x ≡ get_or xs i x → P (f x)
@@ -11,7 +11,7 @@ all_at P f (y ∷ ys) zero x all inside met = subst (λ z. P (f z)) (sym met) al
 all_at P f (y ∷ ys) (suc i) x all inside met = all_at P f ys i x all.1 (omega arith) met
 
 -- Texts are joined as they are.
-pub joined_flat : (texts : List (List ℕ)) → flat_map (λ t. t) texts ≡ joined texts
+pub joined_flat : (texts : List (List ℕ)) → flat_map (λ t. t) texts ≡ joined_texts texts
 joined_flat [] = refl
 joined_flat (text ∷ texts) = ap (λ rest. text ++ rest) (joined_flat texts)
 

@@ -13,7 +13,7 @@ read_again bytes f is = let only = only_file bytes f is in (format_none bytes on
 pub one_file : (bytes : List ℕ) (f g : FileModel) → IsFileOf bytes f → IsFileOf bytes g → f ≡ g
 one_file bytes f g is_f is_g = sym (only_file bytes f is_f).1 ∙ (only_file bytes g is_g).1
 
--- Where no rule stands the bytes are the file that they hold.
+-- Where no rule is broken the bytes are the file that they hold.
 pub none_file : (bytes : List ℕ) → IsBytes bytes → first_of (format_questions bytes) ≡ None → IsFileOf bytes (file_at bytes)
 none_file bytes fits none = is_file bytes fits (passes_all bytes none)
 
@@ -28,6 +28,6 @@ only_by view bytes (Ok file) answers f is = answers.1 ∙ (read_again bytes f is
 only_by view bytes (Err (Fault fault)) answers f is = let none = (read_again bytes f is).0 in let wrong : Some fault ≡ None = sym answers ∙ none in cc
 only_by view bytes (Err NoMemory) answers f is = tt
 
--- So no rule stands exactly where a file belongs to the bytes.
+-- So no rule is broken exactly where a file belongs to the bytes.
 pub exact_by : (bytes : List ℕ) → IsBytes bytes → (first_of (format_questions bytes) ≡ None) ↔ ((f : FileModel) × IsFileOf bytes f)
 exact_by bytes fits = (λ none. (file_at bytes, none_file bytes fits none), λ file. (read_again bytes file.0 file.1).0)

@@ -2,7 +2,7 @@
 use Rattle.std.proofs.Common.{◌≡◌, ℕ, ◌+◌, ◌*◌, List, [], ◌∷◌, ◌++◌, map, refl, ap, ◌∙◌, zero-add}
 use Rattle.std.proofs.{lemmas.List.map-append, lemmas.List.FromFn.map-range_with_len_more}
 use Rattle.field_words.specs.Words.{u32_at}
-use Rattle.job_format.specs.Reading.{cut, entry_at, words_at, buffers_at, contents_at, job_at, jobs_at}
+use Rattle.job_format.specs.Reading.{bytes_cut, entry_at, words_at, buffers_at, contents_at, job_at, jobs_at}
 use Rattle.job_format.specs.Offsets.{entry_offset, content_size, content_offset}
 
 pub words_none : (bytes : List ℕ) (at : ℕ) → words_at bytes at 0 ≡ []
@@ -25,9 +25,9 @@ pub contents_none : (bytes : List ℕ) → contents_at bytes 0 ≡ []
 unfolding contents_at
 contents_none bytes = refl
 
-pub contents_more : (bytes : List ℕ) (n : ℕ) → contents_at bytes (n + 1) ≡ contents_at bytes n ++ (cut bytes (content_offset bytes n) (content_size bytes n) ∷ [])
+pub contents_more : (bytes : List ℕ) (n : ℕ) → contents_at bytes (n + 1) ≡ contents_at bytes n ++ (bytes_cut bytes (content_offset bytes n) (content_size bytes n) ∷ [])
 unfolding contents_at
-contents_more bytes n = map-range_with_len_more (λ b. cut bytes (content_offset bytes b) (content_size bytes b)) 0 n n (zero-add n)
+contents_more bytes n = map-range_with_len_more (λ b. bytes_cut bytes (content_offset bytes b) (content_size bytes b)) 0 n n (zero-add n)
 
 pub jobs_none : (bytes : List ℕ) → jobs_at bytes 0 ≡ []
 unfolding jobs_at

@@ -1,8 +1,8 @@
--- Where the bytes are a file, no rule of the format stands.
+-- Where the bytes are a file, no rule of the format is broken.
 use Rattle.std.proofs.Common.{◌≡◌, ℕ, zero, suc, ◌+◌, ◌<◌, ◌≤◌, List, ◌++◌, length, None, refl, arith, ◌∙◌}
 use Rattle.std.proofs.lemmas.Bool.{le-ltb}
 use Rattle.field_words.specs.{Words.u32_at, Questions.Question, Questions.first_of, Questions.each}
-use Rattle.field_words.proofs.Questions.{passes, stands_none}
+use Rattle.field_words.proofs.Questions.{passes, first_none}
 use Rattle.job_format.specs.Faults.{header_questions, entry_questions, buffer_questions, job_entry_questions, job_questions, content_questions, parts_questions, end_questions, last_questions, rest_questions, jobs_and_rest_questions, body_questions, format_questions}
 use Rattle.job_format.specs.Offsets.{version_in, slot_count, buffer_count, job_count, entry_offset, job_offset, handles_offset, bin_offset, records_offset, uniforms_offset, end_offset}
 use Rattle.job_format.proofs.{Found.contents_in, Passing.HeaderPasses, Passing.EntryPasses, Passing.JobPasses, Passing.Passes}
@@ -25,7 +25,7 @@ header_none : (bytes : List ℕ) → HeaderPasses bytes → first_of (header_que
 unfolding header_questions
 header_none bytes p =
     let v : ℕ = version_in bytes in
-    stands_none (header_questions bytes) (
+    first_none (header_questions bytes) (
       grind (arith, p.size),
       (
         grind (arith, p.letters),
@@ -42,12 +42,12 @@ header_none bytes p =
 entry_none : (bytes : List ℕ) (at : ℕ) → EntryPasses bytes at → first_of (entry_questions bytes at) ≡ None
 unfolding entry_questions
 entry_none bytes at p =
-    stands_none (entry_questions bytes at) (grind (arith, p.size), (grind (arith, p.kind), (grind (arith, p.code), tt)))
+    first_none (entry_questions bytes at) (grind (arith, p.size), (grind (arith, p.kind), (grind (arith, p.code), tt)))
 
 job_none : (bytes : List ℕ) (at : ℕ) → JobPasses bytes at → first_of (job_entry_questions bytes at) ≡ None
 unfolding job_entry_questions
 job_none bytes at p =
-    stands_none (job_entry_questions bytes at) (
+    first_none (job_entry_questions bytes at) (
       grind (arith, p.size),
       (
         grind (arith, p.flags),
@@ -71,11 +71,11 @@ parts_none : (bytes : List ℕ) (j : ℕ) → handles_offset bytes (j + 1) ≤ l
 unfolding parts_questions end_offset uniforms_offset records_offset bin_offset
 parts_none bytes j inside =
     let step = handles_offset_step bytes j in
-    stands_none (parts_questions bytes j) (le-ltb _ _ (omega arith), (le-ltb _ _ (omega arith), (le-ltb _ _ (omega arith), (le-ltb _ _ (omega arith), tt))))
+    first_none (parts_questions bytes j) (le-ltb _ _ (omega arith), (le-ltb _ _ (omega arith), (le-ltb _ _ (omega arith), (le-ltb _ _ (omega arith), tt))))
 
 end_none : (bytes : List ℕ) → handles_offset bytes (job_count bytes) ≡ length bytes → first_of (end_questions bytes) ≡ None
 unfolding end_questions
-end_none bytes end = stands_none (end_questions bytes) (le-ltb _ _ (omega arith), tt)
+end_none bytes end = first_none (end_questions bytes) (le-ltb _ _ (omega arith), tt)
 
 pub format_none : (bytes : List ℕ) → Passes bytes → first_of (format_questions bytes) ≡ None
 unfolding format_questions buffer_questions job_questions content_questions
@@ -90,7 +90,7 @@ format_none bytes p =
     each_passes (job_questions bytes) 0 jobs (λ k from to. job_none bytes (job_offset bytes k) (p.job k (omega arith))) in
     let contents : first_of (each (content_questions bytes) 0 n) ≡ None =
     each_passes (content_questions bytes) 0 n
-    (λ k from to. let ends = content_ends bytes k n (omega arith) in stands_none (content_questions bytes k) (le-ltb _ _ (omega arith), tt)) in
+    (λ k from to. let ends = content_ends bytes k n (omega arith) in first_none (content_questions bytes k) (le-ltb _ _ (omega arith), tt)) in
     let parts : first_of (each (parts_questions bytes) 0 jobs) ≡ None =
     each_passes (parts_questions bytes) 0 jobs (λ k from to. let ends = parts_end bytes (k + 1) jobs (omega arith) in parts_none bytes k (omega arith)) in
     let last : first_of (last_questions bytes) ≡ None = both_pass (each (parts_questions bytes) 0 jobs) (end_questions bytes) parts (end_none bytes end) in

@@ -1,14 +1,14 @@
--- The text of a file that fits and is well formed: no rule of the format stands, and it holds that file.
+-- The text of a file that fits and is well formed: no rule of the format is broken, and it holds that file.
 use Rattle.std.proofs.Common.{◌≡◌, ℕ, zero, suc, ◌+◌, ◌*◌, ◌%◌, ◌<◌, ◌≤◌, ◌^◌, Bool, true, false, List, [], ◌∷◌, ◌++◌, length, map, drop, get_or, refl, sym, ap, subst, arith, ◌∙◌, append_assoc}
 use Rattle.std.proofs.lemmas.List.{append-nil}
 use Rattle.std.specs.List.{flat_map, AllByRecursion, range_with_len}
-use Rattle.field_words.specs.{Sizes.most_list, Sizes.most_code, Words.u32_at, Pieces.IsPiece, Pieces.joined, WordBytes.word}
+use Rattle.field_words.specs.{Sizes.most_list, Sizes.most_code, Words.u32_at, Pieces.IsPiece, Pieces.joined_texts, WordBytes.word}
 use Rattle.field_words.proofs.Numbers.{u32_of_piece}
 use Rattle.buffer_table.specs.{declared.buffer.Kind.Kind, declared.buffer.Kind.TheVariants.Plain, declared.buffer.Kind.TheVariants.Code}
 use Rattle.buffer_table.specs.declared.buffer.Buffer.{Buffer}
 use Rattle.job_format.specs.Text.{flag, kind_number, header_text, buffer_text, job_text, parts_text, file_text}
 use Rattle.job_format.specs.Offsets.{most_buffers, most_handles, most_jobs, most_first, most_states, version_in, slot_count, buffer_count, job_count, entry_offset, job_offset, job_word, content_size, content_offset, handles_offset, bin_offset, records_offset, uniforms_offset, end_offset}
-use Rattle.job_format.specs.Reading.{cut, regions_at, entry_at, words_at, buffers_at, contents_at, job_at, jobs_at, file_at}
+use Rattle.job_format.specs.Reading.{bytes_cut, regions_at, entry_at, words_at, buffers_at, contents_at, job_at, jobs_at, file_at}
 use Rattle.job_format.specs.Model.{JobModel, FileModel}
 use Rattle.job_format.specs.File.{BufferFits, JobFits, FitsShader, IsJobWellFormed, IsFileOf}
 use Rattle.job_format.proofs.Standing.{content_offset_first, content_offset_step, handles_offset_first, handles_offset_step}
@@ -77,8 +77,8 @@ entries_pass bytes k (b ∷ bs) read code (suc i) below =
 
 -- The contents from buffer k on are the texts.
 contents_back : (bytes : List ℕ) (k : ℕ) (bs : List Buffer) (cs : List (List ℕ)) (rest : List ℕ) → EntriesRead bytes k bs → map length cs ≡ map (λ b. b.content) bs
-    → IsTail bytes (content_offset bytes k) (joined cs ++ rest)
-    → (map (λ b. cut bytes (content_offset bytes b) (content_size bytes b)) (range_with_len k (length bs)) ≡ cs) × IsTail bytes (content_offset bytes (k + length bs)) rest
+    → IsTail bytes (content_offset bytes k) (joined_texts cs ++ rest)
+    → (map (λ b. bytes_cut bytes (content_offset bytes b) (content_size bytes b)) (range_with_len k (length bs)) ≡ cs) × IsTail bytes (content_offset bytes (k + length bs)) rest
 contents_back bytes k [] [] rest read same tail = (refl, subst (λ p. IsTail bytes (content_offset bytes p) rest) (omega arith) tail)
 contents_back bytes k [] (c ∷ cs) rest read same tail = absurd (omega (arith, ap length same))
 contents_back bytes k (b ∷ bs) [] rest read same tail = absurd (omega (arith, ap length same))
@@ -86,12 +86,12 @@ contents_back bytes k (b ∷ bs) (c ∷ cs) rest read same tail =
     let head : length c ≡ b.content = ap (λ xs. get_or xs 0 0) same in
     let others : map length cs ≡ map (λ b. b.content) bs = ap (drop 1) same in
     let size : content_size bytes k ≡ length c = read.0.content ∙ sym head in
-    let regrouped : IsTail bytes (content_offset bytes k) (c ++ (joined cs ++ rest)) =
-    subst (λ t. IsTail bytes (content_offset bytes k) t) (append_assoc c (joined cs) rest) tail in
-    let piece : IsPiece bytes (content_offset bytes k) (content_size bytes k) c = tail_front bytes (content_offset bytes k) (content_size bytes k) c (joined cs ++ rest) (sym size) regrouped in
-    let after = tail_rest bytes (content_offset bytes k) (content_size bytes k) (content_offset bytes (k + 1)) c (joined cs ++ rest) (sym size) (content_offset_step bytes k) regrouped in
+    let regrouped : IsTail bytes (content_offset bytes k) (c ++ (joined_texts cs ++ rest)) =
+    subst (λ t. IsTail bytes (content_offset bytes k) t) (append_assoc c (joined_texts cs) rest) tail in
+    let piece : IsPiece bytes (content_offset bytes k) (content_size bytes k) c = tail_front bytes (content_offset bytes k) (content_size bytes k) c (joined_texts cs ++ rest) (sym size) regrouped in
+    let after = tail_rest bytes (content_offset bytes k) (content_size bytes k) (content_offset bytes (k + 1)) c (joined_texts cs ++ rest) (sym size) (content_offset_step bytes k) regrouped in
     let more = contents_back bytes (k + 1) bs cs rest read.1 others after in (
-      ap (λ x. x ∷ map (λ i. cut bytes (content_offset bytes i) (content_size bytes i)) (range_with_len (k + 1) (length bs))) piece.same ∙ ap (λ xs. c ∷ xs) more.0,
+      ap (λ x. x ∷ map (λ i. bytes_cut bytes (content_offset bytes i) (content_size bytes i)) (range_with_len (k + 1) (length bs))) piece.same ∙ ap (λ xs. c ∷ xs) more.0,
       subst (λ p. IsTail bytes (content_offset bytes p) rest) (omega arith) more.1,
     )
 
@@ -171,9 +171,9 @@ jobs_pass bytes k (j ∷ js) read well first (suc i) below =
 -- What the bytes of the parts of job k say.
 record PartsRead (bytes : List ℕ) (k : ℕ) (j : JobModel) : Type 0 where
   handles : words_at bytes (handles_offset bytes k) (job_word bytes k 8) ≡ j.handles
-  bin : cut bytes (bin_offset bytes k) (job_word bytes k 12) ≡ j.bin
-  records : cut bytes (records_offset bytes k) (job_word bytes k 16) ≡ j.records
-  uniforms : cut bytes (uniforms_offset bytes k) (job_word bytes k 24) ≡ j.uniforms
+  bin : bytes_cut bytes (bin_offset bytes k) (job_word bytes k 12) ≡ j.bin
+  records : bytes_cut bytes (records_offset bytes k) (job_word bytes k 16) ≡ j.records
+  uniforms : bytes_cut bytes (uniforms_offset bytes k) (job_word bytes k 24) ≡ j.uniforms
 
 parts_back : (bytes : List ℕ) (k : ℕ) (j : JobModel) (rest : List ℕ) → JobFits j → JobReads bytes (job_offset bytes k) j → IsTail bytes (handles_offset bytes k) (parts_text j ++ rest)
     → PartsRead bytes k j × IsTail bytes (handles_offset bytes (k + 1)) rest
@@ -220,7 +220,7 @@ all_parts_back bytes k (j ∷ js) rest fit read tail =
       subst (λ p. IsTail bytes (handles_offset bytes p) rest) (omega arith) more.1,
     )
 
-text_is : (f : FileModel) → file_text f ≡ header_text f ++ (flat_map buffer_text f.buffers ++ (flat_map job_text f.jobs ++ (joined f.contents ++ flat_map parts_text f.jobs)))
+text_is : (f : FileModel) → file_text f ≡ header_text f ++ (flat_map buffer_text f.buffers ++ (flat_map job_text f.jobs ++ (joined_texts f.contents ++ flat_map parts_text f.jobs)))
 unfolding file_text
 text_is f = refl
 
@@ -241,7 +241,7 @@ file_reads bytes f is =
     let few_buffers = w.buffers in
     let few_jobs = w.few_jobs in
     let parts : List ℕ = flat_map parts_text f.jobs in
-    let contents : List ℕ = joined f.contents in
+    let contents : List ℕ = joined_texts f.contents in
     let after_buffers : List ℕ = flat_map job_text f.jobs ++ (contents ++ parts) in
     let after_header : List ℕ = flat_map buffer_text f.buffers ++ after_buffers in
     let t0 : IsTail bytes 0 (header_text f ++ after_header) = whole_tail bytes (header_text f ++ after_header) (is.text ∙ text_is f) in
@@ -267,7 +267,7 @@ file_reads bytes f is =
       header = header;
       entries = e.0;
       job_entries = j.0;
-      contents = ap (λ n. map (λ b. cut bytes (content_offset bytes b) (content_size bytes b)) (range_with_len 0 n)) count ∙ c.0;
+      contents = ap (λ n. map (λ b. bytes_cut bytes (content_offset bytes b) (content_size bytes b)) (range_with_len 0 n)) count ∙ c.0;
       jobs = ap (λ n. map (job_at bytes) (range_with_len 0 n)) jobs_count ∙ p.0;
       end = sym last_place ∙ end_of_tail bytes (handles_offset bytes (0 + length f.jobs)) p.1;
     }

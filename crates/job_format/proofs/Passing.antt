@@ -1,7 +1,7 @@
--- What each part of a file has where no rule of the format stands.
+-- What each part of a file has where no rule of the format is broken.
 use Rattle.std.proofs.Common.{◌≡◌, ℕ, ◌+◌, ◌-◌, ◌%◌, ◌<◌, ◌≤◌, List, length, None, get_or, refl, ap, arith}
 use Rattle.field_words.specs.{Sizes.most_list, Sizes.most_code, Words.u32_at, Questions.Question, Questions.first_of, Questions.each}
-use Rattle.field_words.proofs.{Questions.none_stands, Nones.front_none, Nones.rest_none, Nones.each_none}
+use Rattle.field_words.proofs.{Questions.none_broken, Nones.front_none, Nones.rest_none, Nones.each_none}
 use Rattle.job_format.specs.Faults.{magic, header_questions, entry_questions, buffer_questions, job_entry_questions, job_questions, content_questions, parts_questions, end_questions, last_questions, rest_questions, jobs_and_rest_questions, body_questions, format_questions}
 use Rattle.job_format.specs.Offsets.{most_buffers, most_handles, most_jobs, most_first, most_states, version_in, slot_count, buffer_count, job_count, entry_offset, job_offset, handles_offset, end_offset}
 use Rattle.job_format.specs.{declared.rule.FormatFault.FormatFault, Whole.HasParts}
@@ -45,7 +45,7 @@ pub record JobPasses (bytes : List ℕ) (at : ℕ) : Type 0 where
 header_passes : (bytes : List ℕ) → first_of (header_questions bytes) ≡ None → HeaderPasses bytes
 unfolding header_questions
 header_passes bytes none =
-    let n = none_stands (header_questions bytes) none in
+    let n = none_broken (header_questions bytes) none in
     let version = version_passes (version_in bytes) n.1.1.0 in
     let buffers = buffers_pass (version_in bytes) (buffer_count bytes) n.1.1.1.0 in
     let jobs = jobs_pass (version_in bytes) (job_count bytes) n.1.1.1.1.0 in
@@ -65,7 +65,7 @@ header_passes bytes none =
 entry_passes : (bytes : List ℕ) (at : ℕ) → first_of (entry_questions bytes at) ≡ None → EntryPasses bytes at
 unfolding entry_questions
 entry_passes bytes at none =
-    let n = none_stands (entry_questions bytes at) none in
+    let n = none_broken (entry_questions bytes at) none in
     record {
       size = grind (arith, n.0);
       kind = grind (arith, n.1.0);
@@ -75,7 +75,7 @@ entry_passes bytes at none =
 job_passes : (bytes : List ℕ) (at : ℕ) → first_of (job_entry_questions bytes at) ≡ None → JobPasses bytes at
 unfolding job_entry_questions
 job_passes bytes at none =
-    let n = none_stands (job_entry_questions bytes at) none in
+    let n = none_broken (job_entry_questions bytes at) none in
     let rest = n.1.1.1.1.1 in
     let handles = handles_pass (version_in bytes) (u32_at bytes (at + 8)) n.1.1.0 in
     record {
@@ -102,11 +102,11 @@ pub record Passes (bytes : List ℕ) : Type 0 where
 
 parts_inside : (bytes : List ℕ) (j : ℕ) → first_of (parts_questions bytes j) ≡ None → end_offset bytes j ≤ length bytes
 unfolding parts_questions
-parts_inside bytes j none = let n = none_stands (parts_questions bytes j) none in grind (arith, n.1.1.1.0)
+parts_inside bytes j none = let n = none_broken (parts_questions bytes j) none in grind (arith, n.1.1.1.0)
 
 end_inside : (bytes : List ℕ) → first_of (end_questions bytes) ≡ None → length bytes ≤ handles_offset bytes (job_count bytes)
 unfolding end_questions
-end_inside bytes none = let n = none_stands (end_questions bytes) none in grind (arith, n.0)
+end_inside bytes none = let n = none_broken (end_questions bytes) none in grind (arith, n.0)
 
 -- the parts of the last job end with the file
 ends_with : (bytes : List ℕ) → 1 ≤ job_count bytes → first_of (last_questions bytes) ≡ None → handles_offset bytes (job_count bytes) ≡ length bytes

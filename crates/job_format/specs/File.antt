@@ -110,9 +110,9 @@ pub record IsWellFormed (f : FileModel) : Type 0 where
   pub few_jobs : length f.jobs ≤ most_jobs
   pub jobs : AllByRecursion IsJobWellFormed f.jobs
 
--- the same file as version 2
-abbrev pub upgraded : FileModel → FileModel
-upgraded f = record { version = 2; mem_size = f.mem_size; regions = f.regions; buffers = f.buffers; contents = f.contents; jobs = f.jobs }
+-- a file as version 2
+abbrev pub file_upgraded : FileModel → FileModel
+file_upgraded f = record { version = 2; mem_size = f.mem_size; regions = f.regions; buffers = f.buffers; contents = f.contents; jobs = f.jobs }
 
 -- The bytes are this file.
 pub record IsFileOf (bytes : List ℕ) (f : FileModel) : Type 0 where

@@ -1,4 +1,4 @@
--- The file that bytes hold, field by field, each at its place. Where no rule of the format stands
+-- The file that bytes hold, field by field, each at its place. Where no rule of the format is broken
 -- this is the one file whose text the bytes are.
 use Rattle.std.specs.Prelude.{ℕ, ◌+◌, ◌*◌, ◌==◌, List, [], ◌∷◌, map, take, drop, slice_index, if◌then◌else◌}
 use Rattle.std.specs.List.{range_with_len}
@@ -9,8 +9,8 @@ use Rattle.job_format.specs.Offsets.{version_in, buffer_count, job_count, entry_
 use Rattle.job_format.specs.{declared.file.Surface.Surface, declared.file.Frame.Frame, Model.JobModel, Model.FileModel}
 
 -- n bytes from a place on
-abbrev pub cut : List ℕ → ℕ → ℕ → List ℕ
-cut bytes at n = take n (drop at bytes)
+abbrev pub bytes_cut : List ℕ → ℕ → ℕ → List ℕ
+bytes_cut bytes at n = take n (drop at bytes)
 
 abbrev pub kind_of : ℕ → Kind
 kind_of n = if n == 1 then Code else Plain
@@ -47,16 +47,16 @@ unfoldable pub buffers_at : List ℕ → ℕ → List Buffer
 buffers_at bytes n = map (λ b. entry_at bytes (entry_offset b)) (range_with_len 0 n)
 
 unfoldable pub contents_at : List ℕ → ℕ → List (List ℕ)
-contents_at bytes n = map (λ b. cut bytes (content_offset bytes b) (content_size bytes b)) (range_with_len 0 n)
+contents_at bytes n = map (λ b. bytes_cut bytes (content_offset bytes b) (content_size bytes b)) (range_with_len 0 n)
 
 unfoldable pub job_at : List ℕ → ℕ → JobModel
 job_at bytes j = record {
   client = u32_at bytes (job_offset bytes j);
   handles = words_at bytes (handles_offset bytes j) (job_word bytes j 8);
-  bin = cut bytes (bin_offset bytes j) (job_word bytes j 12);
-  records = cut bytes (records_offset bytes j) (job_word bytes j 16);
+  bin = bytes_cut bytes (bin_offset bytes j) (job_word bytes j 12);
+  records = bytes_cut bytes (records_offset bytes j) (job_word bytes j 16);
   declared = job_word bytes j 20;
-  uniforms = cut bytes (uniforms_offset bytes j) (job_word bytes j 24);
+  uniforms = bytes_cut bytes (uniforms_offset bytes j) (job_word bytes j 24);
   frame = frame_at bytes (job_offset bytes j);
 }
 

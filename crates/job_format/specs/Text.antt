@@ -1,7 +1,7 @@
 -- The text of a job file: its parts, one after the other. All numbers are little
 -- endian.
 use Rattle.std.specs.Prelude.{ℕ, Bool, true, false, List, [], ◌∷◌, ◌++◌, length, codes, flat_map}
-use Rattle.field_words.specs.{Pieces.joined, WordBytes.half, WordBytes.word}
+use Rattle.field_words.specs.{Pieces.joined_texts, WordBytes.half, WordBytes.word}
 use Rattle.buffer_table.specs.{declared.buffer.Kind.Kind, declared.buffer.Kind.TheVariants.Plain, declared.buffer.Kind.TheVariants.Code}
 use Rattle.buffer_table.specs.declared.buffer.Buffer.{Buffer}
 use Rattle.job_format.specs.{declared.file.Surface.Surface, declared.file.Frame.Frame, Model.JobModel, Model.FileModel}
@@ -40,4 +40,4 @@ parts_text j = flat_map word j.handles ++ (j.bin ++ (j.records ++ j.uniforms))
 
 -- the whole file
 unfoldable pub file_text : FileModel → List ℕ
-file_text f = header_text f ++ (flat_map buffer_text f.buffers ++ (flat_map job_text f.jobs ++ (joined f.contents ++ flat_map parts_text f.jobs)))
+file_text f = header_text f ++ (flat_map buffer_text f.buffers ++ (flat_map job_text f.jobs ++ (joined_texts f.contents ++ flat_map parts_text f.jobs)))

@@ -76,7 +76,7 @@ fn job_of(alloc: Global, job: &JobParts) -> Result<Job, AllocError>
     })
 }
 
-/// The same of all jobs.
+/// Copies of all jobs.
 fn jobs_of(alloc: Global, jobs: &[JobParts]) -> Result<Vec<Job>, AllocError>
     ensures { IfOk result (λ v. map job_view v.items ≡ map job_parts_view jobs.now) }
 {
@@ -129,7 +129,7 @@ fn parts_of_job<'a>(job: &'a Job) -> JobParts<'a>
     }
 }
 
-/// The same of all jobs.
+/// The parts of all jobs.
 fn parts_of_jobs<'a>(alloc: Global, jobs: &'a [Job]) -> Result<Vec<JobParts<'a>>, AllocError>
     ensures { IfOk result (λ v. map job_parts_view v.items ≡ map job_view jobs.now) }
 {

@@ -1,4 +1,4 @@
-//! The values of a job file of which no format rule stands.
+//! The values of a job file in which no format rule is broken.
 ghost use Rattle.std.specs.Prelude.{◌≡◌, ◌↔◌, ◌+◌, ◌*◌, ◌<◌, ◌≤◌, length, map, None, IfOk};
 ghost use Rattle.field_words.specs.Words.{u32_at};
 ghost use Rattle.field_words.specs.Questions.{first_of, Answers, NamesFirst, NeverHidesFault};
@@ -8,7 +8,7 @@ ghost use Rattle.job_format.specs.Model.{FileModel, file_view};
 ghost use Rattle.job_format.specs.Parts.{job_parts_view, parts_view};
 ghost use Rattle.job_format.specs.Offsets.{header_size, entry_size, job_size, most_buffers, most_handles, most_jobs, buffer_count, job_count, entry_offset, job_offset, job_word, content_offset, handles_offset, bin_offset, records_offset, uniforms_offset, end_offset};
 ghost use Rattle.job_format.specs.Whole.{HasParts};
-ghost use Rattle.job_format.specs.Reading.{cut, regions_at, entry_at, surface_at, frame_at, kind_of, words_at, buffers_at, contents_at, job_at, jobs_at, file_at};
+ghost use Rattle.job_format.specs.Reading.{bytes_cut, regions_at, entry_at, surface_at, frame_at, kind_of, words_at, buffers_at, contents_at, job_at, jobs_at, file_at};
 
 use crate::faults::{content_size, format_fault};
 use crate::file::{Frame, JobFile, Surface};
@@ -126,7 +126,7 @@ fn buffers(alloc: Global, bytes: &[u8], count: usize) -> Result<Vec<Buffer>, All
 /// `size` bytes from `at` on.
 fn bytes_at(bytes: &[u8], at: usize, size: usize) -> &[u8]
     requires inside { at + size ≤ length bytes.now }
-    ensures { result.now ≡ cut bytes.now at size }
+    ensures { result.now ≡ bytes_cut bytes.now at size }
 {
     &bytes[at..at + size]
 }
@@ -255,7 +255,7 @@ pub fn read_parts<'a>(alloc: Global, bytes: &'a [u8]) -> Result<FileParts<'a>, S
     ensures memory { NeverHidesFault (format_questions bytes.now) result }
     // The file that is read is the one that the bytes spell.
     ensures found { IfOk result (λ f. IsFileOf bytes.now (parts_view f)) }
-    // No rule stands exactly where a file belongs to the bytes.
+    // No rule is broken exactly where a file belongs to the bytes.
     ensures exact { (first_of (format_questions bytes.now) ≡ None)
         ↔ ((f : FileModel) × IsFileOf bytes.now f) }
     // Bytes that spell a file are read, unless memory runs out.
@@ -274,7 +274,7 @@ fn file(alloc: Global, bytes: &[u8]) -> Result<JobFile, Stop<FormatFault>>
     Ok(parts.to_file(alloc)?)
 }
 
-/// The same, with contents and lists of its own.
+/// The file that was read, with contents and lists of its own.
 pub fn read_job(alloc: Global, bytes: &[u8]) -> Result<JobFile, Stop<FormatFault>>
     ensures read { Answers (format_questions bytes.now)
         (λ f. file_view f ≡ file_at bytes.now) result }

@@ -29,7 +29,7 @@ pub struct Rule {
     pub number: u8,
 }
 
-/// Why a file was refused: the first rule that stands, and the offset in the file of what it is
+/// Why a file was refused: the first broken rule, and the offset in the file of what it is
 /// about.
 #[derive(Clone, Copy, Debug, PartialEq, Eq, Error)]
 #[error("{rule} at byte {offset} of the job file")]
@@ -71,7 +71,7 @@ impl FormatRule {
     }
 }
 
-/// The first format rule that stands: F`number` at `offset` in the file.
+/// The first broken format rule: F`number` at `offset` in the file.
 #[derive(Clone, Copy, Debug, PartialEq, Eq, Error)]
 #[error("F{number} at byte {offset} of the job file")]
 pub struct FormatFault {

@@ -2,7 +2,7 @@
 ghost use Rattle.std.specs.Prelude.{◌≡◌, ◌≤◌, ◌<◌, ◌^◌, ◌++◌, ℕ, List, None, length, map, OnOk, IfOk};
 ghost use Rattle.std.specs.List.{flat_map, AllByRecursion};
 ghost use Rattle.field_words.specs.Words.{IsBytes};
-ghost use Rattle.field_words.specs.Pieces.{joined};
+ghost use Rattle.field_words.specs.Pieces.{joined_texts};
 ghost use Rattle.job_format.specs.Model.{FileModel, job_view, file_view};
 ghost use Rattle.field_words.specs.WordBytes.{half, word};
 ghost use Rattle.job_format.specs.Text.{kind_number, header_text, buffer_text, surface_text, frame_text, job_text, parts_text, file_text};
@@ -202,7 +202,7 @@ fn put_jobs(out: &mut Vec<u8>, jobs: &[Job]) -> Result<(), AllocError>
 
 fn put_contents(out: &mut Vec<u8>, contents: &[Vec<u8>]) -> Result<(), AllocError>
     ensures text { OnOk result (out.new.items ≡ out.old.items
-        ++ joined (map (λ c. c.items) contents.now)) }
+        ++ joined_texts (map (λ c. c.items) contents.now)) }
     ensures fits { OnOk result (AllByRecursion IsBytes (map (λ c. c.items) contents.now)) }
 {
     for content in contents {

@@ -26,7 +26,7 @@ pub record Adapted (T : Type 0) : Type 0 where
   pub inner : T
   pub faults : ℕ
 
--- what a writer holds, which is not told once it has failed
+-- what a writer holds, which is not reported once it has failed
 abbrev pub held_of : {W : Type 0} → (W → Option (List ℕ)) → Adapted W → Option (List ℕ)
 held_of contents sink = if sink.faults == 0 then contents sink.inner else None
 
@@ -34,14 +34,14 @@ held_of contents sink = if sink.faults == 0 then contents sink.inner else None
 abbrev pub piece_size : ℕ
 piece_size = 8192
 
--- the bytes, or none where they are not told
-abbrev pub told : Option (List ℕ) → List ℕ
-told None = []
-told (Some bytes) = bytes
+-- the bytes, or none where they are not reported
+abbrev pub bytes_reported : Option (List ℕ) → List ℕ
+bytes_reported None = []
+bytes_reported (Some bytes) = bytes
 
 -- how many bytes a source gave, by what it had left before and after
 abbrev pub count_taken : Option (List ℕ) → Option (List ℕ) → ℕ
-count_taken before now = length (told before) - length (told now)
+count_taken before now = length (bytes_reported before) - length (bytes_reported now)
 
 -- After a failure a sink holds what it held, or tells it no more.
 abbrev pub KeepsOrHides : Option (List ℕ) → Option (List ℕ) → Type 0

@@ -2,7 +2,7 @@
 //! tell of their reader or writer.
 ghost use Rattle.std.specs.Prelude.{◌≡◌, ◌≤◌, ◌<◌, length, IfOk, OnOk, OnErr};
 ghost use Rattle.std.specs.Io.KnownBytes.{ReadConsumes};
-ghost use Rattle.job_io.specs.Faults.{Rose, counted};
+ghost use Rattle.job_io.specs.Faults.{Rose, count_after};
 ghost use Rattle.job_io.specs.Traffic.{Writes, held_of};
 
 use super::traffic::{Failed, Sink, Source};
@@ -47,7 +47,7 @@ impl<R: Read> Source for ReaderSource<R> {
         ensures steady { OnOk result (self.new.faults ≡ self.old.faults) }
         ensures counted { self.old.faults ≤ self.new.faults }
 
-        ensures err { OnErr result (self.new.faults ≡ counted self.old.faults) }
+        ensures err { OnErr result (self.new.faults ≡ count_after self.old.faults) }
     {
         match self.reader.read(buf) {
             Ok(count) => Ok(count),
@@ -100,7 +100,7 @@ impl<W: Write> Sink for WriterSink<W> {
         ensures steady { OnOk result (self.new.faults ≡ self.old.faults) }
         ensures counted { self.old.faults ≤ self.new.faults }
 
-        ensures err { OnErr result (self.new.faults ≡ counted self.old.faults) }
+        ensures err { OnErr result (self.new.faults ≡ count_after self.old.faults) }
     {
         if let Ok(count) = self.writer.write(part) {
             if (count > 0 || part.is_empty()) && self.writer.flush().is_ok() {

@@ -1,7 +1,7 @@
 //! A source and a sink in memory, which fail at chosen calls.
 ghost use Rattle.std.specs.Prelude.{◌≡◌, ◌-◌, ◌≤◌, ◌<◌, ◌↔◌, ◌⊎◌, [], length, drop, min, Contains, IfOk, OnOk, IsOk, IsErr, IfErr, OnErr, Some};
 ghost use Rattle.std.specs.Io.KnownBytes.{ReadConsumes};
-ghost use Rattle.job_io.specs.Faults.{Rose, counted};
+ghost use Rattle.job_io.specs.Faults.{Rose, count_after};
 ghost use Rattle.job_io.specs.Traffic.{Writes};
 
 use super::give::give;
@@ -80,9 +80,10 @@ impl Source for MemSource {
         ensures count { IfOk result (λ n. n
             ≡ min self.old.piece (min (length buf.new) (length self.old.left))) }
         ensures err { OnErr result (self.new
-            ≡ record self.old { call = counted self.old.call; faults = counted self.old.faults }) }
+            ≡ record self.old { call = count_after self.old.call; faults = count_after
+            self.old.faults }) }
         ensures ok { IfOk result (λ n. self.new
-            ≡ record self.old { call = counted self.old.call; left = drop n self.old.left }) }
+            ≡ record self.old { call = count_after self.old.call; left = drop n self.old.left }) }
     {
         let failed = self.failing.contains(&self.call);
         self.call = self.call.saturating_add(1);
@@ -184,11 +185,12 @@ impl Sink for MemSink {
             ⊎ (self.old.room < min self.old.piece (length part.now))) }
         ensures count { IfOk result (λ n. n ≡ min self.old.piece (length part.now)) }
         ensures err { OnErr result (self.new
-            ≡ record self.old { call = counted self.old.call; faults = counted self.old.faults }) }
+            ≡ record self.old { call = count_after self.old.call; faults = count_after
+            self.old.faults }) }
         ensures room { IfOk result (λ n. self.new.room ≡ self.old.room - n) }
         ensures ok { OnOk result (self.new
             ≡ record self.old {
-              call = counted self.old.call;
+              call = count_after self.old.call;
               held = self.new.held;
               room
                   = self.new.room;

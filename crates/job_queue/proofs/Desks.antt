@@ -5,7 +5,7 @@ use Rattle.std.proofs.lemmas.Bool.Decides.{nat_tests}
 use Rattle.std.specs.Prelude.{slice_index, slice_set}
 use Rattle.job_queue.specs.declared.queue.QueueFault.TheVariants.{Full, Binning, NoJob, Waits, NotBinning, NotBinned}
 use Rattle.job_queue.specs.Past.{Job, Past, none_yet, is_in, meet, last_before, last_writer, reads_of, first_unknown, submit_answer, start_answer, bin_answer, render_answer, after_submit, after_start, after_bin, after_render}
-use Rattle.job_queue.specs.{declared.queue.QueueFault.QueueFault, Desk.Desk, Desk.Agrees, Desk.greatest, Desk.written}
+use Rattle.job_queue.specs.{declared.queue.QueueFault.QueueFault, Desk.Desk, Desk.Agrees, Desk.greatest, Desk.writers_after}
 use Rattle.job_queue.specs.Past as past
 use Rattle.job_queue.proofs.Writers.{greatest_is, all_before, with_last, writer_last, writer_old, written_at, written_size}
 
@@ -103,7 +103,7 @@ size_more jobs job = length-append jobs (job ∷ [])
 
 -- what is kept for a buffer when a job has come
 writers_more : (p : Past) (desk : Desk) (reads writes : List ℕ) → Agrees p desk → (buffer : ℕ) → buffer < p.buffers
-    → slice_index (written desk.writers writes (desk.submitted + 1)) buffer ≡ last_before (buffer ∷ []) (length (jobs_with p reads writes) + 1) (jobs_with p reads writes) 1 0
+    → slice_index (writers_after desk.writers writes (desk.submitted + 1)) buffer ≡ last_before (buffer ∷ []) (length (jobs_with p reads writes) + 1) (jobs_with p reads writes) 1 0
 unfolding meet
 writers_more p desk reads writes agrees buffer inside =
     let job : Job = record { reads = reads; writes = writes } in
@@ -143,7 +143,7 @@ waits_more p desk reads writes size none room agrees job low inside false is =
     ∙ agrees.waits job low before
     ∙ sym (writer_old p.jobs (record { reads = reads; writes = writes }) job before)
 
-pub submit_done : (p : Past) (desk : Desk) (reads writes writers : List ℕ) (last : ℕ) → writers ≡ written desk.writers writes (desk.submitted + 1) → last ≡ greatest desk.writers 0 reads
+pub submit_done : (p : Past) (desk : Desk) (reads writes writers : List ℕ) (last : ℕ) → writers ≡ writers_after desk.writers writes (desk.submitted + 1) → last ≡ greatest desk.writers 0 reads
     → length desk.waits ≡ 4096 → first_unknown (length desk.writers) reads ≡ None → first_unknown (length desk.writers) (reads ++ writes) ≡ None
     → desk.submitted < desk.rendered + 4096 → Agrees p desk
     → (Ok (desk.submitted + 1) ≡ submit_answer p reads writes)

@@ -2,7 +2,7 @@
 use Rattle.std.proofs.Common.{◌≡◌, ℕ, ◌+◌, ◌≤◌, ◌<◌, Bool, true, false, max, nat_lt, List, [], ◌∷◌, ◌++◌, length, get_or, drop, refl, sym, ◌∙◌, ap, arith, drop-cons, add-one, Option, Some, None, if◌then◌else◌}
 use Rattle.std.proofs.{lemmas.Bool.Decides.nat_tests, lemmas.Bool.lt-ltb, lemmas.Bool.le-ltb, lemmas.List.drop_all}
 use Rattle.std.specs.Prelude.{slice_index, slice_set}
-use Rattle.job_queue.specs.{Past.first_unknown, Desk.greatest, Desk.written}
+use Rattle.job_queue.specs.{Past.first_unknown, Desk.greatest, Desk.writers_after}
 
 -- the items from one place on
 pub from_here : (xs : List ℕ) (i : ℕ) → i < length xs → drop i xs ≡ get_or xs i 0 ∷ drop (i + 1) xs
@@ -71,11 +71,11 @@ unfolding greatest
 greatest_end writers xs i found all past before = sym (ap (greatest writers found) (drop_all i xs past)) ∙ before
 
 -- a job is kept
-pub written_more : (writers xs all : List ℕ) (i job : ℕ) → i < length xs → written writers (drop i xs) job ≡ all
-    → written (slice_set writers (get_or xs i 0) job) (drop (i + 1) xs) job ≡ all
-unfolding written
-written_more writers xs all i job inside before = sym (ap (λ bs. written writers bs job) (from_here xs i inside)) ∙ before
+pub written_more : (writers xs all : List ℕ) (i job : ℕ) → i < length xs → writers_after writers (drop i xs) job ≡ all
+    → writers_after (slice_set writers (get_or xs i 0) job) (drop (i + 1) xs) job ≡ all
+unfolding writers_after
+written_more writers xs all i job inside before = sym (ap (λ bs. writers_after writers bs job) (from_here xs i inside)) ∙ before
 
-pub written_end : (writers xs all : List ℕ) (i job : ℕ) → length xs ≤ i → written writers (drop i xs) job ≡ all → writers ≡ all
-unfolding written
-written_end writers xs all i job past before = sym (ap (λ bs. written writers bs job) (drop_all i xs past)) ∙ before
+pub written_end : (writers xs all : List ℕ) (i job : ℕ) → length xs ≤ i → writers_after writers (drop i xs) job ≡ all → writers ≡ all
+unfolding writers_after
+written_end writers xs all i job past before = sym (ap (λ bs. writers_after writers bs job) (drop_all i xs past)) ∙ before

@@ -51,33 +51,33 @@ first_part bytes later is = rw is refl
 
 no_number_by : (bytes first : List ℕ) (all same : Bool) → (length (before 44 bytes) == length bytes) ≡ same → first ≡ before 44 bytes → is_some (number_within last_number first) ≡ false
     → are_all_numbers (parts_of bytes) ≡ all → false ≡ all
-no_number_by bytes first all true same cut none told =
+no_number_by bytes first all true same cut none report =
     let e : length (before 44 bytes) ≡ length bytes = grind (arith, nat_tests) in
     let here : is_some (number_within last_number (before 44 bytes)) ≡ false = ap (λ w. is_some (number_within last_number w)) (sym cut) ∙ none in
-    sym (first_part bytes [] (whole bytes e).0 ∙ ap (λ b. b && are_all_numbers []) here) ∙ told
-no_number_by bytes first all false same cut none told =
+    sym (first_part bytes [] (whole bytes e).0 ∙ ap (λ b. b && are_all_numbers []) here) ∙ report
+no_number_by bytes first all false same cut none report =
     let apart : length (before 44 bytes) ≡ length bytes → ⊥ = λ e. absurd (false≢true (sym same ∙ eq-eqb _ _ e)) in
     let here : is_some (number_within last_number (before 44 bytes)) ≡ false = ap (λ w. is_some (number_within last_number w)) (sym cut) ∙ none in
-    sym (first_part bytes (parts_of (behind 44 bytes)) (more bytes apart) ∙ ap (λ b. b && are_all_numbers (parts_of (behind 44 bytes))) here) ∙ told
+    sym (first_part bytes (parts_of (behind 44 bytes)) (more bytes apart) ∙ ap (λ b. b && are_all_numbers (parts_of (behind 44 bytes))) here) ∙ report
 
 pub no_number : (bytes first : List ℕ) (all : Bool) → first ≡ before 44 bytes → is_some (number_within last_number first) ≡ false → are_all_numbers (parts_of bytes) ≡ all → false ≡ all
-no_number bytes first all cut none told = no_number_by bytes first all (length (before 44 bytes) == length bytes) refl cut none told
+no_number bytes first all cut none report = no_number_by bytes first all (length (before 44 bytes) == length bytes) refl cut none report
 
 pub one_number : (bytes first : List ℕ) (all : Bool) → first ≡ before 44 bytes → is_some (number_within last_number first) ≡ true → length first ≡ length bytes
     → are_all_numbers (parts_of bytes) ≡ all → true ≡ all
 unfolding are_all_numbers
-one_number bytes first all cut is size told =
+one_number bytes first all cut is size report =
     let known = whole bytes (ap length (sym cut) ∙ size) in
     let here : is_some (number_within last_number (before 44 bytes)) ≡ true = ap (λ w. is_some (number_within last_number w)) (sym cut) ∙ is in
-    sym (first_part bytes [] known.0 ∙ ap (λ b. b && true) here) ∙ told
+    sym (first_part bytes [] known.0 ∙ ap (λ b. b && true) here) ∙ report
 
 pub more_numbers : (bytes first rest : List ℕ) (all : Bool) → first ≡ before 44 bytes → rest ≡ behind 44 bytes → is_some (number_within last_number first) ≡ true
     → (length first ≡ length bytes → ⊥) → are_all_numbers (parts_of bytes) ≡ all → are_all_numbers (parts_of rest) ≡ all
-more_numbers bytes first rest all cut after is size told =
+more_numbers bytes first rest all cut after is size report =
     let known = more bytes (λ e. size (ap length cut ∙ e)) in
     let here : is_some (number_within last_number (before 44 bytes)) ≡ true = ap (λ w. is_some (number_within last_number w)) (sym cut) ∙ is in
     ap (λ r. are_all_numbers (parts_of r)) after
-    ∙ sym (first_part bytes (parts_of (behind 44 bytes)) known ∙ ap (λ b. b && are_all_numbers (parts_of (behind 44 bytes))) here) ∙ told
+    ∙ sym (first_part bytes (parts_of (behind 44 bytes)) known ∙ ap (λ b. b && are_all_numbers (parts_of (behind 44 bytes))) here) ∙ report
 
 pub more_inside : (bytes first : List ℕ) → first ≡ before 44 bytes → (length first ≡ length bytes → ⊥) → 0 < length bytes
 more_inside bytes first cut size = some_bytes bytes (λ e. size (ap length cut ∙ e))
@@ -107,17 +107,17 @@ next bytes first rest found cut after is =
 
 pub put_one : (old all bytes first rest : List ℕ) (number : ℕ) (found : Option ℕ) → first ≡ before 44 bytes → rest ≡ behind 44 bytes → found ≡ number_within last_number first
     → found ≡ Some number → old ++ numbers_in (parts_of bytes) ≡ all → (old ++ number ∷ []) ++ numbers_in (parts_of rest) ≡ all
-put_one old all bytes first rest number found cut after is here told =
+put_one old all bytes first rest number found cut after is here report =
     append_assoc old (number ∷ []) (numbers_in (parts_of rest))
     ∙ ap (λ o. old ++ (option_to_list o ++ numbers_in (parts_of rest))) (sym here)
-    ∙ ap (λ ns. old ++ ns) (sym (next bytes first rest found cut after is)) ∙ told
+    ∙ ap (λ ns. old ++ ns) (sym (next bytes first rest found cut after is)) ∙ report
 
 pub put_none : (old all bytes first rest : List ℕ) (found : Option ℕ) → first ≡ before 44 bytes → rest ≡ behind 44 bytes → found ≡ number_within last_number first
     → found ≡ None → old ++ numbers_in (parts_of bytes) ≡ all → old ++ numbers_in (parts_of rest) ≡ all
-put_none old all bytes first rest found cut after is here told =
+put_none old all bytes first rest found cut after is here report =
     ap (λ o. old ++ (option_to_list o ++ numbers_in (parts_of rest))) (sym here)
-    ∙ ap (λ ns. old ++ ns) (sym (next bytes first rest found cut after is)) ∙ told
+    ∙ ap (λ ns. old ++ ns) (sym (next bytes first rest found cut after is)) ∙ report
 
 pub put_all : (old all rest : List ℕ) → length rest ≤ 0 → old ++ numbers_in (parts_of rest) ≡ all → old ≡ all
-put_all old all [] none told = sym (append-nil old) ∙ ap (λ ns. old ++ ns) (sym no_parts) ∙ told
-put_all old all (byte ∷ bytes) none told = absurd (omega (arith, none))
+put_all old all [] none report = sym (append-nil old) ∙ ap (λ ns. old ++ ns) (sym no_parts) ∙ report
+put_all old all (byte ∷ bytes) none report = absurd (omega (arith, none))

@@ -3,7 +3,7 @@ use Rattle.std.proofs.Common.{◌≡◌, ℕ, zero, suc, ◌+◌, ◌-◌, ◌�
 use Rattle.std.proofs.{lemmas.Bool.Decides.nat_tests, lemmas.Bool.lt-ltb, lemmas.Bool.le-ltb, lemmas.Bool.eqb-true, lemmas.Bool.eqb-false}
 use Rattle.std.specs.Prelude.{slice_index, slice_set}
 use Rattle.job_queue.specs.Past.{Job, is_in, meet, last_before, last_writer, reads_of, first_unknown}
-use Rattle.job_queue.specs.Desk.{greatest, written}
+use Rattle.job_queue.specs.Desk.{greatest, writers_after}
 use Rattle.job_queue.proofs.Loops.{known_first}
 
 -- what reads of nothing finds
@@ -126,14 +126,14 @@ kept_by writers one buffer job true false is inside =
 kept_by writers one buffer job false true is inside = refl
 kept_by writers one buffer job false false is inside = get_or-set_other writers one buffer job 0 (λ e. eqb-false one buffer is (sym e))
 
-pub written_size : (writers writes : List ℕ) (job : ℕ) → length (written writers writes job) ≡ length writers
-unfolding written
+pub written_size : (writers writes : List ℕ) (job : ℕ) → length (writers_after writers writes job) ≡ length writers
+unfolding writers_after
 written_size writers [] job = refl
 written_size writers (one ∷ writes) job = written_size (slice_set writers one job) writes job ∙ length-set writers one job
 
 pub written_at : (writers writes : List ℕ) (job buffer : ℕ) → buffer < length writers
-    → slice_index (written writers writes job) buffer ≡ (if is_in buffer writes then job else slice_index writers buffer)
-unfolding written is_in
+    → slice_index (writers_after writers writes job) buffer ≡ (if is_in buffer writes then job else slice_index writers buffer)
+unfolding writers_after is_in
 written_at writers [] job buffer inside = refl
 written_at writers (one ∷ writes) job buffer inside =
     written_at (slice_set writers one job) writes job buffer (omega (arith, length-set writers one job, inside))

@@ -39,6 +39,6 @@ greatest writers found [] = found
 greatest writers found (buffer ∷ buffers) = greatest writers (max found (slice_index writers buffer)) buffers
 
 -- the job is kept for each of these buffers
-unfoldable pub written : List ℕ → List ℕ → ℕ → List ℕ
-written writers [] job = writers
-written writers (buffer ∷ buffers) job = written (slice_set writers buffer job) buffers job
+unfoldable pub writers_after : List ℕ → List ℕ → ℕ → List ℕ
+writers_after writers [] job = writers
+writers_after writers (buffer ∷ buffers) job = writers_after (slice_set writers buffer job) buffers job

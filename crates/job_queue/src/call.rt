@@ -1,7 +1,7 @@
 //! The calls of a script.
 ghost use Rattle.std.specs.Prelude.{◌≡◌, ◌++◌, is_some, IfOk};
 ghost use Rattle.script.specs.Number.{number_within};
-ghost use Rattle.job_queue.specs.Calls.{last_number, are_numbers as numbers_told, are_buffers as buffers_told, buffers_of, call_of, is_submit as submit_told};
+ghost use Rattle.job_queue.specs.Calls.{last_number, are_numbers as numbers_reported, are_buffers as buffers_reported, buffers_of, call_of, is_submit as submit_reported};
 
 use script::{cut_at, read_number};
 use std::alloc::AllocError;
@@ -25,7 +25,7 @@ fn is_number(word: &[u8]) -> bool
 
 // Whether it is numbers parted by commas.
 fn are_numbers(word: &[u8]) -> bool
-    ensures { result ≡ numbers_told word.now }
+    ensures { result ≡ numbers_reported word.now }
 {
     let mut rest = word;
     loop {
@@ -43,14 +43,14 @@ fn are_numbers(word: &[u8]) -> bool
 // Whether it is buffers: `-`, or numbers.
 #[tactic(auto, unfolding(crate::specs::Calls::are_buffers))]
 fn are_buffers(word: &[u8]) -> bool
-    ensures { result ≡ buffers_told word.now }
+    ensures { result ≡ buffers_reported word.now }
 {
     word == b"-".as_slice() || are_numbers(word)
 }
 
 // Whether it is `submit` and two words of buffers.
 fn is_submit(line: &[u8]) -> bool
-    ensures { result ≡ submit_told line.now }
+    ensures { result ≡ submit_reported line.now }
 {
     let cut = cut_at(line, b' ');
     let buffers = cut_at(cut.rest, b' ');

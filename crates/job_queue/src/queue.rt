@@ -2,7 +2,7 @@
 ghost use Rattle.std.specs.Prelude.{◌≡◌, ◌≤◌, ◌<◌, ◌^◌, ◌++◌, length, IfOk, IfNone, None, IsErr};
 ghost use Rattle.job_queue.specs.Past.{none_yet, submit_answer, start_answer, bin_answer, render_answer, after_submit, after_start, after_bin, after_render};
 ghost use Rattle.job_queue.specs.Past.{first_unknown as unknown};
-ghost use Rattle.job_queue.specs.Desk.{Agrees, Answers, greatest, written};
+ghost use Rattle.job_queue.specs.Desk.{Agrees, Answers, greatest, writers_after};
 ghost use Rattle.job_queue.specs.Laws.{StartsLate};
 
 use field_words::NoMemory;
@@ -106,7 +106,7 @@ fn last_writer(writers: &[u64], reads: &[u32]) -> u64
 #[tactic(auto, using(crate::proofs::Loops::known_here))]
 fn set_writer(writers: &mut [u64], writes: &[u32], job: u64)
     requires { unknown (length writers.old) writes.now ≡ None }
-    ensures { writers.new ≡ written writers.old writes.now job }
+    ensures { writers.new ≡ writers_after writers.old writes.now job }
 {
     for buffer in writes {
         writers[*buffer as usize] = job;

@@ -5,40 +5,40 @@ use Rattle.std.specs.Prelude.{Option, if◌then◌else◌, nat_lt}
 use Rattle.field_words.specs.declared.access.Actor.TheVariants.{Binner as TheBinner, Renderer as TheRenderer}
 use Rattle.packets.specs.declared.packet.Packet.TheVariants.{WaitOnSemaphore, BranchToSubList, StoreTileColor, StoreTileColorAndEnd, StoreFullResolution, LoadFullResolution, StoreTileBuffer, LoadTileBuffer, TileRenderingMode, ClearColors, TileCoordinates}
 use Rattle.packets.specs.declared.{packet.Packet.Packet, config.Config.Config}
-use Rattle.packets.specs.{Length.bin_length, Length.bin_taken, Length.render_taken, Packet.decoded, Packet.packet_named}
+use Rattle.packets.specs.{Length.bin_length, Length.bin_taken, Length.render_taken, Packet.packet_decoded, Packet.packet_named}
 use Rattle.packets.specs.Opcode.{buffer_handles, wait_on_semaphore, start_tile_binning}
 use Rattle.bin_list.proofs.Walk.{taken_some}
-use Rattle.machine_plan.specs.{declared.launch.Free.Free, declared.who.Who.Who, Plan.Plan, Plan.Wilds, Plan.carried, Plan.Writes}
-use Rattle.machine_plan.specs.{Memory.bytes_at, Memory.stored, World.Safe, World.mapped}
+use Rattle.machine_plan.specs.{declared.launch.Free.Free, declared.who.Who.Who, Plan.Plan, Plan.Wilds, Plan.outcome_of, Plan.Writes}
+use Rattle.machine_plan.specs.{Memory.bytes_at, Memory.bytes_stored, World.Safe, World.plan_mapped}
 use Rattle.machine_plan.specs.Regions.{Every, Rights, IsSafeAccess, Inside, rights_of}
 use Rattle.list_machine.specs.Binner.{is_unknown, packet_plan as bin_packet_plan, read_plan, binner_plan, binner_by, binner_ready, begin_plan, clear_plan, chosen_tile, tile_plan, work_plan}
-use Rattle.list_machine.specs.Renderer.{beyond, acted, packet_plan as render_packet_plan, plan_in, renderer_plan, may_pass, renderer_ready, act}
+use Rattle.list_machine.specs.Renderer.{beyond, plan_of_packet, packet_plan as render_packet_plan, plan_in, renderer_plan, may_pass, renderer_ready, act}
 use Rattle.list_machine.specs.Blocks.{tiles_of, block_place, spot_of, is_full, next_place, link_place, zeros, put_here, put_plan}
-use Rattle.list_machine.specs.Surfaces.{names_none, aligned, whole_size, whole_written, cover_written, frame_written, general_written}
+use Rattle.list_machine.specs.Surfaces.{names_none, aligned_address, whole_size, whole_written, cover_written, frame_written, general_written}
 use Rattle.list_machine.specs.Lists.{Lists, quiet, past, binner_of, renderer_of, with_block}
 use Rattle.list_machine.specs.declared.{state.Frame.Frame, state.Work.Work, surface.Cover.Cover}
-use Rattle.list_machine.specs.{Cover.cover_for, Cover.part_count, Cover.part_place, Cover.parts_written, Store.chosen}
+use Rattle.list_machine.specs.{Cover.cover_for, Cover.part_count, Cover.part_place, Cover.parts_written, Store.bytes_chosen}
 use Rattle.list_machine.proofs.{Steps.first_byte, Storing.chosen_size}
 use Rattle.texture_layouts.specs.Format.{general_style}
 use Rattle.qpu_machine.specs.Qpu.{free_in}
 use Rattle.machine.specs.State.{Units, Picked, job_start, units_start, binner_job, renderer_job}
-use Rattle.machine.specs.{Step.Event, Step.with_lists, Step.ready, Step.turn, Step.enabled, Step.is_ahead, declared.job.Start.Start}
+use Rattle.machine.specs.{Step.Event, Step.with_lists, Step.ready, Step.turn, Step.is_enabled, Step.is_ahead, declared.job.Start.Start}
 use Rattle.job_safety.specs.Strength.{IsAtBinPacket, IsAtRenderPacket, BinListsPastAreUnsafe, RenderListsPastAreUnsafe, StrayBinPacketsAreUnsafe, StrayRenderPacketsAreUnsafe, IsStrayRender, StrayStartsAreUnsafe, StatesPastAreUnsafe, IsAtItem, PutsBy, Puts, ItemsPastAreUnsafe, IsPart, StoresFrame, Stores, StoresPastAreUnsafe}
 use Rattle.job_safety.proofs.Steps.{first_step, mapped_accesses}
 
 -- the binner at a packet
-at_bin_packet : (lists : Lists) (free : Free) (words : List ℕ) → lists.binner.work ≡ None → binner_plan lists free words ≡ mapped quiet (read_plan lists)
+at_bin_packet : (lists : Lists) (free : Free) (words : List ℕ) → lists.binner.work ≡ None → binner_plan lists free words ≡ plan_mapped quiet (read_plan lists)
 unfolding binner_plan
 at_bin_packet lists free words idle = ap (λ work. binner_by lists work free words) idle
 
 pub bin_step : (jobs : List Rights) (m : List ℕ) (u : Units) (j : ℕ) (lists : Lists) → IsAtBinPacket m u j lists → Safe ready turn jobs m u
-    → Every (IsSafeAccess jobs) (carried (binner_of j) (read_plan lists) m).accesses
-unfolding turn ready enabled
+    → Every (IsSafeAccess jobs) (outcome_of (binner_of j) (read_plan lists) m).accesses
+unfolding turn ready is_enabled
 bin_step jobs m u j lists at safe =
     let e : Event = record { unit = TheBinner; words = [] } in
-    let is : (carried (turn u e).who (turn u e).plan m).accesses ≡ (carried (binner_of j) (read_plan lists) m).accesses =
+    let is : (outcome_of (turn u e).who (turn u e).plan m).accesses ≡ (outcome_of (binner_of j) (read_plan lists) m).accesses =
     rw at.job_is (mapped_accesses (with_lists u j) (binner_of j) (binner_plan lists (free_in u.qpus) []) m
-    ∙ ap (λ plan. (carried (binner_of j) plan m).accesses) (at_bin_packet lists (free_in u.qpus) [] at.idle)
+    ∙ ap (λ plan. (outcome_of (binner_of j) plan m).accesses) (at_bin_packet lists (free_in u.qpus) [] at.idle)
     ∙ mapped_accesses quiet (binner_of j) (read_plan lists) m) in
     subst (Every (IsSafeAccess jobs)) is (first_step jobs m u e at.may safe)
 
@@ -47,18 +47,18 @@ unfolding read_plan bytes_at
 bin_lists_past_law jobs m u j lists at past safe = past (bin_step jobs m u j lists at safe).0.inside
 
 -- the renderer at a packet
-at_render_packet : (lists : Lists) (free : Free) (words : List ℕ) → lists.renderer.inside ≡ None → renderer_plan lists free words ≡ mapped quiet (render_packet_plan lists words)
+at_render_packet : (lists : Lists) (free : Free) (words : List ℕ) → lists.renderer.inside ≡ None → renderer_plan lists free words ≡ plan_mapped quiet (render_packet_plan lists words)
 unfolding renderer_plan
 at_render_packet lists free words outside = ap (λ inside. plan_in lists free words inside) outside
 
 pub render_step : (jobs : List Rights) (m : List ℕ) (u : Units) (j : ℕ) (lists : Lists) → IsAtRenderPacket m u j lists → Safe ready turn jobs m u
-    → Every (IsSafeAccess jobs) (carried (renderer_of j) (render_packet_plan lists []) m).accesses
-unfolding turn ready enabled
+    → Every (IsSafeAccess jobs) (outcome_of (renderer_of j) (render_packet_plan lists []) m).accesses
+unfolding turn ready is_enabled
 render_step jobs m u j lists at safe =
     let e : Event = record { unit = TheRenderer; words = [] } in
-    let is : (carried (turn u e).who (turn u e).plan m).accesses ≡ (carried (renderer_of j) (render_packet_plan lists []) m).accesses =
+    let is : (outcome_of (turn u e).who (turn u e).plan m).accesses ≡ (outcome_of (renderer_of j) (render_packet_plan lists []) m).accesses =
     rw at.job_is (mapped_accesses (with_lists u j) (renderer_of j) (renderer_plan lists (free_in u.qpus) []) m
-    ∙ ap (λ plan. (carried (renderer_of j) plan m).accesses) (at_render_packet lists (free_in u.qpus) [] at.outside)
+    ∙ ap (λ plan. (outcome_of (renderer_of j) plan m).accesses) (at_render_packet lists (free_in u.qpus) [] at.outside)
     ∙ mapped_accesses quiet (renderer_of j) (render_packet_plan lists []) m) in
     subst (Every (IsSafeAccess jobs)) is (first_step jobs m u e at.may safe)
 
@@ -67,7 +67,7 @@ unfolding render_packet_plan bytes_at
 render_lists_past_law jobs m u j lists at past safe = past (render_step jobs m u j lists at safe).0.inside
 
 -- bytes that are no packet
-acted_stray : (jobs : List Rights) (who : Who) (m : List ℕ) (s : Lists) (packet : Option Packet) → packet ≡ None → Every (IsSafeAccess jobs) (carried who (acted s [] packet) m).accesses → ⊥
+acted_stray : (jobs : List Rights) (who : Who) (m : List ℕ) (s : Lists) (packet : Option Packet) → packet ≡ None → Every (IsSafeAccess jobs) (outcome_of who (plan_of_packet s [] packet) m).accesses → ⊥
 acted_stray jobs who m s None none all = all.0.tame refl
 acted_stray jobs who m s (Some packet) none all = absurd cc
 
@@ -75,7 +75,7 @@ pub stray_render_law : StrayRenderPacketsAreUnsafe
 unfolding render_packet_plan bytes_at
 stray_render_law jobs m u j lists at stray safe =
     let len : ℕ = render_taken (slice_index m lists.renderer.place) in
-    acted_stray jobs (renderer_of j) m (beyond lists len) (decoded (bytes_at m lists.renderer.place len)) stray (render_step jobs m u j lists at safe).1
+    acted_stray jobs (renderer_of j) m (beyond lists len) (packet_decoded (bytes_at m lists.renderer.place len)) stray (render_step jobs m u j lists at safe).1
 
 -- a byte that begins no packet
 pub opcode_is : (m : List ℕ) (place : ℕ) → slice_index (bytes_at m place (bin_taken (slice_index m place))) 0 ≡ slice_index m place
@@ -90,12 +90,12 @@ unfolding is_unknown
 unknown opcode (inl none) = rw none refl
 unknown opcode (inr own) = is_own opcode own
 
-pub wild_where : {R : Type 0} (jobs : List Rights) (who : Who) (m : List ℕ) (wild : Bool) (plan : Plan R) → wild ≡ true → Every (IsSafeAccess jobs) (carried who (if wild then Wilds else plan) m).accesses → ⊥
+pub wild_where : {R : Type 0} (jobs : List Rights) (who : Who) (m : List ℕ) (wild : Bool) (plan : Plan R) → wild ≡ true → Every (IsSafeAccess jobs) (outcome_of who (if wild then Wilds else plan) m).accesses → ⊥
 wild_where jobs who m true plan is all = all.0.tame refl
 wild_where jobs who m false plan is all = absurd cc
 
 packet_stray : (jobs : List Rights) (who : Who) (m : List ℕ) (s : Lists) (packet : List ℕ) → is_unknown (slice_index packet 0) ≡ true
-    → Every (IsSafeAccess jobs) (carried who (bin_packet_plan s packet) m).accesses → ⊥
+    → Every (IsSafeAccess jobs) (outcome_of who (bin_packet_plan s packet) m).accesses → ⊥
 unfolding bin_packet_plan
 packet_stray jobs who m s packet is all = wild_where jobs who m (is_unknown (slice_index packet 0)) _ is all
 
@@ -117,7 +117,7 @@ not_ahead None = refl
 not_ahead (Some one) = grind (arith, nat_tests)
 
 bin_begins : (m : List ℕ) (start : Start) (others : List Start) → 0 < start.bin_len → IsAtBinPacket m (units_start (start ∷ others)) 0 (job_start start)
-unfolding enabled binner_ready
+unfolding is_enabled binner_ready
 bin_begins m start others some =
     let u : Units = units_start (start ∷ others) in
     let first : binner_job u ≡ Some (record { number = 0; item = job_start start }) = rw (below start.bin_place start.bin_len some) refl in
@@ -128,9 +128,9 @@ wait_named : (opcode : ℕ) (bytes : List ℕ) → opcode ≡ wait_on_semaphore 
 wait_named opcode bytes is none = absurd cc
 
 wait_decoded : (m : List ℕ) (place : ℕ) → slice_index m place ≡ wait_on_semaphore → IsStrayRender m place → ⊥
-unfolding decoded bytes_at render_taken
+unfolding packet_decoded bytes_at render_taken
 wait_decoded m place is stray =
-    wait_named (slice_index m place) (bytes_at m place 1) is (subst (λ o. decoded (bytes_at m place (render_taken o)) ≡ None) is stray)
+    wait_named (slice_index m place) (bytes_at m place 1) is (subst (λ o. packet_decoded (bytes_at m place (render_taken o)) ≡ None) is stray)
 
 no_wait : (m : List ℕ) (place : ℕ) → IsStrayRender m place → (slice_index m place == wait_on_semaphore) ≡ false
 no_wait m place stray =
@@ -139,7 +139,7 @@ no_wait m place stray =
 
 render_begins : (m : List ℕ) (start : Start) (others : List Start) → 0 < start.render_len → IsStrayRender m start.render_place
     → IsAtRenderPacket m (units_start (start ∷ others)) 0 (job_start start)
-unfolding enabled renderer_ready may_pass bytes_at
+unfolding is_enabled renderer_ready may_pass bytes_at
 render_begins m start others some stray =
     let u : Units = units_start (start ∷ others) in
     let first : renderer_job u ≡ Some (record { number = 0; item = job_start start }) = rw (below start.render_place start.render_len some) refl in
@@ -157,7 +157,7 @@ MayWrite jobs who place len = Inside (rights_of jobs who.job).writable place len
 
 -- all that the plan does is safe
 abbrev pub AllSafe : {R : Type 0} → List Rights → Who → List ℕ → Plan R → Type 0
-AllSafe jobs who m plan = Every (IsSafeAccess jobs) (carried who plan m).accesses
+AllSafe jobs who m plan = Every (IsSafeAccess jobs) (outcome_of who plan m).accesses
 
 zeros_long : (n : ℕ) → length (zeros n) ≡ n
 zeros_long n = length-replicate {A = ℕ} n 0
@@ -188,19 +188,19 @@ done_is : (w : Work) → w.primitive.length ≤ w.done → nat_lt w.done w.primi
 done_is w done = grind (arith, nat_tests)
 
 at_item : (s : Lists) (free : Free) (words : List ℕ) (w : Work) (config : Config) → s.binner.work ≡ Some w → w.due ≡ false → w.primitive.length ≤ w.done → s.binner.kept.config ≡ Some config
-    → binner_plan s free words ≡ mapped quiet (tile_plan s config w (chosen_tile config words))
+    → binner_plan s free words ≡ plan_mapped quiet (tile_plan s config w (chosen_tile config words))
 unfolding binner_plan work_plan
 at_item s free words w config work_is rested done config_is = rw (work_is, rested, done_is w done, config_is) refl
 
 item_step : (jobs : List Rights) (m : List ℕ) (u : Units) (j : ℕ) (lists : Lists) (config : Config) (words : List ℕ) (at : IsAtItem m u j lists config) → Safe ready turn jobs m u
     → AllSafe jobs (binner_of j) m (tile_plan lists config at.work (chosen_tile config words))
-unfolding turn ready enabled
+unfolding turn ready is_enabled
 item_step jobs m u j lists config words at safe =
     let e : Event = record { unit = TheBinner; words = words } in
     let plan : Plan Lists = tile_plan lists config at.work (chosen_tile config words) in
-    let is : (carried (turn u e).who (turn u e).plan m).accesses ≡ (carried (binner_of j) plan m).accesses =
+    let is : (outcome_of (turn u e).who (turn u e).plan m).accesses ≡ (outcome_of (binner_of j) plan m).accesses =
     rw at.job_is (mapped_accesses (with_lists u j) (binner_of j) (binner_plan lists (free_in u.qpus) words) m
-    ∙ ap (λ plan. (carried (binner_of j) plan m).accesses) (at_item lists (free_in u.qpus) words at.work config at.work_is at.none_due at.fetched at.config_is)
+    ∙ ap (λ plan. (outcome_of (binner_of j) plan m).accesses) (at_item lists (free_in u.qpus) words at.work config at.work_is at.none_due at.fetched at.config_is)
     ∙ mapped_accesses quiet (binner_of j) plan m) in
     subst (Every (IsSafeAccess jobs)) is (first_step jobs m u e at.may safe)
 
@@ -221,7 +221,7 @@ put_by jobs who m s config w tile place true (inl link) all =
     let linked : MayWrite jobs who (link_place (spot_of tile s.items)) 16 = subst (MayWrite jobs who (link_place (spot_of tile s.items))) (zeros_long 16) (all.0.writes refl) in
     subst (λ p. MayWrite jobs who p 16) (sym link) linked
 put_by jobs who m s config w tile place true (inr block) all =
-    subst (λ p. MayWrite jobs who p 16) (sym block) (here_put jobs who (stored m (link_place (spot_of tile s.items)) (zeros 16)) (with_block s) w tile (block_place config s.blocks) all.1)
+    subst (λ p. MayWrite jobs who p 16) (sym block) (here_put jobs who (bytes_stored m (link_place (spot_of tile s.items)) (zeros 16)) (with_block s) w tile (block_place config s.blocks) all.1)
 put_by jobs who m s config w tile place false next all =
     subst (λ p. MayWrite jobs who p 16) (sym next) (here_put jobs who m s w tile (next_place config tile (spot_of tile s.items)) all)
 
@@ -245,7 +245,7 @@ part_written jobs who m c words next i (suc n) zero number is below all =
     let here : i ≡ number = omega (arith, is) in
     subst (λ p. MayWrite jobs who (part_place c p) c.size) here (subst (MayWrite jobs who (part_place c i)) (chosen_size words (i * c.size) c.size) (all.0.writes refl))
 part_written jobs who m c words next i (suc n) (suc k) number is below all =
-    part_written jobs who (stored m (part_place c i) (chosen words (i * c.size) c.size)) c words next (suc i) n k number (omega (arith, is)) (omega (arith, below)) all.1
+    part_written jobs who (bytes_stored m (part_place c i) (bytes_chosen words (i * c.size) c.size)) c words next (suc i) n k number (omega (arith, is)) (omega (arith, below)) all.1
 
 cover_stored : {R : Type 0} (jobs : List Rights) (who : Who) (m : List ℕ) (cover : Option Cover) (words : List ℕ) (next : Plan R) (place len : ℕ) → IsPart cover place len
     → AllSafe jobs who m (cover_written cover words next) → MayWrite jobs who place len
@@ -263,17 +263,17 @@ frame_stored jobs who m None x y words next place len stores all = absurd stores
 frame_stored jobs who m (Some frame) x y words next place len stores all = cover_stored jobs who m _ words next place len stores all
 
 general_stored : {R : Type 0} (jobs : List Rights) (who : Who) (m : List ℕ) (bits address : ℕ) (frame : Option Frame) (x y : ℕ) (words : List ℕ) (next : Plan R) (place len : ℕ) → names_none bits ≡ false
-    → IsPart (cover_for (general_style bits) frame (aligned address) x y) place len → AllSafe jobs who m (general_written bits address frame x y words next) → MayWrite jobs who place len
+    → IsPart (cover_for (general_style bits) frame (aligned_address address) x y) place len → AllSafe jobs who m (general_written bits address frame x y words next) → MayWrite jobs who place len
 unfolding general_written
 general_stored {R = R} jobs who m bits address frame x y words next place len names part all =
-    let cover : Option Cover = cover_for (general_style bits) frame (aligned address) x y in
+    let cover : Option Cover = cover_for (general_style bits) frame (aligned_address address) x y in
     let some : AllSafe jobs who m (cover_written cover words next) = subst (λ b. AllSafe jobs who m (if b then next else cover_written cover words next)) names all in
     cover_stored jobs who m cover words next place len part some
 
 whole_stored : {R : Type 0} (jobs : List Rights) (who : Who) (m : List ℕ) (address : ℕ) (words : List ℕ) (next : Plan R) → AllSafe jobs who m (whole_written address words next)
-    → MayWrite jobs who (aligned address) whole_size
+    → MayWrite jobs who (aligned_address address) whole_size
 unfolding whole_written
-whole_stored jobs who m address words next all = subst (MayWrite jobs who (aligned address)) (chosen_size words 0 whole_size) (all.0.writes refl)
+whole_stored jobs who m address words next all = subst (MayWrite jobs who (aligned_address address)) (chosen_size words 0 whole_size) (all.0.writes refl)
 
 -- the packet of a store, with the renderer past it
 packet_stored : (jobs : List Rights) (who : Who) (m : List ℕ) (s : Lists) (past_len : ℕ) (packet : Packet) (place len : ℕ) → Stores s packet place len
@@ -294,5 +294,5 @@ pub stores_past_law : StoresPastAreUnsafe
 unfolding render_packet_plan bytes_at
 stores_past_law jobs m u j lists packet at place len stores past_it safe =
     let past_len : ℕ = render_taken (slice_index m lists.renderer.place) in
-    let all : AllSafe jobs (renderer_of j) m (acted (beyond lists past_len) [] (decoded (bytes_at m lists.renderer.place past_len))) = (render_step jobs m u j lists at.at safe).1 in
-    past_it (packet_stored jobs (renderer_of j) m lists past_len packet place len stores (subst (λ p. AllSafe jobs (renderer_of j) m (acted (beyond lists past_len) [] p)) at.packet_is all))
+    let all : AllSafe jobs (renderer_of j) m (plan_of_packet (beyond lists past_len) [] (packet_decoded (bytes_at m lists.renderer.place past_len))) = (render_step jobs m u j lists at.at safe).1 in
+    past_it (packet_stored jobs (renderer_of j) m lists past_len packet place len stores (subst (λ p. AllSafe jobs (renderer_of j) m (plan_of_packet (beyond lists past_len) [] p)) at.packet_is all))

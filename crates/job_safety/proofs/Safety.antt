@@ -1,6 +1,6 @@
--- A file in which no rule stands is safe, and what follows of that.
+-- A file in which no rule is broken is safe, and what follows of that.
 use Rattle.std.proofs.Common.{◌≡◌, ◌≤◌, inl, inr, ℕ, zero, suc, ◌+◌, List, ◌++◌, length, map, refl, sym, arith, None}
-use Rattle.field_words.specs.{Words.IsBytes, Questions.first_of, Questions.answered}
+use Rattle.field_words.specs.{Words.IsBytes, Questions.first_of, Questions.with_answers}
 use Rattle.field_words.proofs.Nones.{front_none, rest_none, none_answered}
 use Rattle.job_format.specs.{Model.FileModel, File.IsFileOf, Faults.format_questions, Reading.file_at}
 use Rattle.job_format.proofs.{Laws.none_file, Passing.passes_all}
@@ -55,10 +55,10 @@ safe_files_follow_law f safe = record {
 parts_none : (bytes : List ℕ) → first_of (all_questions bytes) ≡ None → (first_of (format_questions bytes) ≡ None) × (first_of (file_stages (file_at bytes)) ≡ None)
 unfolding questions_within
 parts_none bytes none =
-    let format = answered format_refused (format_questions bytes) in
+    let format = with_answers format_refused (format_questions bytes) in
     (none_answered format_refused (format_questions bytes) (front_none format (file_stages (file_at bytes)) none), rest_none format (file_stages (file_at bytes)) none)
 
--- A file in which no rule stands is safe, also where its places are a driver's.
+-- A file in which no rule is broken is safe, also where its places are a driver's.
 pub placed_safe_law : PlacedJobsAreSafe
 placed_safe_law f well_formed fits none = record {
   sound = λ m agree. files_sound_law f well_formed fits none m agree;
@@ -74,7 +74,7 @@ file_is_safe bytes is none =
 pub header_there : (bytes : List ℕ) → first_of (all_questions bytes) ≡ None → 8 ≤ length bytes
 header_there bytes none = let size = (passes_all bytes (parts_none bytes none).0).header.size in omega (arith, size)
 
--- bytes of which no rule stands are a file's
+-- bytes in which no rule is broken are a file's
 pub bytes_spell : (bytes : List ℕ) → IsBytes bytes → first_of (all_questions bytes) ≡ None → IsFileOf bytes (file_at bytes)
 bytes_spell bytes fits none = none_file bytes fits (parts_none bytes none).0
 
@@ -89,7 +89,7 @@ accepted_is_safe bytes is none = (safe_files_follow_law (file_at bytes) (file_is
 pub accepted_is_same : (bytes : List ℕ) → IsFileOf bytes (file_at bytes) → first_of (all_questions bytes) ≡ None → AreSame (file_rights (file_at bytes)) (memory_of (file_at bytes)) (file_starts (file_at bytes))
 accepted_is_same bytes is none = (safe_files_follow_law (file_at bytes) (file_is_safe bytes is none)).emitted.1
 
--- And to each client it is the same as every neighbour of which no rule stands.
+-- And to each client it is the same as every neighbour in which no rule is broken.
 pub faultless : (bytes : List ℕ) → IsFileOf bytes (file_at bytes) → first_of (all_questions bytes) ≡ None → IsFaultless (file_at bytes)
 faultless bytes is none = record { well_formed = is.well_formed; fits = is.fits; none = wider_none (file_at bytes) (parts_none bytes none).1 }
 
@@ -107,7 +107,7 @@ pub accepted_may_join : (bytes : List ℕ) → IsFileOf bytes (file_at bytes) �
 accepted_may_join bytes is none d j inside prepared apart =
     may_be_admitted_law d (file_at bytes) j (record { accepted = faultless bytes is none; inside = inside; prepared = prepared; apart = apart })
 
--- So the jobs of all bytes of which no rule stands may run, and end.
+-- So the jobs of all bytes in which no rule is broken may run, and end.
 pub may_run : (bytes : List ℕ) → IsFileOf bytes (file_at bytes) → refusal_of bytes ≡ None → MayRun bytes
 unfolding refusal_of
 may_run bytes is none =

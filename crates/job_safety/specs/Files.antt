@@ -1,4 +1,4 @@
--- What is so of each file in which no rule stands.
+-- What is so of each file in which no rule is broken.
 use Rattle.std.specs.Prelude.{◌≡◌, List, ℕ, None}
 use Rattle.field_words.specs.{Words.IsBytes, Questions.first_of}
 use Rattle.job_format.specs.{Model.FileModel, Reading.file_at, File.IsWellFormed, File.Fits}
@@ -16,10 +16,10 @@ pub record IsSafeFile (f : FileModel) : Type 0 where
       → AreSound (file_rights f) (plain_of f) m (file_starts f)
   pub fixed : OfEachJob f (AreFixed f)
 
--- So it is of the file that any bytes hold of which no rule stands.
+-- So it is of the file that any bytes hold in which no rule is broken.
 abbrev pub BytesSafe : Type 0
 BytesSafe = (bytes : List ℕ) → IsBytes bytes → refusal_of bytes ≡ None → IsSafeFile (file_at bytes)
 
--- So it is of each file in which no rule stands whose places are a driver's, anywhere in the greatest memory.
+-- So it is of each file in which no rule is broken whose places are a driver's, anywhere in the greatest memory.
 abbrev pub PlacedJobsAreSafe : Type 0
 PlacedJobsAreSafe = (f : FileModel) → IsWellFormed f → Fits f → first_of (place_stages f) ≡ None → IsSafeFile f

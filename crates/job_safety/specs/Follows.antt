@@ -28,7 +28,7 @@ IsSafeWithOthers f m =
 
 -- From the emitted memory all is safe and depends on nothing else. So it is from each of its length in which every byte outside what the
 -- jobs may write is as emitted, and from each that has their lists and code. From each of these it is safe also while others write what
--- jobs may write; and in each state to which a run comes, what a texture unit does reads inside one Plain buffer that a handle of its job
+-- jobs may write; and in each state to which a run comes, what a texture unit does reads inside one data buffer that a handle of its job
 -- names.
 pub record Follows (f : FileModel) : Type 0 where
   pub emitted : IsSafeAlone f (memory_of f)

@@ -4,19 +4,19 @@
 use Rattle.std.specs.Prelude.{◌≡◌, ◌≤◌, ◌<◌, ◌⊎◌, ℕ, ◌-◌, ◌*◌, ◌%◌, Bool, true, false, IsTrue, List, ◌∷◌, length, slice_index, Option, IfSome, Some, None}
 use Rattle.field_words.specs.declared.access.Actor.TheVariants.{Binner as TheBinner, Renderer as TheRenderer, Qpu as TheQpu}
 use Rattle.packets.specs.declared.packet.Packet.TheVariants.{StoreTileColor, StoreTileColorAndEnd, StoreFullResolution, StoreTileBuffer}
-use Rattle.packets.specs.{declared.packet.Packet.Packet, Length.bin_length, Length.bin_taken, Length.render_taken, Packet.decoded}
+use Rattle.packets.specs.{declared.packet.Packet.Packet, Length.bin_length, Length.bin_taken, Length.render_taken, Packet.packet_decoded}
 use Rattle.packets.specs.{Opcode.start_tile_binning, Opcode.buffer_handles, declared.config.Config.Config}
 use Rattle.machine_plan.specs.{Memory.bytes_at, Regions.Inside, Regions.Rights, Regions.rights_of, World.Safe}
 use Rattle.list_machine.specs.{declared.state.Frame.Frame, declared.state.Work.Work, declared.surface.Cover.Cover, Binner.chosen_tile}
 use Rattle.list_machine.specs.Blocks.{tiles_of, block_place, spot_of, is_full, next_place, link_place}
 use Rattle.list_machine.specs.{Cover.cover_for, Cover.part_count, Cover.part_place, Lists.Lists}
-use Rattle.list_machine.specs.Surfaces.{aligned, names_none, whole_size}
+use Rattle.list_machine.specs.Surfaces.{aligned_address, names_none, whole_size}
 use Rattle.texture_layouts.specs.{Format.general_style, Format.frame_style, Setup.TextureModel, Setup.texture_of}
 use Rattle.qpu_machine.specs.{declared.state.Ask.TheVariants.Direct, declared.state.Ask.TheVariants.Texture, declared.state.Qpu.Qpu}
 use Rattle.qpu_machine.specs.{declared.state.Request.Request, declared.state.Thread.Thread, Qpu.active_of, Qpu.oldest, Qpu.queue_of}
 use Rattle.qpu_machine.specs.Request.{chosen_place, chosen_length}
 use Rattle.machine.specs.{declared.job.Start.Start, State.Units, State.item_at, State.binner_job, State.renderer_job}
-use Rattle.machine.specs.Step.{ready, turn, enabled}
+use Rattle.machine.specs.Step.{ready, turn, is_enabled}
 use Rattle.job_safety.specs.Safe.{AreSafe}
 
 -- bytes outside what a job may reach: no interval of its region has all of them
@@ -26,13 +26,13 @@ IsPast jobs j place len = Inside (rights_of jobs j).region place len → ⊥
 -- The binner may step, and is to read the packet at its place, for job j.
 pub record IsAtBinPacket (m : List ℕ) (u : Units) (j : ℕ) (lists : Lists) : Type 0 where
   pub job_is : binner_job u ≡ Some (record { number = j; item = lists })
-  pub may : IsTrue (enabled (record { memory = m; units = u }) TheBinner)
+  pub may : IsTrue (is_enabled (record { memory = m; units = u }) TheBinner)
   pub idle : lists.binner.work ≡ None
 
 -- The renderer may step, and is to read the packet at its place, for job j: it isn't in the list of a tile.
 pub record IsAtRenderPacket (m : List ℕ) (u : Units) (j : ℕ) (lists : Lists) : Type 0 where
   pub job_is : renderer_job u ≡ Some (record { number = j; item = lists })
-  pub may : IsTrue (enabled (record { memory = m; units = u }) TheRenderer)
+  pub may : IsTrue (is_enabled (record { memory = m; units = u }) TheRenderer)
   pub outside : lists.renderer.inside ≡ None
 
 -- A binner list that leaves the job's region: the packet at the binner's place doesn't lie in it.
@@ -55,7 +55,7 @@ IsStrayBin m place = (bin_length (slice_index m place) ≡ 0) ⊎ (slice_index m
 
 -- The bytes from this place on are no packet of a renderer list.
 abbrev pub IsStrayRender : List ℕ → ℕ → Type 0
-IsStrayRender m place = decoded (bytes_at m place (render_taken (slice_index m place))) ≡ None
+IsStrayRender m place = packet_decoded (bytes_at m place (render_taken (slice_index m place))) ≡ None
 
 -- A binner list with a byte that begins no packet: it is at the binner's place.
 abbrev pub StrayBinPacketsAreUnsafe : Type 0
@@ -85,7 +85,7 @@ StrayStartsAreUnsafe =
 pub record IsActive (m : List ℕ) (u : Units) (k : ℕ) (thread : Thread) : Type 0 where
   pub qpu : Qpu
   pub qpu_is : item_at u.qpus k ≡ Some qpu
-  pub may : IsTrue (enabled (record { memory = m; units = u }) (TheQpu k))
+  pub may : IsTrue (is_enabled (record { memory = m; units = u }) (TheQpu k))
   pub active_is : active_of qpu ≡ Some thread
 
 -- A shader that leaves its code: the instruction at the thread's place doesn't lie in the job's region.
@@ -142,7 +142,7 @@ StatesPastAreUnsafe =
 -- program is due for them.
 pub record IsAtItem (m : List ℕ) (u : Units) (j : ℕ) (lists : Lists) (config : Config) : Type 0 where
   pub job_is : binner_job u ≡ Some (record { number = j; item = lists })
-  pub may : IsTrue (enabled (record { memory = m; units = u }) TheBinner)
+  pub may : IsTrue (is_enabled (record { memory = m; units = u }) TheBinner)
   pub work : Work
   pub work_is : lists.binner.work ≡ Some work
   pub none_due : work.due ≡ false
@@ -169,7 +169,7 @@ ItemsPastAreUnsafe =
 -- The renderer may step, and is to read this packet at its place, for job j.
 pub record IsAtPacket (m : List ℕ) (u : Units) (j : ℕ) (lists : Lists) (packet : Packet) : Type 0 where
   pub at : IsAtRenderPacket m u j lists
-  pub packet_is : decoded (bytes_at m lists.renderer.place (render_taken (slice_index m lists.renderer.place))) ≡ Some packet
+  pub packet_is : packet_decoded (bytes_at m lists.renderer.place (render_taken (slice_index m lists.renderer.place))) ≡ Some packet
 
 -- these bytes are one part of what a store by bits covers
 pub record IsPart (cover : Option Cover) (place len : ℕ) : Type 0 where
@@ -190,9 +190,9 @@ StoresFrame (Some frame) x y place len = IsPart (cover_for (frame_style frame.bi
 abbrev pub Stores : Lists → Packet → ℕ → ℕ → Type 0
 Stores lists StoreTileColor place len = StoresFrame lists.renderer.frame lists.renderer.x lists.renderer.y place len
 Stores lists StoreTileColorAndEnd place len = StoresFrame lists.renderer.frame lists.renderer.x lists.renderer.y place len
-Stores lists (StoreFullResolution address) place len = (place ≡ aligned address) × (len ≡ whole_size)
+Stores lists (StoreFullResolution address) place len = (place ≡ aligned_address address) × (len ≡ whole_size)
 Stores lists (StoreTileBuffer bits address) place len =
-    (names_none bits ≡ false) × IsPart (cover_for (general_style bits) lists.renderer.frame (aligned address) lists.renderer.x lists.renderer.y) place len
+    (names_none bits ≡ false) × IsPart (cover_for (general_style bits) lists.renderer.frame (aligned_address address) lists.renderer.x lists.renderer.y) place len
 Stores lists other place len = ⊥
 
 -- A store of a tile outside: some part of it doesn't lie in what the job may write.

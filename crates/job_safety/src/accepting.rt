@@ -103,7 +103,7 @@ fn set_up(alloc: Global, version: u32, checked: Checked) -> Result<Accepted, NoM
 /// alone.
 ///
 /// # Errors
-/// The first rule that stands for the bytes, by its letter, its number and its place in them; or want of memory.
+/// The first broken rule for the bytes, by its letter, its number and its place in them; or want of memory.
 pub fn accept(alloc: Global, bytes: &[u8]) -> Result<Accepted, Stop<Refusal>>
     ensures answers { Answers (all_questions bytes.now) (IsAccepted (file_at bytes.now)) result }
     ensures spelled { IsOk result → IsFileOf bytes.now (file_at bytes.now) }
@@ -124,7 +124,7 @@ pub fn accept(alloc: Global, bytes: &[u8]) -> Result<Accepted, Stop<Refusal>>
     }
 }
 
-/// The same as `accept` of a file that breaks no strict rule either: the strict rules are asked last.
+/// `accept` of a file that breaks no strict rule either: the strict rules are asked last.
 ///
 /// # Errors
 /// The first rule that is broken, by its letter, its number and its place in the bytes; or want of memory.

@@ -1,4 +1,4 @@
-//! Why accepted jobs are safe in the machine: the file that any bytes hold of which no rule stands, the machine that it is run in,
+//! Why accepted jobs are safe in the machine: the file that any bytes hold in which no rule is broken, the machine that it is run in,
 //! and what safety refuses.
 #![tactic(auto)]
 

@@ -6,7 +6,7 @@ use Rattle.buffer_table.specs.{declared.buffer.Kind.Kind, declared.buffer.Kind.T
 use Rattle.field_words.specs.{Sizes.page_size, Writes.with_bytes, Writes.zeros}
 use Rattle.overflow_slots.specs.Search.{first_where}
 use Rattle.job_session.specs.Own.{Held, Command, Create, Make, Write, Read, Free, Submit, Reply, Bytes, Done, Refused, Rules, Outcome, Answered, NewBuffer, outcome, own_reply, own_after, own_replies}
-use Rattle.job_session.specs.Own.{most_buffers, most_pages, most_read, is_free_id, with_buffer, new_by, new_buffer, padded, make_by, write_in, write_by, read_by, free_by, submit_by}
+use Rattle.job_session.specs.Own.{most_buffers, most_pages, most_read, is_free_id, with_buffer, new_by, new_buffer, bytes_padded, make_by, write_in, write_by, read_by, free_by, submit_by}
 use Rattle.job_session.specs.Session.{Call, Past, none_yet, reply_by, past_by, placed_reply, placed_past, pages_of, outcome_of, reply_to, after, replies_to, commands_of}
 use Rattle.job_session.specs.{Places.least_place, Laws.is_full, Laws.other_replies, Laws.other_commands, Laws.RepliesAreOwn}
 
@@ -42,7 +42,7 @@ new_not_full F own held (Some id) = tt
 
 make_not_full : (F : Type 0) (own : ℕ → Option Held) (bytes : List ℕ) (fault : Option F) → NotFull (make_by own bytes fault)
 make_not_full F own bytes (Some fault) = refl
-make_not_full F own bytes None = new_not_full F own (record { kind = Code; bytes = padded bytes }) (first_where (is_free_id own) 0 most_buffers)
+make_not_full F own bytes None = new_not_full F own (record { kind = Code; bytes = bytes_padded bytes }) (first_where (is_free_id own) 0 most_buffers)
 
 write_in_not_full : (F : Type 0) (own : ℕ → Option Held) (id at : ℕ) (part : List ℕ) (kind : Kind) (bytes : List ℕ) → NotFull {F = F} (write_in own id at part kind bytes)
 write_in_not_full F own id at part Code bytes = refl

@@ -4,7 +4,7 @@ use Rattle.std.proofs.{lemmas.Bool.false≢true, lemmas.Bool.and_parts, lemmas.B
 use Rattle.std.specs.List.{AllPass}
 use Rattle.hex.specs.{Hex.decode_of, Hex.is_hex_digit, declared.error.FromHexError.FromHexError}
 use Rattle.hex.proofs.HexLemmas.{decode_of-ok, decode_of-digits}
-use Rattle.job_session.specs.Calls.{decoded, hex_bytes, is_hex, is_code}
+use Rattle.job_session.specs.Calls.{bytes_decoded, hex_bytes, is_hex, is_code}
 
 pub record Means (word : List ℕ) : Type 0 where
   pub some : 0 < length word
@@ -12,11 +12,11 @@ pub record Means (word : List ℕ) : Type 0 where
   pub digits : AllPass is_hex_digit word
   pub size : length word ≡ 2 * length (hex_bytes word)
 
-means_by : (word : List ℕ) (result : Result (List ℕ) FromHexError) → decode_of word ≡ result → nat_lt 0 (length (decoded result)) ≡ true → Means word
+means_by : (word : List ℕ) (result : Result (List ℕ) FromHexError) → decode_of word ≡ result → nat_lt 0 (length (bytes_decoded result)) ≡ true → Means word
 unfolding hex_bytes
 means_by word (Ok bytes) is some =
     let known = decode_of-ok word bytes is in
-    let size : length word ≡ 2 * length (decoded (decode_of word)) = known.2 ∙ ap (λ r. 2 * length (decoded r)) (sym is) in
+    let size : length word ≡ 2 * length (bytes_decoded (decode_of word)) = known.2 ∙ ap (λ r. 2 * length (bytes_decoded r)) (sym is) in
     let long : 0 < length bytes = grind (arith, nat_tests) in
     record { some = omega (arith, known.2, long); even = known.0; digits = known.1; size = size }
 means_by word (Err error) is some = absurd (false≢true some)
@@ -31,7 +31,7 @@ hex_made word some even digits =
     let known = decode_of-digits word even digits in
     let size = (decode_of-ok word known.0 known.1).2 in
     let long : nat_lt 0 (length known.0) ≡ true = let low : 0 < length known.0 = omega (arith, size, some) in grind (arith, nat_tests) in
-    ap (λ r. nat_lt 0 (length (decoded r))) known.1 ∙ long
+    ap (λ r. nat_lt 0 (length (bytes_decoded r))) known.1 ∙ long
 
 not_true : (b : Bool) → (b ≡ true → ⊥) → false ≡ b
 not_true true never = absurd (never refl)

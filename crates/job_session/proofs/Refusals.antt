@@ -1,6 +1,6 @@
 -- The rules of shaders and of jobs, as a session tells them.
 use Rattle.std.proofs.Common.{◌≡◌, ℕ, ◌<◌, List, [], ◌∷◌, length, arith, None, Some}
-use Rattle.field_words.specs.Questions.{first_of, answered, each}
+use Rattle.field_words.specs.Questions.{first_of, with_answers, each}
 use Rattle.field_words.proofs.Questions.{answered_none, answered_some}
 use Rattle.shader_check.specs.declared.fault.ShaderFault.{ShaderFault}
 use Rattle.shader_check.specs.Rules.{shader_questions, whole_questions, s1, fault_at}
@@ -17,6 +17,6 @@ unfolding shader_refusal
 breaks bytes fault some = answered_some at_instruction (code_questions bytes) fault some
 
 pub has_bytes : (bytes : List ℕ) → first_of (code_questions bytes) ≡ None → 0 < length bytes
-unfolding code_questions shader_questions whole_questions checked_of end_of s1 fault_at words_in each answered
+unfolding code_questions shader_questions whole_questions checked_of end_of s1 fault_at words_in each with_answers
 has_bytes [] none = let no : ⊥ = cc in absurd no
 has_bytes (byte ∷ bytes) none = omega arith

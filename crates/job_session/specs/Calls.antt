@@ -13,13 +13,13 @@ last_client = 7
 abbrev pub last_number : ℕ
 last_number = 4294967295
 
-abbrev pub decoded : Result (List ℕ) FromHexError → List ℕ
-decoded (Ok bytes) = bytes
-decoded (Err error) = []
+abbrev pub bytes_decoded : Result (List ℕ) FromHexError → List ℕ
+bytes_decoded (Ok bytes) = bytes
+bytes_decoded (Err error) = []
 
 -- the bytes that hex digits of either case write, two for each; none where a word is no such digits
 unfoldable pub hex_bytes : List ℕ → List ℕ
-hex_bytes word = decoded (decode_of word)
+hex_bytes word = bytes_decoded (decode_of word)
 
 -- hex of one byte or more
 unfoldable pub is_hex : List ℕ → Bool
@@ -99,13 +99,13 @@ command_of (AsksRead id at len) = Read id at len
 command_of (AsksFree id) = Free id
 command_of (AsksSubmit hex) = Submit (hex_bytes hex.now)
 
-abbrev pub asked : Option Request → Option Command
-asked None = None
-asked (Some request) = Some (command_of request)
+abbrev pub command_asked : Option Request → Option Command
+command_asked None = None
+command_asked (Some request) = Some (command_of request)
 
-abbrev pub called : Option Line → Option Call
-called None = None
-called (Some line) = Some (record { client = line.client; command = command_of line.request })
+abbrev pub call_made : Option Line → Option Call
+call_made None = None
+call_made (Some line) = Some (record { client = line.client; command = command_of line.request })
 
 -- a shader on a line is not too long, and its client is one of eight
 abbrev pub Fits : Request → Type 0

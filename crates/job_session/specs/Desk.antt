@@ -93,13 +93,13 @@ with_place desk client id pages kind (Some first) = record {
 }
 
 -- what a new buffer leaves: its pages as they were; a refusal and want of memory change nothing
-abbrev pub placed : {F : Type 0} → Desk → ℕ → ℕ → Kind → Result ℕ F → Desk
-placed desk client pages kind (Err stop) = desk
-placed desk client pages kind (Ok id) = with_place desk client id pages kind (free_run desk.map pages)
+abbrev pub after_place : {F : Type 0} → Desk → ℕ → ℕ → Kind → Result ℕ F → Desk
+after_place desk client pages kind (Err stop) = desk
+after_place desk client pages kind (Ok id) = with_place desk client id pages kind (free_run desk.map pages)
 
 -- what `create` leaves
-abbrev pub created : Desk → ℕ → ℕ → Result ℕ ℕ → Desk
-created desk client pages answer = placed desk client pages Plain answer
+abbrev pub after_create : Desk → ℕ → ℕ → Result ℕ ℕ → Desk
+after_create desk client pages answer = after_place desk client pages Plain answer
 
 -- the least number of pages that holds a shader
 abbrev pub pages_for : List ℕ → ℕ
@@ -127,9 +127,9 @@ with_written desk client id at part = record {
 }
 
 -- what `code` leaves: a new Code buffer, at whose front the bytes were written
-abbrev pub made : {F : Type 0} → Desk → ℕ → List ℕ → Result ℕ F → Desk
-made desk client bytes (Err stop) = desk
-made desk client bytes (Ok id) =
+abbrev pub after_code : {F : Type 0} → Desk → ℕ → List ℕ → Result ℕ F → Desk
+after_code desk client bytes (Err stop) = desk
+after_code desk client bytes (Ok id) =
     with_written (with_place desk client id (pages_for bytes) Code (free_run desk.map (pages_for bytes))) client id 0 bytes
 
 -- 1: no such buffer
@@ -137,8 +137,8 @@ abbrev pub free_answer : Desk → ℕ → ℕ → Result (Unit {0}) ℕ
 free_answer desk client id = if is_live desk client id then Ok tt else Err 1
 
 -- what `free` leaves: the pages are free, and zero
-abbrev pub freed : Desk → ℕ → ℕ → Desk
-freed desk client id =
+abbrev pub after_free : Desk → ℕ → ℕ → Desk
+after_free desk client id =
     if is_live desk client id then record {
       map = without_run desk.map (first_page desk client id) (page_total desk client id);
       firsts = desk.firsts;
@@ -161,9 +161,9 @@ write_answer desk client id at len =
     if is_live desk client id then write_in desk client id at len (kind_of desk client id) else Err 1
 
 -- what `write` leaves: a refusal changes nothing
-abbrev pub written : Desk → ℕ → ℕ → ℕ → List ℕ → Result (Unit {0}) ℕ → Desk
-written desk client id at part (Err refusal) = desk
-written desk client id at part (Ok done) = with_written desk client id at part
+abbrev pub after_write : Desk → ℕ → ℕ → ℕ → List ℕ → Result (Unit {0}) ℕ → Desk
+after_write desk client id at part (Err refusal) = desk
+after_write desk client id at part (Ok done) = with_written desk client id at part
 
 -- 1; 2: over 256 bytes, or past the buffer's end
 abbrev pub read_answer : Desk → ℕ → ℕ → ℕ → ℕ → Result (List ℕ) ℕ
@@ -180,7 +180,7 @@ job_answer (Some refusal) = Err (Job refusal)
 abbrev pub submit_answer : Desk → ℕ → List ℕ → Result (Unit {0}) Denied
 submit_answer desk client parts = job_answer (session_rules.job client (held_in desk client) parts)
 
--- `read` stops with the answer's refusal; want of memory is told only where there is none
+-- `read` stops with the answer's refusal; want of memory is reported only where there is none
 abbrev pub IsStop : Stop ℕ → Result (List ℕ) ℕ → Type 0
 IsStop (Fault refusal) answer = answer ≡ Err refusal
 IsStop NoMemory answer = is_ok answer ≡ true

@@ -72,12 +72,12 @@ create_of own pages =
     else new_buffer own (record { kind = Plain; bytes = zeros (page_size * pages) })
 
 -- a shader's bytes in the least number of pages, the rest zero
-abbrev pub padded : List ℕ → List ℕ
-padded bytes = bytes ++ zeros (page_size * div_ceil (length bytes) page_size - length bytes)
+abbrev pub bytes_padded : List ℕ → List ℕ
+bytes_padded bytes = bytes ++ zeros (page_size * div_ceil (length bytes) page_size - length bytes)
 
 abbrev pub make_by : {F : Type 0} → (ℕ → Option Held) → List ℕ → Option F → Outcome F
 make_by own bytes (Some fault) = Answered (Broken fault) own
-make_by own bytes None = new_buffer own (record { kind = Code; bytes = padded bytes })
+make_by own bytes None = new_buffer own (record { kind = Code; bytes = bytes_padded bytes })
 
 -- 1: no such buffer; 3: it is Code; 2: past its end
 abbrev pub write_in : {F : Type 0} → (ℕ → Option Held) → ℕ → ℕ → List ℕ → Kind → List ℕ → Outcome F

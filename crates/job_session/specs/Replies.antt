@@ -2,7 +2,7 @@
 use Rattle.std.specs.Prelude.{ℕ, length, List, Result, Ok, Err}
 use Rattle.job_format.specs.declared.rule.Refusal.{Refusal}
 use Rattle.job_session.specs.Own.{Command, Create, Make, Write, Read, Free, Submit, Reply, Id, Done, Bytes, Accepted, Refused, Broken}
-use Rattle.job_session.specs.Desk.{Desk, create_answer, created, code_answer, made, write_answer, written, read_answer, free_answer, freed, submit_answer}
+use Rattle.job_session.specs.Desk.{Desk, create_answer, after_create, code_answer, after_code, write_answer, after_write, read_answer, free_answer, after_free, submit_answer}
 use Rattle.job_session.specs.{declared.denied.Denied.Denied, Session.Call}
 use Rattle.job_session.specs.declared.denied.Denied.TheVariants.{Session, Job}
 
@@ -39,14 +39,14 @@ command_reply desk client (Free id) = done_reply (free_answer desk client id)
 command_reply desk client (Submit parts) = submitted_reply (submit_answer desk client parts)
 
 unfoldable pub command_after : Desk → ℕ → Command → Desk
-command_after desk client (Create pages) = created desk client pages (create_answer desk client pages)
-command_after desk client (Make bytes) = made desk client bytes (code_answer desk client bytes)
-command_after desk client (Write id at part) = written desk client id at part (write_answer desk client id at (length part))
+command_after desk client (Create pages) = after_create desk client pages (create_answer desk client pages)
+command_after desk client (Make bytes) = after_code desk client bytes (code_answer desk client bytes)
+command_after desk client (Write id at part) = after_write desk client id at part (write_answer desk client id at (length part))
 command_after desk client (Read id at len) = desk
-command_after desk client (Free id) = freed desk client id
+command_after desk client (Free id) = after_free desk client id
 command_after desk client (Submit parts) = desk
 
--- the same for a call
+-- the reply to a call
 abbrev pub desk_reply : Desk → Call → Reply Refusal
 desk_reply desk call = command_reply desk call.client call.command
 

@@ -7,13 +7,13 @@ use Rattle.job_format.specs.Text.{buffer_text}
 use Rattle.session_pages.specs.Map.{first_place, memory_size}
 use Rattle.job_session.specs.Own.{Held, most_buffers}
 
--- a Code buffer gives all its bytes, and a Plain one none
+-- a Code buffer gives all its bytes, and a data buffer none
 abbrev pub content_of : Kind → List ℕ → List ℕ
 content_of Plain bytes = []
 content_of Code bytes = bytes
 
-abbrev pub laid : ℕ → ℕ → Held → Buffer
-laid client place held = record {
+abbrev pub buffer_laid : ℕ → ℕ → Held → Buffer
+buffer_laid client place held = record {
   place = place;
   size = length held.bytes;
   client = client;
@@ -23,11 +23,11 @@ laid client place held = record {
 
 abbrev pub laid_in : ℕ → ℕ → Option Held → Option Buffer
 laid_in client place None = None
-laid_in client place (Some held) = Some (laid client place held)
+laid_in client place (Some held) = Some (buffer_laid client place held)
 
 abbrev pub laid_at : ℕ → ℕ → Option Held → List Buffer
 laid_at client place None = []
-laid_at client place (Some held) = laid client place held ∷ []
+laid_at client place (Some held) = buffer_laid client place held ∷ []
 
 abbrev pub size_of : Option Held → ℕ
 size_of None = 0
@@ -38,9 +38,9 @@ contents_at None = []
 contents_at (Some held) = content_of held.kind held.bytes
 
 -- the n ids from one on, the first buffer at this place
-unfoldable pub packed : ℕ → (ℕ → Option Held) → ℕ → ℕ → ℕ → List Buffer
-packed client own id zero place = []
-packed client own id (suc n) place = laid_at client place (own id) ++ packed client own (id + 1) n (place + size_of (own id))
+unfoldable pub buffers_packed : ℕ → (ℕ → Option Held) → ℕ → ℕ → ℕ → List Buffer
+buffers_packed client own id zero place = []
+buffers_packed client own id (suc n) place = laid_at client place (own id) ++ buffers_packed client own (id + 1) n (place + size_of (own id))
 
 unfoldable pub contents_from : (ℕ → Option Held) → ℕ → ℕ → List ℕ
 contents_from own id zero = []
@@ -64,6 +64,6 @@ job_bytes contents parts = if nat_lt (length parts) 124 then parts else take 124
 
 unfoldable pub file_of : ℕ → (ℕ → Option Held) → List ℕ → List ℕ
 file_of client own parts =
-    header_of (length (packed client own 0 most_buffers first_place))
-    ++ (flat_map buffer_text (packed client own 0 most_buffers first_place)
+    header_of (length (buffers_packed client own 0 most_buffers first_place))
+    ++ (flat_map buffer_text (buffers_packed client own 0 most_buffers first_place)
     ++ job_bytes (all_contents own) (with_client client parts))

@@ -19,7 +19,7 @@ reply_line (Broken refusal) = codes "refused " ++ (rule_text refusal.rule ++ (co
 abbrev pub answer_line : Desk → ℕ → Command → List ℕ
 answer_line desk client command = reply_line (command_reply desk client command)
 
--- the same for a line, which may be no call, and the desk that it leaves
+-- the line that answers a line, which may be no call, and the desk that it leaves
 abbrev pub call_reply : Desk → Option Call → List ℕ
 call_reply desk None = []
 call_reply desk (Some call) = answer_line desk call.client call.command

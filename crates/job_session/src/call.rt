@@ -5,7 +5,7 @@ ghost use Rattle.hex.specs.Hex.{is_hex_digit as digit_test};
 ghost use Rattle.field_words.specs.Sizes.{most_code};
 ghost use Rattle.job_session.specs.Calls.{number_in, is_hex as hex_test, is_code as code_test, code_of, write_of, read_of, submit_of};
 ghost use Rattle.job_session.specs.Calls.{command_named};
-ghost use Rattle.job_session.specs.Calls.{call_of, asked, called, Fits, LineFits};
+ghost use Rattle.job_session.specs.Calls.{call_of, command_asked, call_made, Fits, LineFits};
 
 use field_words::MOST_CODE;
 use script::{cut_at, read_number};
@@ -84,7 +84,7 @@ fn is_code(word: &[u8]) -> bool
 
 #[tactic(auto, unfolding(crate::specs::Calls::code_of), using(crate::proofs::Digits::code_fits))]
 fn read_code(word: &[u8]) -> Option<Request<'_>>
-    ensures request { asked result ≡ code_of word.now }
+    ensures request { command_asked result ≡ code_of word.now }
     ensures fits { IfSome result Fits }
 {
     if is_code(word) {
@@ -96,7 +96,7 @@ fn read_code(word: &[u8]) -> Option<Request<'_>>
 
 #[tactic(auto, unfolding(crate::specs::Calls::write_of))]
 fn read_write(words: &[u8]) -> Option<Request<'_>>
-    ensures request { asked result ≡ write_of words.now }
+    ensures request { command_asked result ≡ write_of words.now }
     ensures fits { IfSome result Fits }
 {
     let first = cut_at(words, b' ');
@@ -116,7 +116,7 @@ fn read_write(words: &[u8]) -> Option<Request<'_>>
 
 #[tactic(auto, unfolding(crate::specs::Calls::read_of))]
 fn read_read(words: &[u8]) -> Option<Request<'_>>
-    ensures request { asked result ≡ read_of words.now }
+    ensures request { command_asked result ≡ read_of words.now }
     ensures fits { IfSome result Fits }
 {
     let first = cut_at(words, b' ');
@@ -129,7 +129,7 @@ fn read_read(words: &[u8]) -> Option<Request<'_>>
 
 #[tactic(auto, unfolding(crate::specs::Calls::submit_of))]
 fn read_submit(word: &[u8]) -> Option<Request<'_>>
-    ensures request { asked result ≡ submit_of word.now }
+    ensures request { command_asked result ≡ submit_of word.now }
     ensures fits { IfSome result Fits }
 {
     if is_hex(word) {
@@ -141,7 +141,7 @@ fn read_submit(word: &[u8]) -> Option<Request<'_>>
 
 // The request of this name, where these are the words behind its client.
 fn read_request<'a>(name: &[u8], words: &'a [u8]) -> Option<Request<'a>>
-    ensures request { asked result ≡ command_named name.now words.now }
+    ensures request { command_asked result ≡ command_named name.now words.now }
     ensures fits { IfSome result Fits }
 {
     if name == b"create".as_slice() {
@@ -170,7 +170,7 @@ fn read_request<'a>(name: &[u8], words: &'a [u8]) -> Option<Request<'a>>
 /// The call that a line is, or `None` exactly where it is none.
 #[tactic(auto, unfolding(crate::specs::Calls::call_of))]
 pub fn read_line(line: &[u8]) -> Option<Line<'_>>
-    ensures call { called result ≡ call_of line.now }
+    ensures call { call_made result ≡ call_of line.now }
     ensures fits { IfSome result LineFits }
 {
     let name = cut_at(line, b' ');

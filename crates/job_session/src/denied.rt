@@ -8,7 +8,7 @@ pub enum Denied {
     /// A rule of sessions, by its number.
     #[error("J{0}")]
     Session(u8),
-    /// A rule of shaders or of jobs: the first that stands.
+    /// A rule of shaders or of jobs: the first that is broken.
     #[error("{0}")]
     Job(Refusal),
 }

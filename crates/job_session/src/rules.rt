@@ -12,7 +12,7 @@ use job_format::{Refusal, Rule, Stage};
 use shader_check::ShaderFault;
 use std::alloc::Global;
 
-// A rule of shaders that stands, at the byte of its instruction.
+// A rule of shaders that is broken, at the byte of its instruction.
 fn shader_fault(fault: &ShaderFault) -> Refusal
     ensures { result ≡ at_instruction fault.now }
 {
@@ -40,7 +40,7 @@ pub fn check_shader(alloc: Global, bytes: &[u8]) -> Result<(), Stop<Denied>>
     }
 }
 
-/// All rules of a file: the first that stands, or none.
+/// All rules of a file: the first that is broken, or none.
 #[tactic(auto, unfolding(job_check::specs::Whole::refusal_of))]
 pub fn check_file(alloc: Global, file: &[u8]) -> Result<(), Stop<Denied>>
     ensures accepted { IfOk result (λ done. job_answer (refusal_of file.now) ≡ Ok done) }

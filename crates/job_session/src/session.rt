@@ -4,10 +4,10 @@ ghost use Rattle.field_words.specs.Sizes.{most_code};
 ghost use Rattle.buffer_table.specs.declared.buffer.Kind.TheVariants.{Plain};
 ghost use Rattle.session_pages.specs.Map.{first_place};
 ghost use Rattle.job_session.specs.Own.{most_buffers};
-ghost use Rattle.job_session.specs.Submit.{packed, content_of, all_contents, laid_in, contents_at};
+ghost use Rattle.job_session.specs.Submit.{buffers_packed, content_of, all_contents, laid_in, contents_at};
 ghost use Rattle.job_session.specs.Desk.{slot_count, slot_of, empty, least_id, page_total, held_in};
-ghost use Rattle.job_session.specs.Desk.{new_id, placed, create_answer, created, code_answer, made, pages_for, free_answer, freed};
-ghost use Rattle.job_session.specs.Desk.{write_answer, written, read_answer, submit_answer, IsStop, IsRefusal};
+ghost use Rattle.job_session.specs.Desk.{new_id, after_place, create_answer, after_create, code_answer, after_code, pages_for, free_answer, after_free};
+ghost use Rattle.job_session.specs.Desk.{write_answer, after_write, read_answer, submit_answer, IsStop, IsRefusal};
 
 use super::denied::Denied;
 use super::job_file::job_file;
@@ -113,7 +113,7 @@ impl Session {
         requires client { client < 8 }
         requires some { 1 ≤ pages }
         ensures answer { result ≡ new_id self.old client pages }
-        ensures left { self.new ≡ placed self.old client pages kind result }
+        ensures left { self.new ≡ after_place self.old client pages kind result }
         ensures held { IfOk result (λ id. page_total self.new client id ≡ pages) }
         ensures inside { IfOk result (λ id. id < 64) }
     {
@@ -130,13 +130,13 @@ impl Session {
         Ok(id)
     }
 
-    /// Gives a client a buffer of so many zero pages, by its id. The first of these that stands refuses it, and a refusal changes
+    /// Gives a client a buffer of so many zero pages, by its id. The first of these that is broken refuses it, and a refusal changes
     /// nothing: 5 where `pages` is 0 or over 1,024; 4 where the client has 64 buffers; 6 where no run of free pages is long enough.
     /// It takes no memory.
     pub fn create(&mut self, client: u8, pages: u32) -> Result<u32, u8>
         requires { client < 8 }
         ensures answer { result ≡ create_answer self.old client pages }
-        ensures left { self.new ≡ created self.old client pages result }
+        ensures left { self.new ≡ after_create self.old client pages result }
     {
         if pages == 0 || pages > MOST_PAGES {
             return Err(5);
@@ -145,7 +145,7 @@ impl Session {
     }
 
     /// Gives a client a Code buffer of the least number of pages that holds these bytes, by its id. The rest of its pages is zero. The
-    /// first rule of shaders that stands refuses it, at 8 times the index of its instruction; and then 4 where the client has 64
+    /// first broken rule of shaders refuses it, at 8 times the index of its instruction; and then 4 where the client has 64
     /// buffers, and 6 where no run of free pages is long enough. A refusal changes nothing. It may run out of memory, which changes
     /// nothing either.
     pub fn code(&mut self, alloc: Global, client: u8, bytes: &[u8]) -> Result<u32, Stop<Denied>>
@@ -153,7 +153,7 @@ impl Session {
         requires few { length bytes.now ≤ most_code }
         ensures made { IfOk result (λ id. code_answer self.old client bytes.now ≡ Ok id) }
         ensures refused { IfErr result (IsRefusal (code_answer self.old client bytes.now)) }
-        ensures left { self.new ≡ made self.old client bytes.now result }
+        ensures left { self.new ≡ after_code self.old client bytes.now result }
     {
         check_shader(alloc, bytes)?;
         let pages = bytes.len().div_ceil(PAGE_SIZE as usize) as u32;
@@ -171,7 +171,7 @@ impl Session {
     pub fn free(&mut self, client: u8, id: u32) -> Result<(), u8>
         requires { client < 8 }
         ensures answer { result ≡ free_answer self.old client id }
-        ensures left { self.new ≡ freed self.old client id }
+        ensures left { self.new ≡ after_free self.old client id }
     {
         if id >= MOST_BUFFERS || self.counts[slot(client, id)] == 0 {
             return Err(1);
@@ -182,12 +182,12 @@ impl Session {
         Ok(())
     }
 
-    /// Writes these bytes into a client's buffer from byte `at` on. The first of these that stands refuses it, and a refusal changes
+    /// Writes these bytes into a client's buffer from byte `at` on. The first of these that is broken refuses it, and a refusal changes
     /// nothing: 1 where the client has no such buffer, 3 where it is Code, 2 where they would end past its end. It takes no memory.
     pub fn write(&mut self, client: u8, id: u32, at: u32, part: &[u8]) -> Result<(), u8>
         requires { client < 8 }
         ensures answer { result ≡ write_answer self.old client id at (length part.now) }
-        ensures left { self.new ≡ written self.old client id at part.now result }
+        ensures left { self.new ≡ after_write self.old client id at part.now result }
     {
         if id >= MOST_BUFFERS || self.counts[slot(client, id)] == 0 {
             return Err(1);
@@ -203,7 +203,7 @@ impl Session {
         Ok(())
     }
 
-    /// The `len` bytes of a client's buffer from byte `at` on. The first of these that stands refuses it: 1 where the client has no
+    /// The `len` bytes of a client's buffer from byte `at` on. The first of these that is broken refuses it: 1 where the client has no
     /// such buffer, 2 where they would end past its end or are over 256. It may run out of memory.
     pub fn read(
         &self,
@@ -234,10 +234,10 @@ impl Session {
     /// Checks a client's job, and doesn't run it. `parts` is the job's entry of 124 bytes, its handles, its binner list, its records and
     /// its uniforms. It is asked of the file of version 2 that holds the client's live buffers in order of id, each directly behind the
     /// one before, and this job of the client: its entry's client field is set as far as it is there. A Code buffer has all its bytes
-    /// as contents there, and a Plain one none, so no content of Plain buffers is read.
+    /// as contents there, and a data buffer none, so no content of data buffers is read.
     ///
     /// # Errors
-    /// The first rule that stands of that file, with its offset there; or want of memory.
+    /// The first broken rule of that file, with its offset there; or want of memory.
     pub fn submit(&self, alloc: Global, client: u8, parts: &[u8]) -> Result<(), Stop<Denied>>
         requires { client < 8 }
         ensures accepted { IfOk result (λ done. submit_answer self.now client parts.now ≡ Ok done) }
@@ -275,7 +275,7 @@ impl Session {
     pub(crate) fn packed(&self, alloc: Global, client: u8) -> Result<Vec<Buffer>, NoMemory>
         requires { client < 8 }
         ensures all { IfOk result (λ buffers. buffers.items
-            ≡ packed client (held_in self.now client) 0 most_buffers first_place) }
+            ≡ buffers_packed client (held_in self.now client) 0 most_buffers first_place) }
         ensures few { IfOk result (λ buffers. length buffers.items ≤ most_buffers) }
     {
         let mut buffers = Vec::new(alloc);

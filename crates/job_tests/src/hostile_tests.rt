@@ -183,7 +183,7 @@ fn first_stray(
     None
 }
 
-/// The same over the machine of an accepted file.
+/// The first stray access in a run over the machine of an accepted file.
 fn stray_of(
     alloc: Global,
     bytes: &[u8],

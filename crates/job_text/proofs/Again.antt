@@ -7,9 +7,9 @@ use Rattle.hex.proofs.HexLemmas.{IsDigits-lower_digits}
 use Rattle.field_words.specs.Words.{IsBytes}
 use Rattle.script.specs.Lines.{before, lines_of, onto_line}
 use Rattle.job_text.proofs.Marks.{Free, free_append, free_before, free_by}
-use Rattle.job_text.specs.Made.{words_of, digits_read, size_named, word_by, word_read, words_read, line_read, part_read, stays_inside, lines_read, both, made, is_blank, past_blanks, says}
+use Rattle.job_text.specs.Made.{words_of, digits_read, size_named, word_by, word_read, words_read, line_read, part_read, stays_inside, lines_read, both, text_bytes, is_blank, past_blanks, says}
 use Rattle.job_text.specs.Meanings.{said_if}
-use Rattle.job_text.specs.Shown.{remark, is_in, is_past, reason_text, end_text, line_text, lines_text, shown}
+use Rattle.job_text.specs.Shown.{remark, is_in, is_past, reason_text, end_text, line_text, lines_text, text_shown}
 use Rattle.job_text.specs.{declared.note.Note.Note, declared.note.Note.TheVariants.Unread, declared.note.Piece.Piece}
 
 before_mark : (mark : ℕ) (xs rest : List ℕ) → Free mark xs → before mark (xs ++ mark ∷ rest) ≡ xs
@@ -219,9 +219,9 @@ last_again n is why =
     ap (λ t. lines_read n false (lines_of t)) (sym (append-nil (reason_text is why))) ∙ reason_again n is why [] [] (λ m. refl)
 
 pub shown_again : (bytes text why : List ℕ) (pieces : List Piece) (refused : Option ℕ) → IsBytes bytes
-    → text ≡ shown bytes pieces refused why → made text ≡ Ok bytes
-unfolding shown
+    → text ≡ text_shown bytes pieces refused why → text_bytes text ≡ Ok bytes
+unfolding text_shown
 shown_again bytes text why pieces refused fits is =
-    ap made is
+    ap text_bytes is
     ∙ lines_again pieces 1 0 bytes (reason_text (is_past (length bytes) refused) why) why refused fits
     (λ m. last_again m (is_past (length bytes) refused) why)

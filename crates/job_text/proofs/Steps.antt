@@ -3,7 +3,7 @@ use Rattle.std.proofs.Common.{◌≡◌, ℕ, ◌+◌, ◌≤◌, Bool, List, []
 use Rattle.hex.specs.Hex.{hex_digit_value}
 use Rattle.script.specs.Lines.{lines_of}
 use Rattle.field_words.specs.{declared.stop.Stop.Stop, declared.stop.Stop.TheVariants.Fault, declared.stop.Stop.TheVariants.NoMemory}
-use Rattle.job_text.specs.Made.{byte_at, front_digit, both, words_of, digits_read, word_read, words_read, part_read, stays_inside, lines_read, made, IsFaultOf}
+use Rattle.job_text.specs.Made.{byte_at, front_digit, both, words_of, digits_read, word_read, words_read, part_read, stays_inside, lines_read, text_bytes, IsFaultOf}
 use Rattle.job_text.specs.declared.fault.MakeFault.{MakeFault}
 
 pub both_both : (a b : List ℕ) (r : Result (List ℕ) MakeFault) → both (Ok a) (both (Ok b) r) ≡ both (Ok (a ++ b)) r
@@ -84,11 +84,11 @@ line_step line inside out new first rest lines cut is =
 
 -- the fault of a line behind lines without one is the text's
 pub line_fault : (line : ℕ) (inside : Bool) (out first rest text : List ℕ) (lines : List (List ℕ)) (stop : Stop MakeFault) → lines_of rest ≡ first ∷ lines
-    → both (Ok out) (lines_read line inside (lines_of rest)) ≡ both (Ok []) (made text)
-    → IsFaultOf (part_read line inside first lines) stop → IsFaultOf (made text) stop
+    → both (Ok out) (lines_read line inside (lines_of rest)) ≡ both (Ok []) (text_bytes text)
+    → IsFaultOf (part_read line inside first lines) stop → IsFaultOf (text_bytes text) stop
 unfolding lines_read
 line_fault line inside out first rest text lines (Fault fault) cut same is =
-    sym (both_none (made text)) ∙ sym same ∙ ap (λ l. both (Ok out) (lines_read line inside l)) cut
+    sym (both_none (text_bytes text)) ∙ sym same ∙ ap (λ l. both (Ok out) (lines_read line inside l)) cut
     ∙ ap (λ r. both (Ok out) (both r (lines_read (line + 1) (stays_inside inside first) lines))) is
 line_fault line inside out first rest text lines NoMemory cut same is = tt
 

@@ -113,12 +113,12 @@ unfoldable pub says : List ℕ → List ℕ → Bool
 says word text = bytes_eq (take 3 (past_blanks text)) word && is_nothing (past_blanks (before 35 (drop 3 (past_blanks text))))
 
 -- the assembler reads no other blank than a space
-unfoldable pub spaced : ℕ → ℕ
-spaced c = if is_blank c then 32 else c
+unfoldable pub with_spaces : ℕ → ℕ
+with_spaces c = if is_blank c then 32 else c
 
 -- a line for the assembler: without its note
 unfoldable pub asm_line : List ℕ → List ℕ
-asm_line text = map spaced (before 35 text) ++ codes "\n"
+asm_line text = map with_spaces (before 35 text) ++ codes "\n"
 
 -- the assembler text on the lines up to one that says `end`, which must be there, behind an `asm` on the line of this number
 unfoldable pub block_text : ℕ → List (List ℕ) → Result (List ℕ) MakeFault
@@ -132,14 +132,14 @@ words_made line text (Err fault) =
     Err (record { line = line + fault.line; column = (fault_place text fault).column; mistake = Assembler fault.kind })
 
 -- the bytes that assembler text gives
-unfoldable pub assembled : ℕ → List ℕ → Result (List ℕ) MakeFault
-assembled line text =
+unfoldable pub bytes_assembled : ℕ → List ℕ → Result (List ℕ) MakeFault
+bytes_assembled line text =
     if nat_lt (length text) 4294967295 then words_made line text (Assembled text)
     else Err (record { line = line; column = 1; mistake = LongBlock })
 
 abbrev pub then_assembled : ℕ → Result (List ℕ) MakeFault → Result (List ℕ) MakeFault
 then_assembled line (Err fault) = Err fault
-then_assembled line (Ok text) = assembled line text
+then_assembled line (Ok text) = bytes_assembled line text
 
 -- what `asm` gives on a line, behind which these lines come
 unfoldable pub block_read : ℕ → List (List ℕ) → Result (List ℕ) MakeFault
@@ -160,8 +160,8 @@ lines_read line inside [] = Ok []
 lines_read line inside (text ∷ texts) = both (part_read line inside text texts) (lines_read (line + 1) (stays_inside inside text) texts)
 
 -- the bytes of a whole text, whose lines count from 1, or the first fault in it
-abbrev pub made : List ℕ → Result (List ℕ) MakeFault
-made text = lines_read 1 false (lines_of text)
+abbrev pub text_bytes : List ℕ → Result (List ℕ) MakeFault
+text_bytes text = lines_read 1 false (lines_of text)
 
 -- a fault is the one that was read; want of memory says nothing
 abbrev pub IsFaultOf : Result (List ℕ) MakeFault → Stop MakeFault → Type 0

@@ -9,11 +9,11 @@ use Rattle.job_text.specs.{declared.note.Field.Field, Meanings.bits_style, Meani
 use Rattle.job_text.specs.declared.note.Meaning.TheVariants.{Plain}
 use Rattle.job_text.specs.Floats.{float_text}
 use Rattle.job_text.specs.Names.{named_text, of_job, part_text, stage_name}
-use Rattle.job_text.specs.Rows.{packet_text, valued}
+use Rattle.job_text.specs.Rows.{packet_text, field_valued}
 
--- the same of the number that some bytes are, where numbers count
-unfoldable pub counted : ℕ → List ℕ → ℕ → List ℕ → List ℕ → List ℕ
-counted j name i what bytes = of_job j (name ++ (decimal i ++ (what ++ decimal (u32_at bytes 0))))
+-- a note of the number that some bytes are, where numbers count
+unfoldable pub number_note : ℕ → List ℕ → ℕ → List ℕ → List ℕ → List ℕ
+number_note j name i what bytes = of_job j (name ++ (decimal i ++ (what ++ decimal (u32_at bytes 0))))
 
 -- the uniform that an instruction takes, where it takes one
 abbrev pub taken_text : Option ℕ → List ℕ
@@ -43,20 +43,20 @@ listed_text j buffer packet = of_job j (codes "binner list: " ++ (packet_text (s
 
 -- a field, and what its part is
 unfoldable pub field_text : Part → Field → List ℕ → List ℕ
-field_text part field bytes = part_text part ++ (codes ": " ++ valued field bytes)
+field_text part field bytes = part_text part ++ (codes ": " ++ field_valued field bytes)
 
 -- what a line says of its bytes
 unfoldable pub note_text : Note → List ℕ → List ℕ
 note_text (Number part field) bytes = field_text part field bytes
 note_text (Named part field buffer) bytes = field_text part field bytes ++ named_text buffer
 note_text (Sized part field width height) bytes = field_text part field bytes ++ size_text (bits_style field (u32_at bytes 0)) width height
-note_text (Handle j i) bytes = counted j (codes "handle ") i (codes ": buffer ") bytes
+note_text (Handle j i) bytes = number_note j (codes "handle ") i (codes ": buffer ") bytes
 note_text (Packet j buffer) bytes = listed_text j buffer bytes
 note_text (BehindHalt j) bytes = of_job j (codes "binner list: behind the halt")
 note_text (Records j) bytes = of_job j (codes "shader records")
-note_text (Uniform j i) bytes = counted j (codes "uniform ") i (codes ": ") bytes
+note_text (Uniform j i) bytes = number_note j (codes "uniform ") i (codes ": ") bytes
 note_text (Taken j i k stage meaning) bytes =
-    counted j (codes "uniform ") i (codes ": ") bytes ++ (value_text meaning (u32_at bytes 0) ++ meant_text k stage meaning)
+    number_note j (codes "uniform ") i (codes ": ") bytes ++ (value_text meaning (u32_at bytes 0) ++ meant_text k stage meaning)
 note_text (Data b) bytes = codes "buffer " ++ (decimal b ++ codes " content")
 note_text (Instruction b i uniform) bytes = numbered_text b i ++ instruction_text (u64_at bytes 0) uniform
 note_text Unread bytes = codes "unread"

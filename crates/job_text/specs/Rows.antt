@@ -35,15 +35,15 @@ packet_row o =
     else (codes "no packet", [])))))))))))))))))))))
 
 -- a field's name and number, and what the number means
-unfoldable pub valued : Field → List ℕ → List ℕ
-valued field bytes =
+unfoldable pub field_valued : Field → List ℕ → List ℕ
+field_valued field bytes =
     field_name field ++ (codes " " ++ (decimal (u32_at bytes 0) ++ field_meaning field (u32_at bytes 0)))
 
 -- the fields that bytes hold one after the other
 unfoldable pub fields_text : List Field → List ℕ → List ℕ
 fields_text [] bytes = []
 fields_text (field ∷ fields) bytes =
-    (codes ", " ++ valued field (take (field_size field) bytes)) ++ fields_text fields (drop (field_size field) bytes)
+    (codes ", " ++ field_valued field (take (field_size field) bytes)) ++ fields_text fields (drop (field_size field) bytes)
 
 -- the name of a packet, and its fields
 unfoldable pub packet_text : ℕ → List ℕ → List ℕ

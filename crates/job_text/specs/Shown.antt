@@ -40,5 +40,5 @@ lines_text at bytes (piece ∷ pieces) refused why =
     ++ lines_text (at + length (take piece.size bytes)) (drop piece.size bytes) pieces refused why
 
 -- The whole text. The reason stands at the end where the refusal's offset is no byte's.
-unfoldable pub shown : List ℕ → List Piece → Option ℕ → List ℕ → List ℕ
-shown bytes pieces refused why = lines_text 0 bytes pieces refused why ++ reason_text (is_past (length bytes) refused) why
+unfoldable pub text_shown : List ℕ → List Piece → Option ℕ → List ℕ → List ℕ
+text_shown bytes pieces refused why = lines_text 0 bytes pieces refused why ++ reason_text (is_past (length bytes) refused) why

@@ -13,16 +13,16 @@ unfoldable pub pixel_text : TextureModel → List ℕ
 pixel_text t = if is_unlisted t then codes ", no listed type" else listed_text t
 
 -- a number behind its name
-unfoldable pub told : List ℕ → ℕ → List ℕ
-told name n = name ++ decimal n
+unfoldable pub named_number : List ℕ → ℕ → List ℕ
+named_number name n = name ++ decimal n
 
 -- what the first set-up word says, and what the second
 unfoldable pub base_text : TextureModel → List ℕ
 base_text t =
-    told (codes "texture base ") (face_place t 0) ++ (told (codes ", faces ") (faces_of t) ++ told (codes ", levels below ") t.levels)
+    named_number (codes "texture base ") (face_place t 0) ++ (named_number (codes ", faces ") (faces_of t) ++ named_number (codes ", levels below ") t.levels)
 
 unfoldable pub sides_text : TextureModel → List ℕ
-sides_text t = told (codes "width ") (level_width_of t 0) ++ (told (codes ", height ") (level_height_of t 0) ++ pixel_text t)
+sides_text t = named_number (codes "width ") (level_width_of t 0) ++ (named_number (codes ", height ") (level_height_of t 0) ++ pixel_text t)
 
 -- what the set-up word of a number says, of four
 unfoldable pub setup_text : ℕ → List ℕ → List ℕ

@@ -4,7 +4,7 @@ ghost use Rattle.std.specs.List.{flat_map};
 ghost use Rattle.std.specs.Int.{to_le_bytes, w64};
 ghost use Rattle.script.specs.Lines.{before, lines_of};
 ghost use Rattle.qpu_asm.specs.Assembly.{Assembled};
-ghost use Rattle.job_text.specs.Made.{past_blanks, says, spaced, asm_line, both, block_text, words_made, assembled, block_read, IsFaultOf};
+ghost use Rattle.job_text.specs.Made.{past_blanks, says, with_spaces, asm_line, both, block_text, words_made, bytes_assembled, block_read, IsFaultOf};
 
 use crate::fault::{MakeFault, Mistake};
 use crate::words::is_blank;
@@ -37,9 +37,9 @@ pub(crate) fn says(word: &[u8], line: &[u8]) -> bool
     front == word && past_blanks(cut_at(rest, b'#').first).is_empty()
 }
 
-#[tactic(auto, unfolding(crate::specs::Made::spaced))]
+#[tactic(auto, unfolding(crate::specs::Made::with_spaces))]
 fn spaced(character: u8) -> u8
-    ensures { result ≡ spaced character }
+    ensures { result ≡ with_spaces character }
 {
     if is_blank(character) {
         return b' ';
@@ -109,7 +109,7 @@ fn fault_in(
 }
 
 // Appends the bytes that assembler text gives.
-#[tactic(auto, unfolding(crate::specs::Made::assembled))]
+#[tactic(auto, unfolding(crate::specs::Made::bytes_assembled))]
 fn put_assembled(
     alloc: Global,
     out: &mut Vec<u8>,
@@ -117,9 +117,9 @@ fn put_assembled(
     text: &[u8],
 ) -> Result<(), Stop<MakeFault>>
     requires { line ≤ 2 ^ 63 }
-    ensures bytes { IfOk result (λ _. both (Ok out.old.items) (assembled line text.now)
+    ensures bytes { IfOk result (λ _. both (Ok out.old.items) (bytes_assembled line text.now)
         ≡ Ok out.new.items) }
-    ensures fault { IfErr result (IsFaultOf (assembled line text.now)) }
+    ensures fault { IfErr result (IsFaultOf (bytes_assembled line text.now)) }
 {
     if text.len() >= 4_294_967_295 {
         return Err(Stop::Fault(MakeFault::new(line, 1, Mistake::LongBlock)));

@@ -1,6 +1,6 @@
 //! What a line says of its bytes.
 ghost use Rattle.std.specs.Prelude.{◌≡◌, ◌++◌, drop, OnOk};
-ghost use Rattle.job_text.specs.Notes.{counted, value_text, field_text, meant_text, listed_text, note_text};
+ghost use Rattle.job_text.specs.Notes.{number_note, value_text, field_text, meant_text, listed_text, note_text};
 
 use crate::floats::put_float;
 use crate::instructions::{put_instruction, put_numbered};
@@ -21,7 +21,7 @@ fn put_field(out: &mut Vec<u8>, part: Part, field: Field, bytes: &[u8]) -> Resul
     put_valued(out, field, bytes)
 }
 
-#[tactic(auto, unfolding(crate::specs::Names::of_job, crate::specs::Notes::counted))]
+#[tactic(auto, unfolding(crate::specs::Names::of_job, crate::specs::Notes::number_note))]
 fn put_counted(
     out: &mut Vec<u8>,
     job: u32,
@@ -31,7 +31,7 @@ fn put_counted(
     bytes: &[u8],
 ) -> Result<(), AllocError>
     ensures { OnOk result (out.new.items ≡ out.old.items
-        ++ counted job name.now count what.now bytes.now) }
+        ++ number_note job name.now count what.now bytes.now) }
 {
     put_of_job(out, job, name)?;
     put_number(out, count)?;

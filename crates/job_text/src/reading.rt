@@ -2,7 +2,7 @@
 ghost use Rattle.std.specs.Prelude.{◌≡◌, ◌+◌, ◌≤◌, ◌<◌, ◌^◌, length, IfOk, IfErr, IfSome, Ok, MatchResult};
 ghost use Rattle.field_words.specs.declared.stop.Stop.TheVariants.{Fault};
 ghost use Rattle.hex.specs.Hex.{hex_digit_value};
-ghost use Rattle.job_text.specs.Made.{byte_at, front_digit, both, digits_read, number_named, number_read, word_read, line_read, part_read, stays_inside, made, IsFaultOf};
+ghost use Rattle.job_text.specs.Made.{byte_at, front_digit, both, digits_read, number_named, number_read, word_read, line_read, part_read, stays_inside, text_bytes, IsFaultOf};
 ghost use Rattle.script.specs.Lines.{lines_of};
 
 use crate::blocks::{put_block, says};
@@ -168,8 +168,8 @@ fn stays_inside(inside: bool, text: &[u8]) -> bool
 /// follows a `#` is a note. Between a line that says `asm` and one that says `end` stands assembler text, which gives the bytes of its
 /// words. The fault is the first in the text. Want of memory is the only other error.
 pub fn make(alloc: Global, text: &[u8]) -> Result<Vec<u8>, Stop<MakeFault>>
-    ensures bytes { IfOk result (λ bytes. made text.now ≡ Ok bytes.items) }
-    ensures fault { IfErr result (IsFaultOf (made text.now)) }
+    ensures bytes { IfOk result (λ bytes. text_bytes text.now ≡ Ok bytes.items) }
+    ensures fault { IfErr result (IsFaultOf (text_bytes text.now)) }
 {
     let mut out = Vec::new(alloc);
     let mut rest = text;

@@ -1,6 +1,6 @@
 //! The fields of a binner list's packets.
 ghost use Rattle.std.specs.Prelude.{◌≡◌, ◌++◌, OnOk};
-ghost use Rattle.job_text.specs.Rows.{packet_row, packet_text, valued, fields_text};
+ghost use Rattle.job_text.specs.Rows.{packet_row, packet_text, field_valued, fields_text};
 
 use crate::meanings::put_meaning;
 use crate::names::{field_row, field_size};
@@ -15,9 +15,9 @@ use packets::opcode::{
 use std::alloc::AllocError;
 
 /// Appends a field's name and number, and what the number means.
-#[tactic(auto, unfolding(crate::specs::Rows::valued))]
+#[tactic(auto, unfolding(crate::specs::Rows::field_valued))]
 pub(crate) fn put_valued(out: &mut Vec<u8>, field: Field, bytes: &[u8]) -> Result<(), AllocError>
-    ensures { OnOk result (out.new.items ≡ out.old.items ++ valued field bytes.now) }
+    ensures { OnOk result (out.new.items ≡ out.old.items ++ field_valued field bytes.now) }
 {
     let value = number(bytes);
     out.extend_from_slice(field_row(field).0.as_bytes())?;

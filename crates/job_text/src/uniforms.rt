@@ -1,7 +1,7 @@
 //! What a line says of a uniform.
 ghost use Rattle.std.specs.Prelude.{◌≡◌, ◌++◌, false, OnOk};
 ghost use Rattle.texture_layouts.specs.Fits.{is_unlisted};
-ghost use Rattle.job_text.specs.Uniforms.{listed_text, pixel_text, told, base_text, sides_text, setup_text, sample_text, meaning_text};
+ghost use Rattle.job_text.specs.Uniforms.{listed_text, pixel_text, named_number, base_text, sides_text, setup_text, sample_text, meaning_text};
 
 use crate::meanings::tiling_name;
 use crate::names::put_named;
@@ -35,9 +35,9 @@ fn put_pixel(out: &mut Vec<u8>, texture: &Texture) -> Result<(), AllocError>
     put_listed(out, texture)
 }
 
-#[tactic(auto, unfolding(crate::specs::Uniforms::told))]
-fn put_told(out: &mut Vec<u8>, name: &[u8], number: usize) -> Result<(), AllocError>
-    ensures { OnOk result (out.new.items ≡ out.old.items ++ told name.now number) }
+#[tactic(auto, unfolding(crate::specs::Uniforms::named_number))]
+fn put_named_number(out: &mut Vec<u8>, name: &[u8], number: usize) -> Result<(), AllocError>
+    ensures { OnOk result (out.new.items ≡ out.old.items ++ named_number name.now number) }
 {
     out.extend_from_slice(name)?;
     put_number(out, number)?;
@@ -48,9 +48,9 @@ fn put_told(out: &mut Vec<u8>, name: &[u8], number: usize) -> Result<(), AllocEr
 fn put_base(out: &mut Vec<u8>, texture: &Texture) -> Result<(), AllocError>
     ensures { OnOk result (out.new.items ≡ out.old.items ++ base_text texture.now) }
 {
-    put_told(out, b"texture base ", texture.face_place(0) as usize)?;
-    put_told(out, b", faces ", texture.faces() as usize)?;
-    put_told(out, b", levels below ", texture.levels() as usize)?;
+    put_named_number(out, b"texture base ", texture.face_place(0) as usize)?;
+    put_named_number(out, b", faces ", texture.faces() as usize)?;
+    put_named_number(out, b", levels below ", texture.levels() as usize)?;
     Ok(())
 }
 
@@ -58,8 +58,8 @@ fn put_base(out: &mut Vec<u8>, texture: &Texture) -> Result<(), AllocError>
 fn put_sides(out: &mut Vec<u8>, texture: &Texture) -> Result<(), AllocError>
     ensures { OnOk result (out.new.items ≡ out.old.items ++ sides_text texture.now) }
 {
-    put_told(out, b"width ", texture.level_width(0) as usize)?;
-    put_told(out, b", height ", texture.level_height(0) as usize)?;
+    put_named_number(out, b"width ", texture.level_width(0) as usize)?;
+    put_named_number(out, b", height ", texture.level_height(0) as usize)?;
     put_pixel(out, texture)?;
     Ok(())
 }

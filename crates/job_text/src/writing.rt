@@ -1,9 +1,9 @@
 //! A file as text.
 ghost use Rattle.std.specs.Prelude.{◌≡◌, ◌≤◌, ◌<◌, ◌^◌, ◌+◌, ◌++◌, length, List, IfOk, OnOk, Ok};
 ghost use Rattle.job_text.specs.declared.note.Piece.{Piece as PieceModel};
-ghost use Rattle.job_text.specs.Shown.{remark, is_in, is_past, reason_text, end_text, line_text, shown};
+ghost use Rattle.job_text.specs.Shown.{remark, is_in, is_past, reason_text, end_text, line_text, text_shown};
 ghost use Rattle.job_text.specs.Cuts.{AreLines, AreAllLines};
-ghost use Rattle.job_text.specs.Made.{made};
+ghost use Rattle.job_text.specs.Made.{text_bytes};
 
 use crate::code::{Taking, next, uniform_of};
 use crate::cuts::cuts_of;
@@ -182,7 +182,7 @@ fn put_lines(
 /// offset, its line is marked and the reason follows, up to its first line feed, on a line of its own; or it stands at the end,
 /// where the offset is no byte's. Which lines a file has isn't pinned: the clauses hold for any cut into pieces. Want of memory
 /// is the only error.
-#[tactic(auto, unfolding(crate::specs::Shown::shown), using(crate::proofs::Again::shown_again))]
+#[tactic(auto, unfolding(crate::specs::Shown::text_shown), using(crate::proofs::Again::shown_again))]
 pub fn show(
     alloc: Global,
     bytes: &[u8],
@@ -190,8 +190,8 @@ pub fn show(
     why: &[u8],
 ) -> Result<Vec<u8>, NoMemory>
     ensures text { IfOk result (λ text. (pieces : List PieceModel)
-        × (text.items ≡ shown bytes.now pieces refused why.now)) }
-    ensures again { IfOk result (λ text. made text.items ≡ Ok bytes.now) }
+        × (text.items ≡ text_shown bytes.now pieces refused why.now)) }
+    ensures again { IfOk result (λ text. text_bytes text.items ≡ Ok bytes.now) }
 {
     let cuts = cuts_of(alloc, bytes)?;
     let mut out = Vec::new(alloc);

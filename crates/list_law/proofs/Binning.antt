@@ -3,18 +3,18 @@ use Rattle.std.proofs.Common.{◌≡◌, ◌≢◌, ◌<◌, ◌⊎◌, inl, inr
 use Rattle.std.proofs.lemmas.{Grind.common_steps, List.length-replicate, Bool.and_parts, Bool.Decides.nat_tests}
 use Rattle.std.proofs.Math.Nat.{mod-lt}
 use Rattle.std.specs.Prelude.{nat_lt}
-use Rattle.field_words.specs.{Pieces.joined, Words.u32_at, declared.access.Access.Access, declared.access.Way.TheVariants.Read}
+use Rattle.field_words.specs.{Pieces.joined_texts, Words.u32_at, declared.access.Access.Access, declared.access.Way.TheVariants.Read}
 use Rattle.packets.specs.Opcode.{halt, flush, start_tile_binning, increment_semaphore, indexed_primitive_list, array_primitive_list, gl_shader_state, tile_binning_mode, buffer_handles}
 use Rattle.packets.specs.{Length.bin_length, Length.bin_taken, declared.config.Config.Config, Config.config_in}
 use Rattle.machine_plan.specs.declared.{who.Who.Who, launch.Free.Free, launch.Launch.Launch}
-use Rattle.machine_plan.specs.{World.mapped, Glance.glanced, Memory.bytes_at}
+use Rattle.machine_plan.specs.{World.plan_mapped, Glance.glance_result, Memory.bytes_at}
 use Rattle.machine_plan.specs.{Plan.Plan, Plan.Done, Plan.Wilds, Plan.Keeps, Plan.access, Regions.Inside, Regions.Rights, Regions.IsSafeIn}
 use Rattle.machine_plan.proofs.{Memory.inside_part, Safe.read_safe, Plans.keeps_weaker, Worlds.keeps_mapped}
 use Rattle.bin_list.specs.Packets.{opcode}
 use Rattle.bin_walks.specs.Walks.{Kept as Passed, kept_after, Drawing, Tame, Walks}
 use Rattle.list_machine.specs.declared.state.{Binner.Binner, Item.Item, Kept.Kept, Frame.Frame, Work.Work, Program.TheVariants.Coordinate}
-use Rattle.list_machine.specs.Lists.{Lists, Turned, quiet, with_binner, with_kept, with_work, past, incremented, flushed}
-use Rattle.list_machine.specs.Binner.{configured, with_word, started, clear_plan, begin_plan, work_of, drawn, draw_plan, halted, is_unknown, packet_plan, read_plan, one_done, fetched_with, not_due, started_with, chosen_tile, tile_plan, item_plan, work_plan, binner_by, binner_plan, item_may, work_may, binner_may, binner_ready}
+use Rattle.list_machine.specs.Lists.{Lists, Turned, quiet, with_binner, with_kept, with_work, past, after_increment, after_flush}
+use Rattle.list_machine.specs.Binner.{config_set, with_word, after_start, clear_plan, begin_plan, work_of, plan_of_draw, draw_plan, after_halt, is_unknown, packet_plan, read_plan, one_done, fetched_with, not_due, started_with, chosen_tile, tile_plan, item_plan, work_plan, binner_by, binner_plan, item_may, work_may, binner_may, binner_ready}
 use Rattle.list_machine.specs.{Blocks.tiles_of, Fetch.fetch_plan, Start.start_plan, Start.can_start}
 use Rattle.list_law.specs.Binning.{passed_of, Allocates, DrawsSo, OnWay, WorkFine, LogFine, IsOnly, Only}
 use Rattle.list_law.specs.Lists.{ListsFine, TurnedFine}
@@ -22,7 +22,7 @@ use Rattle.list_law.proofs.Bytes.{none_left, bytes_front, bytes_behind, byte_fro
 use Rattle.list_law.proofs.{Safe.write_safe, Safe.keeps_if, Logs.same, Logs.not_same, Logs.put_keeps}
 use Rattle.list_law.proofs.Fetching.{AnyEnd, fetch_keeps, start_fine}
 
--- The same with another binner.
+-- All is kept with another binner.
 pub binner_set : (r : Rights) (K : List ℕ → Type 0) (O : Launch → Type 0) (c : Config) (f : Frame) (s : Lists) (b : Binner) → ListsFine r K O c f s
     → OnWay r K O c b.place b.end b.kept → IfSome b.work (WorkFine r K O) → IsOnly c b.kept.config → (s.closed ≡ true → b.kept.config ≡ Some c)
     → ListsFine r K O c f (with_binner s b)
@@ -33,7 +33,7 @@ pub work_set : (r : Rights) (K : List ℕ → Type 0) (O : Launch → Type 0) (c
     → ListsFine r K O c f (with_work s work)
 work_set r K O c f s work fine one = binner_set r K O c f s (record (s.binner) { work = work }) fine fine.binner one fine.configs fine.closed
 
--- The same with more items, another count of the semaphore, and all closed or not.
+-- All is kept with more items, another count of the semaphore, and all closed or not.
 pub items_set : (r : Rights) (K : List ℕ → Type 0) (O : Launch → Type 0) (c : Config) (f : Frame) (s : Lists) (pending semaphore : ℕ) (closed : Bool) (blocks : ℕ) (items : List Item)
     → (fine : ListsFine r K O c f s) → LogFine r K O c items → (semaphore ≡ 0) ⊎ (closed ≡ true) → (fine.waited ≡ true → closed ≡ true) → (closed ≡ true → s.binner.kept.config ≡ Some c)
     → ListsFine r K O c f (record s { pending = pending; semaphore = semaphore; closed = closed; blocks = blocks; items = items })
@@ -78,17 +78,17 @@ is_known o known no_handles = grind (arith, common_steps, nat_tests, known, no_h
 
 -- where the binner stands behind a packet, with what it keeps then
 way_behind : (r : Rights) (K : List ℕ → Type 0) (O : Launch → Type 0) (c : Config) (place end : ℕ) (kept after : Kept) (packet : List ℕ) (packets : List (List ℕ))
-    → place + length (packet ++ joined packets) ≡ end → Walks c (DrawsSo r K O) (kept_after (passed_of kept) packet) packets
-    → ((m : List ℕ) → K m → bytes_at m place (length (packet ++ joined packets)) ≡ packet ++ joined packets) → Inside r.region place (length (packet ++ joined packets))
+    → place + length (packet ++ joined_texts packets) ≡ end → Walks c (DrawsSo r K O) (kept_after (passed_of kept) packet) packets
+    → ((m : List ℕ) → K m → bytes_at m place (length (packet ++ joined_texts packets)) ≡ packet ++ joined_texts packets) → Inside r.region place (length (packet ++ joined_texts packets))
     → kept_after (passed_of kept) packet ≡ passed_of after → OnWay r K O c (place + length packet) end after
 way_behind r K O c place end kept after packet packets ends walks stands reads is = grind (arith, common_steps, nat_tests, behind_ends, bytes_behind, behind_inside)
 
 -- The packet plan from each test on.
 abbrev pub plan_flush : Lists → List ℕ → Plan Lists
-plan_flush s p = if slice_index p 0 == flush then Done (flushed s) else Done s
+plan_flush s p = if slice_index p 0 == flush then Done (after_flush s) else Done s
 
 abbrev pub plan_raise : Lists → List ℕ → Plan Lists
-plan_raise s p = if slice_index p 0 == increment_semaphore then Done (incremented s) else plan_flush s p
+plan_raise s p = if slice_index p 0 == increment_semaphore then Done (after_increment s) else plan_flush s p
 
 abbrev pub plan_draw : Lists → List ℕ → Plan Lists
 plan_draw s p = if slice_index p 0 == indexed_primitive_list || slice_index p 0 == array_primitive_list then draw_plan s p else plan_raise s p
@@ -100,20 +100,20 @@ abbrev pub plan_start : Lists → List ℕ → Plan Lists
 plan_start s p = if slice_index p 0 == start_tile_binning then begin_plan s s.binner.kept.config else plan_word s p
 
 abbrev pub plan_config : Lists → List ℕ → Plan Lists
-plan_config s p = if slice_index p 0 == tile_binning_mode then Done (configured s p) else plan_start s p
+plan_config s p = if slice_index p 0 == tile_binning_mode then Done (config_set s p) else plan_start s p
 
 abbrev pub plan_halt : Lists → List ℕ → Plan Lists
-plan_halt s p = if slice_index p 0 == halt then Done (halted s) else plan_config s p
+plan_halt s p = if slice_index p 0 == halt then Done (after_halt s) else plan_config s p
 
 -- a start clears the states of all tiles
 clear_keeps : (who : Who) (r : Rights) (L : ℕ → ℕ → Type 0) (P : List ℕ → Lists → Type 0) (c : Config) (s : Lists) (config : Option Config) (m : List ℕ)
-    → Allocates r c → config ≡ Some c → ((k : List ℕ) → P k (started s)) → Keeps who L (IsSafeIn r) P (begin_plan s config) m
+    → Allocates r c → config ≡ Some c → ((k : List ℕ) → P k (after_start s)) → Keeps who L (IsSafeIn r) P (begin_plan s config) m
 unfolding clear_plan
 clear_keeps who r L P c s config m allocates is ends = search (rules, arith, length-replicate, write_safe)
 
 -- a primitive is drawn under the state word, behind the start
 draw_keeps_by : (who : Who) (G : Access → Type 0) (L : ℕ → ℕ → Type 0) (P : List ℕ → Lists → Type 0) (s : Lists) (packet m : List ℕ) (on : Bool) (kept : Option ℕ) (word : ℕ)
-    → kept ≡ Some word → on ≡ true → P m (with_work s (Some (work_of word packet))) → Keeps who L G P (if on then drawn s kept packet else Wilds) m
+    → kept ≡ Some word → on ≡ true → P m (with_work s (Some (work_of word packet))) → Keeps who L G P (if on then plan_of_draw s kept packet else Wilds) m
 draw_keeps_by who G L P s packet m on kept word is begun ends = search (rules, arith)
 
 draw_keeps : (who : Who) (r : Rights) (K : List ℕ → Type 0) (O : Launch → Type 0) (c : Config) (f : Frame) (L : ℕ → ℕ → Type 0) (s : Lists) (packet m : List ℕ)
@@ -138,7 +138,7 @@ packet_keeps : (who : Who) (r : Rights) (K : List ℕ → Type 0) (O : Launch �
     → Allocates r c → ListsFine r K O c f s → Tame c (DrawsSo r K O) (passed_of s.binner.kept) packet
     → ((after : Kept) → kept_after (passed_of s.binner.kept) packet ≡ passed_of after → OnWay r K O c (s.binner.place + length packet) s.binner.end after)
     → Keeps who L (IsSafeIn r) (λ k next. ListsFine r K O c f next) (packet_plan (past s (length packet)) packet) m
-unfolding packet_plan configured with_word started
+unfolding packet_plan config_set with_word after_start
 packet_keeps who r K O c f L s packet m allocates fine tame way =
     let G = IsSafeIn r in
     let P = λ (k : List ℕ) (next : Lists). ListsFine r K O c f next in
@@ -148,8 +148,8 @@ packet_keeps who r K O c f L s packet m allocates fine tame way =
     let gone : (k : Kept) → kept_after (passed_of kept) packet ≡ passed_of k → IsOnly c k.config → (s.closed ≡ true → k.config ≡ Some c) → ListsFine r K O c f (with_kept after k) =
     λ k is configs closed. binner_set r K O c f s (record (s.binner) { place = s.binner.place + length packet; kept = k }) fine (way k is) fine.work configs closed in
     keeps_if who L G P m (is_unknown o) Wilds (plan_halt after packet) (λ on. absurd (clash (is_unknown o) on (is_known o tame.known tame.no_handles)))
-    (λ known. keeps_if who L G P m (o == halt) (Done (halted after)) (plan_config after packet) (λ on. absurd (tame.no_halt (same o halt on)))
-    (λ no_halt. keeps_if who L G P m (o == tile_binning_mode) (Done (configured after packet)) (plan_start after packet)
+    (λ known. keeps_if who L G P m (o == halt) (Done (after_halt after)) (plan_config after packet) (λ on. absurd (tame.no_halt (same o halt on)))
+    (λ no_halt. keeps_if who L G P m (o == tile_binning_mode) (Done (config_set after packet)) (plan_start after packet)
     (λ on.
     let is : o ≡ tile_binning_mode = same o tile_binning_mode on in
     let now : config_in packet ≡ c = tame.configures is in
@@ -174,17 +174,17 @@ packet_keeps who r K O c f L s packet m allocates fine tame way =
       | inr e ↦ tame.array (same o array_primitive_list e)
     ] in
     draw_keeps who r K O c f L after packet m drawing rest)
-    (λ no_draw. keeps_if who L G P m (o == increment_semaphore) (Done (incremented after)) (plan_flush after packet)
+    (λ no_draw. keeps_if who L G P m (o == increment_semaphore) (Done (after_increment after)) (plan_flush after packet)
     (λ on. items_set r K O c f after (after.pending + 1) after.semaphore after.closed after.blocks after.items rest rest.log rest.counted rest.passed rest.closed)
-    (λ no_raise. keeps_if who L G P m (o == flush) (Done (flushed after)) (Done after)
+    (λ no_raise. keeps_if who L G P m (o == flush) (Done (after_flush after)) (Done after)
     (λ on. items_set r K O c f after 0 (after.semaphore + after.pending) true after.blocks after.items rest rest.log (inr refl) (λ waited. refl) (λ closed. tame.closes (same o flush on)))
     (λ no_flush. rest))))))))
 
 -- The binner reads its next packet.
 read_step : (who : Who) (r : Rights) (K : List ℕ → Type 0) (O : Launch → Type 0) (c : Config) (f : Frame) (s : Lists) (m : List ℕ) (rest : List (List ℕ))
     → Allocates r c → K m → ListsFine r K O c f s → s.binner.place < s.binner.end
-    → s.binner.place + length (joined rest) ≡ s.binner.end → Walks c (DrawsSo r K O) (passed_of s.binner.kept) rest
-    → ((n : List ℕ) → K n → bytes_at n s.binner.place (length (joined rest)) ≡ joined rest) → Inside r.region s.binner.place (length (joined rest))
+    → s.binner.place + length (joined_texts rest) ≡ s.binner.end → Walks c (DrawsSo r K O) (passed_of s.binner.kept) rest
+    → ((n : List ℕ) → K n → bytes_at n s.binner.place (length (joined_texts rest)) ≡ joined_texts rest) → Inside r.region s.binner.place (length (joined_texts rest))
     → Keeps who (Inside r.region) (IsSafeIn r) (λ k next. ListsFine r K O c f next) (read_plan s) m
 read_step who r K O c f s m [] allocates here fine below ends walks stands reads = absurd (none_left s.binner.place s.binner.end ends below)
 read_step who r K O c f s m (packet ∷ packets) allocates here fine below ends walks stands reads =
@@ -212,7 +212,7 @@ work_keeps who r K O c f s w free words m allocates here fine work ready =
     let L = Inside r.region in
     let G = IsSafeIn r in
     let P = λ (k : List ℕ) (turned : Turned). TurnedFine r K O c f turned in
-    keeps_if who L G P m w.due (mapped (started_with s w) (start_plan Coordinate free w.word)) (if nat_lt w.done w.primitive.length then mapped (fetched_with s w) (fetch_plan w.primitive w.word w.done) else mapped quiet (item_plan s s.binner.kept.config w words))
+    keeps_if who L G P m w.due (plan_mapped (started_with s w) (start_plan Coordinate free w.word)) (if nat_lt w.done w.primitive.length then plan_mapped (fetched_with s w) (fetch_plan w.primitive w.word w.done) else plan_mapped quiet (item_plan s s.binner.kept.config w words))
     (λ on. keeps_mapped (started_with s w) who L G P (start_plan Coordinate free w.word) m
     (keeps_weaker who L L G G (λ n launch. IfSome launch O) (λ n launch. P n (started_with s w launch)) (λ p n h. h) (λ a h. h)
     (λ n launch may. record {
@@ -220,7 +220,7 @@ work_keeps who r K O c f s w free words m allocates here fine work ready =
       launch = may;
     })
     (start_plan Coordinate free w.word) m (start_fine who r O m Coordinate free w.word (work.uses.programs m here))))
-    (λ off. keeps_if who L G P m (nat_lt w.done w.primitive.length) (mapped (fetched_with s w) (fetch_plan w.primitive w.word w.done)) (mapped quiet (item_plan s s.binner.kept.config w words))
+    (λ off. keeps_if who L G P m (nat_lt w.done w.primitive.length) (plan_mapped (fetched_with s w) (fetch_plan w.primitive w.word w.done)) (plan_mapped quiet (item_plan s s.binner.kept.config w words))
     (λ more.
     let below : w.done < w.primitive.length = grind (arith, common_steps, nat_tests, more) in
     keeps_mapped (fetched_with s w) who L G P (fetch_plan w.primitive w.word w.done) m
@@ -256,7 +256,7 @@ binner_keeps_by who r K O c f s (Some w) free words m allocates here fine work r
 
 -- One step of the binner.
 pub binner_keeps : (who : Who) (r : Rights) (K : List ℕ → Type 0) (O : Launch → Type 0) (c : Config) (f : Frame) (s : Lists) (free : Free) (words m : List ℕ)
-    → Allocates r c → K m → ListsFine r K O c f s → glanced (binner_ready s free) m ≡ true
+    → Allocates r c → K m → ListsFine r K O c f s → glance_result (binner_ready s free) m ≡ true
     → Keeps who (Inside r.region) (IsSafeIn r) (λ k turned. TurnedFine r K O c f turned) (binner_plan s free words) m
 unfolding binner_plan binner_ready
 binner_keeps who r K O c f s free words m allocates here fine ready = binner_keeps_by who r K O c f s s.binner.work free words m allocates here fine fine.work ready

@@ -11,8 +11,8 @@ use Rattle.machine_plan.proofs.{Memory.inside_part, Words.byte_read, Words.word_
 use Rattle.list_machine.specs.declared.state.Program.{Program, TheVariants.Fragment, TheVariants.Vertex, TheVariants.Coordinate}
 use Rattle.list_machine.specs.Fetch.{index_size, record_place, attribute_place, extension_place, data_size, stride_of, data_place}
 use Rattle.list_machine.specs.{Binner.primitive_of, Start.code_offset, Start.is_threaded}
-use Rattle.list_law.specs.Uses.{attribute_at, extension_at, Fetches, launched, threaded_by, Programs}
-use Rattle.list_law.specs.Emitted.{words_in, RecordStands, NamedInside, IsStateOf, program_in}
+use Rattle.list_law.specs.Uses.{attribute_at, extension_at, Fetches, program_launched, threaded_by, Programs}
+use Rattle.list_law.specs.Emitted.{words_in, RecordLies, NamedInside, IsStateOf, program_in}
 use Rattle.list_law.proofs.{Logs.same, Logs.not_same, Words.low_byte, Words.next_byte, Words.low_bit}
 
 pub same_count : (state word : ℕ) → IsStateOf state word → attribute_count state ≡ attribute_count word
@@ -31,15 +31,15 @@ address_is m word t = word_read m (record_place word + 36 + 8 * t) 8 (omega arit
 shape_at : (base t : ℕ) → base + 36 + 8 * t + 4 ≡ base + 4 * (10 + 2 * t)
 shape_at base t = omega arith
 
-first_fits : (region : List Interval) (m : List ℕ) (word t : ℕ) → RecordStands region m word → t < attribute_count word → slice_index m (record_place word + 36 + 8 * t + 4) < 256
+first_fits : (region : List Interval) (m : List ℕ) (word t : ℕ) → RecordLies region m word → t < attribute_count word → slice_index m (record_place word + 36 + 8 * t + 4) < 256
 first_fits region m word t stands below =
     subst (λ p. slice_index m p < 256) (omega arith) (stands.bytes (36 + 8 * t + 4) (omega (arith, entry_in word t below)))
 
-second_fits : (region : List Interval) (m : List ℕ) (word t : ℕ) → RecordStands region m word → t < attribute_count word → slice_index m (record_place word + 36 + 8 * t + 4 + 1) < 256
+second_fits : (region : List Interval) (m : List ℕ) (word t : ℕ) → RecordLies region m word → t < attribute_count word → slice_index m (record_place word + 36 + 8 * t + 4 + 1) < 256
 second_fits region m word t stands below =
     subst (λ p. slice_index m p < 256) (omega arith) (stands.bytes (36 + 8 * t + 5) (omega (arith, entry_in word t below)))
 
-size_is : (region : List Interval) (m : List ℕ) (word t : ℕ) → RecordStands region m word → t < attribute_count word → data_size (attribute_at m word t) ≡ attribute_size (words_in m word) t
+size_is : (region : List Interval) (m : List ℕ) (word t : ℕ) → RecordLies region m word → t < attribute_count word → data_size (attribute_at m word t) ≡ attribute_size (words_in m word) t
 unfolding data_size attribute_size attribute_place
 size_is region m word t stands below = grind (arith, common_steps, nat_tests, low_byte, first_fits, byte_read, shape_at)
 
@@ -47,7 +47,7 @@ extension_by : (m : List ℕ) (word t : ℕ) (b : Bool) → 256 * ((if b then u3
 unfolding extension_place
 extension_by m word t b = search (rules, arith, word_read)
 
-stride_is : (region : List Interval) (m : List ℕ) (state word t : ℕ) → RecordStands region m word → IsStateOf state word → t < attribute_count word
+stride_is : (region : List Interval) (m : List ℕ) (state word t : ℕ) → RecordLies region m word → IsStateOf state word → t < attribute_count word
     → stride_of (attribute_at m word t) (extension_at m word t) ≡ attribute_stride state (words_in m word) t
 unfolding stride_of attribute_stride attribute_place
 stride_is region m state word t stands is below =
@@ -60,7 +60,7 @@ stride_is region m state word t stands is below =
     λ i. (read ∙ sym high ∙ ap (λ q. u32_at m q / 256 % 256) (shape_at (record_place word) t)) i + more i
 
 -- The data of a vertex lie where the words say.
-vertex_in : (IsNamed : ℕ → ℕ → Type 0) (region : List Interval) (m : List ℕ) (state word most t index : ℕ) → NamedInside IsNamed region → RecordStands region m word → IsStateOf state word → t < attribute_count word
+vertex_in : (IsNamed : ℕ → ℕ → Type 0) (region : List Interval) (m : List ℕ) (state word most t index : ℕ) → NamedInside IsNamed region → RecordLies region m word → IsStateOf state word → t < attribute_count word
     → IsAttributeIn IsNamed state (words_in m word) most t → index ≤ most
     → Inside region (data_place (attribute_at m word t) (extension_at m word t) index) (data_size (attribute_at m word t))
 unfolding data_place
@@ -103,7 +103,7 @@ array_in packet most k one below = grind (arith, common_steps, nat_tests, length
 
 -- A primitive that was emitted may be fetched under a record that was emitted for it.
 pub emitted_fetches : (IsNamed : ℕ → ℕ → Type 0) (region : List Interval) (m : List ℕ) (state word most : ℕ) (packet : List ℕ)
-    → NamedInside IsNamed region → RecordStands region m word → IsStateOf state word
+    → NamedInside IsNamed region → RecordLies region m word → IsStateOf state word
     → ((t : ℕ) → t < attribute_count state → IsAttributeIn IsNamed state (words_in m word) most t)
     → (slice_index packet 0 ≡ 32) ⊎ (slice_index packet 0 ≡ 33) → IsPrimitive IsNamed packet most
     → Fetches region m word (primitive_of packet)
@@ -129,20 +129,20 @@ emitted_fetches IsNamed region m state word most packet names stands is attribut
 words_at : (m : List ℕ) (word offset i : ℕ) → offset ≡ 4 * i → u32_at (bytes_at m (record_place word + offset) 4) 0 ≡ words_in m word i
 words_at m word offset i is = word_read m (record_place word + offset) 4 (omega arith) ∙ ap (λ n. u32_at m (record_place word + n)) is
 
-launched_is : (m : List ℕ) (word : ℕ) (program : Program) (threaded : Bool) (s : ℕ) → code_offset program ≡ 4 * code_word s → code_offset program + 4 ≡ 4 * stream_word s → launched m program threaded word ≡ program_in m word threaded s
+launched_is : (m : List ℕ) (word : ℕ) (program : Program) (threaded : Bool) (s : ℕ) → code_offset program ≡ 4 * code_word s → code_offset program + 4 ≡ 4 * stream_word s → program_launched m program threaded word ≡ program_in m word threaded s
 launched_is m word program threaded s code stream = search (rules, arith, word_read, words_at)
 
 threaded_is : (m : List ℕ) (word : ℕ) → threaded_by m word ≡ not (is_single (words_in m word))
 unfolding is_threaded is_single
 threaded_is m word = grind (arith, common_steps, nat_tests, byte_read, low_bit)
 
-pub emitted_programs : (region : List Interval) (O : Launch → Type 0) (m : List ℕ) (word : ℕ) → RecordStands region m word
+pub emitted_programs : (region : List Interval) (O : Launch → Type 0) (m : List ℕ) (word : ℕ) → RecordLies region m word
     → O (program_in m word (not (is_single (words_in m word))) 0) → O (program_in m word false 1) → O (program_in m word false 2)
     → Programs region O m word
 emitted_programs region O m word stands fragment vertex coordinate =
     let room = header_in word in record {
       header = inside_part region (record_place word) (record_size word) (record_place word) 36 stands.inside (omega arith) (omega (arith, room));
-      fragment = subst O (sym (ap (λ b. launched m Fragment b word) (threaded_is m word) ∙ launched_is m word Fragment (not (is_single (words_in m word))) 0 (omega arith) (omega arith))) fragment;
+      fragment = subst O (sym (ap (λ b. program_launched m Fragment b word) (threaded_is m word) ∙ launched_is m word Fragment (not (is_single (words_in m word))) 0 (omega arith) (omega arith))) fragment;
       vertex = subst O (sym (launched_is m word Vertex false 1 (omega arith) (omega arith))) vertex;
       coordinate = subst O (sym (launched_is m word Coordinate false 2 (omega arith) (omega arith))) coordinate;
     }

@@ -8,7 +8,7 @@ use Rattle.machine_plan.proofs.{Memory.inside_part, Safe.read_safe, Worlds.keeps
 use Rattle.list_machine.specs.declared.state.Program.{Program}
 use Rattle.list_machine.specs.Fetch.{index_size, index_in, index_plan, draws_nothing, record_place, extension_place, data_size, data_place, data_plan, extended_plan, attribute_plan, attributes_plan, indexed_plan, fetch_plan}
 use Rattle.list_machine.specs.{declared.state.Primitive.Primitive, Start.code_offset, Start.launch_plan, Start.start_as, Start.start_plan}
-use Rattle.list_law.specs.Uses.{Fetches, launched, Programs}
+use Rattle.list_law.specs.Uses.{Fetches, program_launched, Programs}
 use Rattle.list_law.proofs.Safe.{keeps_if}
 
 -- any end will do
@@ -79,13 +79,13 @@ fetch_keeps who r m word p k fetches below = search (rules, arith, keeps_followe
 
 -- The start of a program.
 launch_keeps : (who : Who) (r : Rights) (O : Launch → Type 0) (m : List ℕ) (program : Program) (threaded : Bool) (word : ℕ)
-    → Inside r.region (record_place word) 36 → code_offset program ≤ 28 → O (launched m program threaded word)
+    → Inside r.region (record_place word) 36 → code_offset program ≤ 28 → O (program_launched m program threaded word)
     → Keeps who (Inside r.region) (IsSafeIn r) (λ n launch. IfSome launch O) (launch_plan program threaded word) m
 unfolding launch_plan
 launch_keeps who r O m program threaded word header low may = search (arith, read_safe, inside_part)
 
 start_keeps_as : (who : Who) (r : Rights) (O : Launch → Type 0) (m : List ℕ) (program : Program) (threaded : Bool) (free : Free) (word : ℕ)
-    → Inside r.region (record_place word) 36 → code_offset program ≤ 28 → O (launched m program threaded word)
+    → Inside r.region (record_place word) 36 → code_offset program ≤ 28 → O (program_launched m program threaded word)
     → Keeps who (Inside r.region) (IsSafeIn r) (λ n launch. IfSome launch O) (start_as program threaded free word) m
 unfolding start_as
 start_keeps_as who r O m program threaded free word header low may = search (arith, keeps_if, launch_keeps)

@@ -3,10 +3,10 @@ use Rattle.std.proofs.Common.{◌≡◌, ◌≢◌, ◌≤◌, ◌<◌, ℕ, ◌
 use Rattle.std.proofs.lemmas.{Grind.common_steps, List.length-replicate, Bool.Decides.nat_tests}
 use Rattle.field_words.specs.declared.access.Way.TheVariants.{Write}
 use Rattle.machine_plan.specs.declared.{who.Who.Who, launch.Launch.Launch}
-use Rattle.machine_plan.specs.{Memory.stored, Regions.Rights, Regions.IsSafeIn, Plan.Keeps, Plan.access}
+use Rattle.machine_plan.specs.{Memory.bytes_stored, Regions.Rights, Regions.IsSafeIn, Plan.Keeps, Plan.access}
 use Rattle.machine_plan.proofs.{Memory.inside_part, Runs.every-append}
 use Rattle.packets.specs.declared.config.Config.{Config}
-use Rattle.list_machine.specs.Blocks.{tiles_of, further_offset, block_place, has_room, one_more, spotted, spot_in, spot_of, is_full, next_place, link_place, item_of, zeros, put_here, put_plan}
+use Rattle.list_machine.specs.Blocks.{tiles_of, further_offset, block_place, has_room, one_more, spot_with, spot_in, spot_of, is_full, next_place, link_place, item_of, zeros, put_here, put_plan}
 use Rattle.list_machine.specs.declared.state.{Item.Item, Spot.Spot, Work.Work}
 use Rattle.list_machine.specs.Lists.{Lists, with_item, with_block}
 use Rattle.list_law.specs.{May.MayWrite, Binning.Allocates, Binning.ItemFine, Binning.FitsIn, Binning.LogFine, Binning.WorkFine}
@@ -19,9 +19,9 @@ pub same : (a b : ℕ) → (a == b) ≡ true → a ≡ b
 same a b h = grind (arith, common_steps, nat_tests, h)
 
 -- what a tile's list has, with one item more
-pub spot_last : (tile : ℕ) (spot : Spot) (items : List Item) (item : Item) → spot_in tile spot (items ++ item ∷ []) ≡ spotted tile (spot_in tile spot items) item
+pub spot_last : (tile : ℕ) (spot : Spot) (items : List Item) (item : Item) → spot_in tile spot (items ++ item ∷ []) ≡ spot_with tile (spot_in tile spot items) item
 spot_last tile spot [] item = refl
-spot_last tile spot (one ∷ items) item = spot_last tile (spotted tile spot one) items item
+spot_last tile spot (one ∷ items) item = spot_last tile (spot_with tile spot one) items item
 
 fits_by : (c : Config) (spot : Spot) (place : ℕ) (b : Bool) → FitsIn c spot → (b ≡ true → FitsIn c (one_more spot place)) → FitsIn c (if b then one_more spot place else spot)
 fits_by c spot place b fits more = search (rules, arith)
@@ -50,7 +50,7 @@ put_at who r K O c L P s w tile place m allocates log work from upto ends =
     let item : ItemFine r K O (item_of w tile place) = record { lies = may.region; uses = work.uses } in
     let fits : FitsIn c (one_more (spot_of tile s.items) place) = record { from = λ some. from; upto = λ some. upto } in (
       subst (λ n. IsSafeIn r (access who Write place n)) (sym (length-replicate {A = ℕ} 16 0)) (write_safe r who place 16 may),
-      ends (stored m place (zeros 16)) (log_more r K O c s.items (item_of w tile place) log item fits),
+      ends (bytes_stored m place (zeros 16)) (log_more r K O c s.items (item_of w tile place) log item fits),
     )
 
 next_by : (c : Config) (tile : ℕ) (spot : Spot) → 32 * tiles_of c ≤ c.size → tile < tiles_of c → FitsIn c spot → spot.count % 7 ≢ 1 → (b : Bool) → (spot.count == 0) ≡ b

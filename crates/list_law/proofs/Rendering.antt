@@ -11,20 +11,20 @@ use Rattle.texture_layouts.specs.Place.{aligned_across, aligned_down, microtiles
 use Rattle.texture_layouts.specs.{declared.format.Style.Style, Format.IsShort, Format.general_style, Format.frame_style}
 use Rattle.texture_layouts.proofs.Places.{width_some, height_some, across_parts, down_exact, microtile_inside}
 use Rattle.texture_layouts.proofs.Styles.{short_pixel}
-use Rattle.machine_plan.specs.{Regions.Inside, Regions.Rights, Regions.Every, Regions.IsSafeIn, World.mapped}
+use Rattle.machine_plan.specs.{Regions.Inside, Regions.Rights, Regions.Every, Regions.IsSafeIn, World.plan_mapped}
 use Rattle.machine_plan.specs.declared.{who.Who.Who, launch.Free.Free, launch.Launch.Launch}
 use Rattle.machine_plan.specs.{Choice.word_at, Memory.bytes_at, Plan.Done, Plan.Wilds, Plan.Keeps}
-use Rattle.machine_plan.specs.Glance.{Glance, Now, At, glanced, GlancesIn}
+use Rattle.machine_plan.specs.Glance.{Glance, Now, At, glance_result, GlancesIn}
 use Rattle.machine_plan.proofs.{Memory.inside_part, Safe.read_safe, Plans.keeps_weaker, Worlds.keeps_mapped}
 use Rattle.list_machine.specs.declared.state.{Frame.Frame, Item.Item, Renderer.Renderer, Found.Found, SubList.SubList}
 use Rattle.list_machine.specs.Cover.{raster_cover, tiled_cover, cover_in, cover_for, part_count, part_offset, part_place}
 use Rattle.list_machine.specs.declared.{state.Load.Load, state.Load.TheVariants.Full, state.Load.TheVariants.General, surface.Cover.Cover}
 use Rattle.list_machine.specs.declared.state.Program.{Program}
-use Rattle.list_machine.specs.Surfaces.{cover_written, cover_read, aligned, names_none, general_written, general_read, frame_written, whole_size, whole_written, whole_read, waiting_read}
+use Rattle.list_machine.specs.Surfaces.{cover_written, cover_read, aligned_address, names_none, general_written, general_read, frame_written, whole_size, whole_written, whole_read, waiting_read}
 use Rattle.list_machine.specs.Renderer.{beyond, with_load, with_inside, wait_plan, tile_named, enter_plan, tile_by, branch_plan, tile_plan, act, first_of_tile, item_at, vertex_plan, program_plan, choice_plan, found_plan, renderer_plan, may_pass, ready_in, renderer_ready}
-use Rattle.list_machine.specs.{Store.tile_side, Store.covered, Blocks.tiles_of, Start.start_plan}
+use Rattle.list_machine.specs.{Store.tile_side, Store.pixels_covered, Blocks.tiles_of, Start.start_plan}
 use Rattle.list_machine.specs.Lists.{Lists, Turned, turned_to, quiet, with_renderer, with_taken}
-use Rattle.list_machine.specs.{Fetch.fetch_plan, Renderer.at_tile, Renderer.fetched, Renderer.plan_in}
+use Rattle.list_machine.specs.{Fetch.fetch_plan, Renderer.at_tile, Renderer.item_fetched, Renderer.plan_in}
 use Rattle.list_law.specs.Rendering.{surface_size, StoresSurface, LoadsSurface, PartsMeet, IsTileList, MayDo, SetsOnly, AllSet, load_packet, view_of, NoMatter, RenderWay}
 use Rattle.list_law.specs.{May.MayWrite, Binning.ItemFine, Lists.ListsFine, Lists.TurnedFine}
 use Rattle.list_law.proofs.Bytes.{none_left, bytes_front, bytes_behind, byte_front, front_inside, behind_inside, behind_ends}
@@ -130,7 +130,7 @@ eight n some = omega (arith, some)
 -- Each part lies in the surface.
 part_inside : (tiling : Tiling) (cpp : ℕ) (f : Frame) (base x y i : ℕ) → IsShort cpp → i < part_count (cover_in tiling cpp f base x y)
     → part_offset (cover_in tiling cpp f base x y).tiling f.width cpp ((cover_in tiling cpp f base x y).left + i % (cover_in tiling cpp f base x y).across) ((cover_in tiling cpp f base x y).top + i / (cover_in tiling cpp f base x y).across) + (cover_in tiling cpp f base x y).size ≤ size_for tiling f.width f.height cpp
-unfolding raster_cover tiled_cover covered
+unfolding raster_cover tiled_cover pixels_covered
 part_inside tiling cpp f base x y i short below = grind (arith, common_steps, nat_tests, raster_by, tiled_inside, side_is, eight, width_some, height_some)
 
 record PlaceIs (tiling : Tiling) (cpp : ℕ) (f : Frame) (base x y i : ℕ) : Type 0 where
@@ -151,7 +151,7 @@ store_fine r style f base x y stores = search (rules, arith, parts_styled, insid
 pub load_fine : (r : Rights) (style : Option Style) (f : Frame) (base x y : ℕ) → LoadsSurface r style f base → PartsMeet (Inside r.region) (cover_for style (Some f) base x y)
 load_fine r style f base x y loads = search (rules, arith, parts_styled, inside_part)
 
--- The same with another renderer.
+-- All is kept with another renderer.
 pub render_set : (r : Rights) (K : List ℕ → Type 0) (O : Launch → Type 0) (c : Config) (f : Frame) (s : Lists) (renderer : Renderer) (waited : Bool) → ListsFine r K O c f s
     → RenderWay r K c f renderer waited → (waited ≡ true → s.closed ≡ true) → ListsFine r K O c f (with_renderer s renderer)
 render_set r K O c f s renderer waited fine way passed = search (rules, arith)
@@ -178,7 +178,7 @@ unfolding cover_read
 covered_read who r L P cover s m parts ends = search (rules, arith, read_keep, read_safe)
 
 whole_stored : (who : Who) (r : Rights) (L : ℕ → ℕ → Type 0) (P : List ℕ → Lists → Type 0) (address : ℕ) (words : List ℕ) (s : Lists) (m : List ℕ)
-    → MayWrite r (aligned address) whole_size → ((k : List ℕ) → P k s) → Keeps who L (IsSafeIn r) P (whole_written address words (Done s)) m
+    → MayWrite r (aligned_address address) whole_size → ((k : List ℕ) → P k s) → Keeps who L (IsSafeIn r) P (whole_written address words (Done s)) m
 unfolding whole_written
 whole_stored who r L P address words s m may ends = search (rules, arith, chosen_size, write_safe)
 
@@ -197,26 +197,26 @@ off_surface : (A : Type 0) (b : Bool) → (b ≡ true) ⊎ A → b ≡ false →
 off_surface A b h2 off = search (rules, arith)
 
 general_stored : (who : Who) (r : Rights) (L : ℕ → ℕ → Type 0) (P : List ℕ → Lists → Type 0) (f : Frame) (frame : Option Frame) (bits address x y : ℕ) (words : List ℕ) (s : Lists) (m : List ℕ)
-    → frame ≡ Some f → (names_none bits ≡ true) ⊎ StoresSurface r (general_style bits) f (aligned address) → ((k : List ℕ) → P k s)
+    → frame ≡ Some f → (names_none bits ≡ true) ⊎ StoresSurface r (general_style bits) f (aligned_address address) → ((k : List ℕ) → P k s)
     → Keeps who L (IsSafeIn r) P (general_written bits address frame x y words (Done s)) m
 unfolding general_written
 general_stored who r L P f frame bits address x y words s m is stores ends =
-    keeps_if who L (IsSafeIn r) P m (names_none bits) (Done s) (cover_written (cover_for (general_style bits) frame (aligned address) x y) words (Done s))
+    keeps_if who L (IsSafeIn r) P m (names_none bits) (Done s) (cover_written (cover_for (general_style bits) frame (aligned_address address) x y) words (Done s))
     (λ on. ends m)
-    (λ off. covered_written who r L P (cover_for (general_style bits) frame (aligned address) x y) words s m
-    (subst (λ (one : Option Frame). PartsMeet (MayWrite r) (cover_for (general_style bits) one (aligned address) x y)) (sym is)
-    (store_fine r (general_style bits) f (aligned address) x y (off_surface (StoresSurface r (general_style bits) f (aligned address)) (names_none bits) stores off))) ends)
+    (λ off. covered_written who r L P (cover_for (general_style bits) frame (aligned_address address) x y) words s m
+    (subst (λ (one : Option Frame). PartsMeet (MayWrite r) (cover_for (general_style bits) one (aligned_address address) x y)) (sym is)
+    (store_fine r (general_style bits) f (aligned_address address) x y (off_surface (StoresSurface r (general_style bits) f (aligned_address address)) (names_none bits) stores off))) ends)
 
 general_loaded : (who : Who) (r : Rights) (L : ℕ → ℕ → Type 0) (P : List ℕ → Lists → Type 0) (f : Frame) (frame : Option Frame) (bits address x y : ℕ) (s : Lists) (m : List ℕ)
-    → frame ≡ Some f → (names_none bits ≡ true) ⊎ LoadsSurface r (general_style bits) f (aligned address) → P m s
+    → frame ≡ Some f → (names_none bits ≡ true) ⊎ LoadsSurface r (general_style bits) f (aligned_address address) → P m s
     → Keeps who L (IsSafeIn r) P (general_read bits address frame x y (Done s)) m
 unfolding general_read
 general_loaded who r L P f frame bits address x y s m is loads ends =
-    keeps_if who L (IsSafeIn r) P m (names_none bits) (Done s) (cover_read (cover_for (general_style bits) frame (aligned address) x y) (Done s))
+    keeps_if who L (IsSafeIn r) P m (names_none bits) (Done s) (cover_read (cover_for (general_style bits) frame (aligned_address address) x y) (Done s))
     (λ on. ends)
-    (λ off. covered_read who r L P (cover_for (general_style bits) frame (aligned address) x y) s m
-    (subst (λ (one : Option Frame). PartsMeet (Inside r.region) (cover_for (general_style bits) one (aligned address) x y)) (sym is)
-    (load_fine r (general_style bits) f (aligned address) x y (off_surface (LoadsSurface r (general_style bits) f (aligned address)) (names_none bits) loads off))) ends)
+    (λ off. covered_read who r L P (cover_for (general_style bits) frame (aligned_address address) x y) s m
+    (subst (λ (one : Option Frame). PartsMeet (Inside r.region) (cover_for (general_style bits) one (aligned_address address) x y)) (sym is)
+    (load_fine r (general_style bits) f (aligned_address address) x y (off_surface (LoadsSurface r (general_style bits) f (aligned_address address)) (names_none bits) loads off))) ends)
 
 -- the load that waits is done
 waiting_loaded : (who : Who) (r : Rights) (c : Config) (f : Frame) (L : ℕ → ℕ → Type 0) (P : List ℕ → Lists → Type 0) (frame : Option Frame) (waiting : Option Load) (x y : ℕ) (s : Lists) (m : List ℕ)
@@ -412,12 +412,12 @@ vertex_keeps who r K O c f s item words m here fine one =
     let P = λ (k : List ℕ) (turned : Turned). TurnedFine r K O c f turned in
     let p = item.primitive in
     let k : ℕ = word_at words 1 % p.length in
-    keeps_if who L G P m (p.length == 0) (Done (quiet s)) (mapped (fetched s) (fetch_plan p item.word k))
+    keeps_if who L G P m (p.length == 0) (Done (quiet s)) (plan_mapped (item_fetched s) (fetch_plan p item.word k))
     (λ on. still r K O c f s fine)
     (λ off.
     let differs = not_same p.length 0 off in
-    keeps_mapped (fetched s) who L G P (fetch_plan p item.word k) m
-    (keeps_weaker who L L G G AnyEnd (λ n index. P n (fetched s index)) (λ p n h. h) (λ a h. h) (λ n index any. still r K O c f s fine)
+    keeps_mapped (item_fetched s) who L G P (fetch_plan p item.word k) m
+    (keeps_weaker who L L G G AnyEnd (λ n index. P n (item_fetched s index)) (λ p n h. h) (λ a h. h) (λ n index any. still r K O c f s fine)
     (fetch_plan p item.word k) m (fetch_keeps who r m item.word p k (one.uses.fetches m here) (mod-lt (word_at words 1) (omega (arith, differs))))))
 
 program_keeps : (who : Who) (r : Rights) (K : List ℕ → Type 0) (O : Launch → Type 0) (c : Config) (f : Frame) (s : Lists) (program : Program) (free : Free) (item : Item) (m : List ℕ)
@@ -446,16 +446,16 @@ found_keeps who r K O c f s free words m sub (Some found) here fine tile one =
     (read_safe r who found.item.place 16 one.lies, choice_keeps who r K O c f s free words m sub found here fine tile one)
 
 -- Where the renderer may step.
-pass_by : (below : Bool) (s : Lists) (m : List ℕ) → glanced (if below then At s.renderer.place 1 (λ head. Now (may_pass s (slice_index head 0))) else Now false) m ≡ true → may_pass s (slice_index m s.renderer.place) ≡ true
+pass_by : (below : Bool) (s : Lists) (m : List ℕ) → glance_result (if below then At s.renderer.place 1 (λ head. Now (may_pass s (slice_index head 0))) else Now false) m ≡ true → may_pass s (slice_index m s.renderer.place) ≡ true
 unfolding bytes_at
 pass_by below s m ready = search (rules, arith)
 
-ready_pass : (s : Lists) (m : List ℕ) → s.renderer.inside ≡ None → glanced (renderer_ready s) m ≡ true → may_pass s (slice_index m s.renderer.place) ≡ true
+ready_pass : (s : Lists) (m : List ℕ) → s.renderer.inside ≡ None → glance_result (renderer_ready s) m ≡ true → may_pass s (slice_index m s.renderer.place) ≡ true
 unfolding renderer_ready bytes_at
 ready_pass s m outside ready = grind (arith, common_steps, nat_tests, pass_by)
 
 renderer_keeps_by : (who : Who) (r : Rights) (K : List ℕ → Type 0) (O : Launch → Type 0) (c : Config) (f : Frame) (s : Lists) (free : Free) (words m : List ℕ) (inside : Option SubList)
-    → K m → ListsFine r K O c f s → glanced (renderer_ready s) m ≡ true → s.renderer.inside ≡ inside
+    → K m → ListsFine r K O c f s → glance_result (renderer_ready s) m ≡ true → s.renderer.inside ≡ inside
     → Keeps who (Inside r.region) (IsSafeIn r) (λ k turned. TurnedFine r K O c f turned) (renderer_plan s free words) m
 unfolding renderer_plan
 renderer_keeps_by who r K O c f s free words m None here fine ready outside =
@@ -469,7 +469,7 @@ renderer_keeps_by who r K O c f s free words m (Some sub) here fine ready is =
 
 -- One step of the renderer.
 pub renderer_keeps : (who : Who) (r : Rights) (K : List ℕ → Type 0) (O : Launch → Type 0) (c : Config) (f : Frame) (s : Lists) (free : Free) (words m : List ℕ)
-    → K m → ListsFine r K O c f s → glanced (renderer_ready s) m ≡ true
+    → K m → ListsFine r K O c f s → glance_result (renderer_ready s) m ≡ true
     → Keeps who (Inside r.region) (IsSafeIn r) (λ k turned. TurnedFine r K O c f turned) (renderer_plan s free words) m
 renderer_keeps who r K O c f s free words m here fine ready = renderer_keeps_by who r K O c f s free words m s.renderer.inside here fine ready refl
 

@@ -1,7 +1,7 @@
 -- All stands at the start.
 use Rattle.std.proofs.Common.{◌≡◌, ◌⊎◌, ℕ, zero, suc, ◌+◌, Bool, List, [], ◌∷◌, ◌++◌, length, Option, Some, None, if◌then◌else◌, bit_or, arith, rules}
 use Rattle.std.proofs.{lemmas.Bool.false≢true, Common.◌&&◌}
-use Rattle.field_words.specs.Pieces.{joined}
+use Rattle.field_words.specs.Pieces.{joined_texts}
 use Rattle.job_format.specs.declared.file.Frame.{Frame as JobFrame}
 use Rattle.packets.specs.declared.packet.Packet.TheVariants.{StoreTileColor, StoreTileColorAndEnd, LoadFullResolution, LoadTileBuffer, TileCoordinates}
 use Rattle.packets.specs.declared.{packet.Packet.Packet, config.Config.Config}
@@ -23,7 +23,7 @@ empty_fits c = record { from = λ some. absurd (omega (arith, some)); upto = λ 
 
 pub lists_begin : (r : Rights) (K : List ℕ → Type 0) (O : Launch → Type 0) (c : Config) (f : Frame) (bin_place render_place : ℕ) (packets : List (List ℕ)) (slots : List (Option Packet))
     → BinnerBegins r K O c bin_place packets → RendererBegins r K c f render_place slots
-    → ListsFine r K O c f (lists_start bin_place (length (joined packets)) render_place (length (slots_text slots)))
+    → ListsFine r K O c f (lists_start bin_place (length (joined_texts packets)) render_place (length (slots_text slots)))
 lists_begin r K O c f bin_place render_place packets slots bin render = search (rules, arith, empty_fits, false≢true)
 
 -- Where lists walk by one condition, they walk by another that follows from it of each packet that draws.

@@ -3,7 +3,7 @@
 -- The job has one configuration c. The rest of the binner's list is said as packets that walk, by the definitions of those
 -- who emit it.
 use Rattle.std.specs.Prelude.{◌≡◌, ◌≤◌, ◌<◌, ℕ, ◌+◌, ◌*◌, ◌-◌, ◌%◌, List, length, Option, Some, None}
-use Rattle.field_words.specs.Pieces.{joined}
+use Rattle.field_words.specs.Pieces.{joined_texts}
 use Rattle.machine_plan.specs.{declared.launch.Launch.Launch, Memory.bytes_at, Regions.Inside, Regions.Rights, Regions.Every}
 use Rattle.bin_walks.specs.Walks.{Walks, Kept as Passed}
 use Rattle.packets.specs.declared.config.Config.{Config}
@@ -29,10 +29,10 @@ DrawsSo r K O word packet = MayUse r K O word (primitive_of packet)
 -- memory of K, and lies in the region.
 pub record OnWay (r : Rights) (K : List ℕ → Type 0) (O : Launch → Type 0) (c : Config) (place end : ℕ) (kept : Kept) : Type 0 where
   pub rest : List (List ℕ)
-  pub ends : place + length (joined rest) ≡ end
+  pub ends : place + length (joined_texts rest) ≡ end
   pub walks : Walks c (DrawsSo r K O) (passed_of kept) rest
-  pub stands : (m : List ℕ) → K m → bytes_at m place (length (joined rest)) ≡ joined rest
-  pub reads : Inside r.region place (length (joined rest))
+  pub stands : (m : List ℕ) → K m → bytes_at m place (length (joined_texts rest)) ≡ joined_texts rest
+  pub reads : Inside r.region place (length (joined_texts rest))
 
 -- a primitive in work may be drawn, and no more of its vertices are done than it has
 pub record WorkFine (r : Rights) (K : List ℕ → Type 0) (O : Launch → Type 0) (w : Work) : Type 0 where

@@ -12,7 +12,7 @@ abbrev pub words_in : List ℕ → ℕ → ℕ → ℕ
 words_in m word i = u32_at m (record_place word + 4 * i)
 
 -- the record lies in the region, and what stands there are bytes
-pub record RecordStands (region : List Interval) (m : List ℕ) (word : ℕ) : Type 0 where
+pub record RecordLies (region : List Interval) (m : List ℕ) (word : ℕ) : Type 0 where
   pub inside : Inside region (record_place word) (record_size word)
   pub bytes : (i : ℕ) → i < record_size word → slice_index m (record_place word + i) < 256
 
@@ -32,7 +32,7 @@ program_in m word threaded s = record { threaded = threaded; code = words_in m w
 abbrev pub EmittedFetches : Type 0
 EmittedFetches =
     (named : ℕ → ℕ → Bool) (region : List Interval) (m : List ℕ) (state word most : ℕ) (packet : List ℕ)
-    → NamedInside (λ place size. IsTrue (named place size)) region → RecordStands region m word → IsStateOf state word
+    → NamedInside (λ place size. IsTrue (named place size)) region → RecordLies region m word → IsStateOf state word
     → ((t : ℕ) → t < attribute_count state → IsAttributeIn (λ place size. IsTrue (named place size)) state (words_in m word) most t)
     → (slice_index packet 0 ≡ 32) ⊎ (slice_index packet 0 ≡ 33) → IsPrimitive (λ place size. IsTrue (named place size)) packet most
     → Fetches region m word (primitive_of packet)
@@ -41,6 +41,6 @@ EmittedFetches =
 abbrev pub EmittedPrograms : Type 0
 EmittedPrograms =
     (region : List Interval) (may : Launch → Bool) (m : List ℕ) (word : ℕ)
-    → RecordStands region m word
+    → RecordLies region m word
     → IsTrue (may (program_in m word (not (is_single (words_in m word))) 0)) → IsTrue (may (program_in m word false 1)) → IsTrue (may (program_in m word false 2))
     → Programs region (λ launch. IsTrue (may launch)) m word

@@ -1,7 +1,7 @@
 -- The laws of a job's list units.
 use Rattle.std.specs.Prelude.{◌≡◌, ◌<◌, ℕ, Bool, true, IsTrue, List, Option, Some, IfSome}
 use Rattle.machine_plan.specs.{declared.who.Who.Who, declared.launch.Free.Free, declared.launch.Launch.Launch, Plan.Keeps}
-use Rattle.machine_plan.specs.{Glance.glanced, Glance.GlancesIn, Regions.Inside, Regions.Rights, Regions.IsSafeIn, Regions.HasReadOnly}
+use Rattle.machine_plan.specs.{Glance.glance_result, Glance.GlancesIn, Regions.Inside, Regions.Rights, Regions.IsSafeIn, Regions.HasReadOnly}
 use Rattle.packets.specs.declared.config.Config.{Config}
 use Rattle.list_machine.specs.{declared.state.Frame.Frame, declared.state.Primitive.Primitive, declared.state.Program.Program, Lists.Lists}
 use Rattle.list_machine.specs.{Fetch.fetch_plan, Start.start_plan, Binner.binner_plan, Binner.binner_ready, Cover.cover_for}
@@ -33,14 +33,14 @@ Passes may launch = IsTrue (may launch)
 abbrev pub BinnerKeeps : Type 0
 BinnerKeeps =
     (who : Who) (r : Rights) (jobs : List Rights) (first : List ℕ) (may : Launch → Bool) (c : Config) (f : Frame) (s : Lists) (free : Free) (words m : List ℕ)
-    → Allocates r c → HasReadOnly jobs first m → ListsFine r (HasReadOnly jobs first) (Passes may) c f s → glanced (binner_ready s free) m ≡ true
+    → Allocates r c → HasReadOnly jobs first m → ListsFine r (HasReadOnly jobs first) (Passes may) c f s → glance_result (binner_ready s free) m ≡ true
     → Keeps who (Inside r.region) (IsSafeIn r) (λ n turned. TurnedFine r (HasReadOnly jobs first) (Passes may) c f turned) (binner_plan s free words) m
 
 -- So does one step of its renderer.
 abbrev pub RendererKeeps : Type 0
 RendererKeeps =
     (who : Who) (r : Rights) (jobs : List Rights) (first : List ℕ) (may : Launch → Bool) (c : Config) (f : Frame) (s : Lists) (free : Free) (words m : List ℕ)
-    → HasReadOnly jobs first m → ListsFine r (HasReadOnly jobs first) (Passes may) c f s → glanced (renderer_ready s) m ≡ true
+    → HasReadOnly jobs first m → ListsFine r (HasReadOnly jobs first) (Passes may) c f s → glance_result (renderer_ready s) m ≡ true
     → Keeps who (Inside r.region) (IsSafeIn r) (λ n turned. TurnedFine r (HasReadOnly jobs first) (Passes may) c f turned) (renderer_plan s free words) m
 
 -- To see whether it may step, the renderer looks in the job's region.

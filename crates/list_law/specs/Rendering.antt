@@ -10,7 +10,7 @@ use Rattle.texture_layouts.specs.{Surface.size_for, declared.format.Style.Style,
 use Rattle.render_walks.specs.Walks.{View, WalksTo, AllFit}
 use Rattle.list_machine.specs.{declared.state.Frame.Frame, declared.state.Load.Load, declared.state.Renderer.Renderer, Blocks.tiles_of}
 use Rattle.list_machine.specs.{declared.state.Load.TheVariants.Full, declared.state.Load.TheVariants.General, declared.surface.Cover.Cover}
-use Rattle.list_machine.specs.{Cover.part_count, Cover.part_place, Surfaces.aligned, Surfaces.names_none, Surfaces.whole_size}
+use Rattle.list_machine.specs.{Cover.part_count, Cover.part_place, Surfaces.aligned_address, Surfaces.names_none, Surfaces.whole_size}
 use Rattle.list_law.specs.May.{MayWrite}
 
 -- the bytes of a surface that is as large as the frame
@@ -44,10 +44,10 @@ MayDo r c f WaitOnSemaphore x y = Unit {0}
 MayDo r c f (BranchToSubList address) x y = IsTileList c address
 MayDo r c f StoreTileColor x y = StoresSurface r (frame_style f.bits) f f.address
 MayDo r c f StoreTileColorAndEnd x y = StoresSurface r (frame_style f.bits) f f.address
-MayDo r c f (StoreFullResolution address) x y = MayWrite r (aligned address) whole_size
-MayDo r c f (LoadFullResolution address) x y = Inside r.region (aligned address) whole_size
-MayDo r c f (StoreTileBuffer bits address) x y = (names_none bits ≡ true) ⊎ StoresSurface r (general_style bits) f (aligned address)
-MayDo r c f (LoadTileBuffer bits address) x y = (names_none bits ≡ true) ⊎ LoadsSurface r (general_style bits) f (aligned address)
+MayDo r c f (StoreFullResolution address) x y = MayWrite r (aligned_address address) whole_size
+MayDo r c f (LoadFullResolution address) x y = Inside r.region (aligned_address address) whole_size
+MayDo r c f (StoreTileBuffer bits address) x y = (names_none bits ≡ true) ⊎ StoresSurface r (general_style bits) f (aligned_address address)
+MayDo r c f (LoadTileBuffer bits address) x y = (names_none bits ≡ true) ⊎ LoadsSurface r (general_style bits) f (aligned_address address)
 MayDo r c f (TileRenderingMode address width height bits) x y = Unit {0}
 MayDo r c f (ClearColors first second z stencil) x y = Unit {0}
 MayDo r c f (TileCoordinates x2 y2) x y = Unit {0}

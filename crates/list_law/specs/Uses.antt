@@ -30,8 +30,8 @@ pub record Fetches (region : List Interval) (m : List ℕ) (word : ℕ) (p : Pri
       → Inside region (data_place (attribute_at m word t) (extension_at m word t) index) (data_size (attribute_at m word t))
 
 -- the program that a state word starts in this memory
-abbrev pub launched : List ℕ → Program → Bool → ℕ → Launch
-launched m program threaded word =
+abbrev pub program_launched : List ℕ → Program → Bool → ℕ → Launch
+program_launched m program threaded word =
     launch_of threaded (bytes_at m (record_place word + code_offset program) 4) (bytes_at m (record_place word + code_offset program + 4) 4)
 
 -- the flags of a state word's record say that its fragment program is threaded
@@ -41,9 +41,9 @@ threaded_by m word = is_threaded (bytes_at m (record_place word) 2)
 -- each program of the state word may be started in this memory
 pub record Programs (region : List Interval) (O : Launch → Type 0) (m : List ℕ) (word : ℕ) : Type 0 where
   pub header : Inside region (record_place word) 36
-  pub fragment : O (launched m Fragment (threaded_by m word) word)
-  pub vertex : O (launched m Vertex false word)
-  pub coordinate : O (launched m Coordinate false word)
+  pub fragment : O (program_launched m Fragment (threaded_by m word) word)
+  pub vertex : O (program_launched m Vertex false word)
+  pub coordinate : O (program_launched m Coordinate false word)
 
 -- the primitive may be drawn under the state word, in each memory of K
 pub record MayUse (r : Rights) (K : List ℕ → Type 0) (O : Launch → Type 0) (word : ℕ) (p : Primitive) : Type 0 where

@@ -2,9 +2,9 @@
 use Rattle.std.proofs.Common.{◌≡◌, ◌≢◌, ◌≤◌, ◌<◌, ℕ, suc, ◌+◌, ◌%◌, ◌==◌, Bool, true, false, List, [], ◌∷◌, length, drop, Option, Some, None, if◌then◌else◌, refl, sym, ◌∙◌, ap, subst, arith, drop-cons, get_or}
 use Rattle.std.proofs.{lemmas.Grind.common_steps, lemmas.Bool.Decides.nat_tests}
 use Rattle.std.specs.Prelude.{option_map}
-use Rattle.machine_plan.specs.{Choice.word_at, Glance.glanced, Plan.Plan, Plan.Done, Plan.Shows, Plan.carried, World.mapped}
+use Rattle.machine_plan.specs.{Choice.word_at, Glance.glance_result, Plan.Plan, Plan.Done, Plan.Shows, Plan.outcome_of, World.plan_mapped}
 use Rattle.machine_plan.proofs.Worlds.{shows_mapped}
-use Rattle.list_machine.specs.Renderer.{first_of_tile, renderer_ready, ready_in, fetched, vertex_plan, program_plan, packet_plan}
+use Rattle.list_machine.specs.Renderer.{first_of_tile, renderer_ready, ready_in, item_fetched, vertex_plan, program_plan, packet_plan}
 use Rattle.list_machine.specs.State.{Access, Found, Free, Item, Launch, Program, SubList, Who}
 use Rattle.list_machine.specs.{Lists.Lists, Lists.turned_to, Lists.quiet, Fetch.fetch_plan, Start.start_plan}
 
@@ -43,18 +43,18 @@ none_left tile i items rest all here =
 
 -- a vertex of an item that has some
 pub vertex_fetched : (who : Who) (s : Lists) (item : Item) (words m : List ℕ) (before after : List Access) (index : ℕ) → item.primitive.length ≢ 0 →
-    Shows (carried who (fetch_plan item.primitive item.word (word_at words 1 % item.primitive.length)) m) before after m (Some index) →
-    Shows (carried who (vertex_plan s item words) m) before after m (Some (quiet s))
+    Shows (outcome_of who (fetch_plan item.primitive item.word (word_at words 1 % item.primitive.length)) m) before after m (Some index) →
+    Shows (outcome_of who (vertex_plan s item words) m) before after m (Some (quiet s))
 unfolding vertex_plan
 vertex_fetched who s item words m before after index some shows =
     let plan : Plan ℕ = fetch_plan item.primitive item.word (word_at words 1 % item.primitive.length) in
     let no : (item.primitive.length == 0) ≡ false = grind (arith, common_steps, some) in
-    subst (λ (b : Bool). Shows (carried who (if b then Done (quiet s) else mapped (fetched s) plan) m) before after m (Some (quiet s))) (sym no)
-    (shows_mapped (fetched s) who plan m before after m (Some index) shows)
+    subst (λ (b : Bool). Shows (outcome_of who (if b then Done (quiet s) else plan_mapped (item_fetched s) plan) m) before after m (Some (quiet s))) (sym no)
+    (shows_mapped (item_fetched s) who plan m before after m (Some index) shows)
 
 pub program_started : (who : Who) (s : Lists) (program : Program) (free : Free) (item : Item) (m : List ℕ) (before after : List Access) (launch : Option Launch) →
-    Shows (carried who (start_plan program free item.word) m) before after m (Some launch) →
-    Shows (carried who (program_plan s program free item) m) before after m (Some (turned_to s launch))
+    Shows (outcome_of who (start_plan program free item.word) m) before after m (Some launch) →
+    Shows (outcome_of who (program_plan s program free item) m) before after m (Some (turned_to s launch))
 unfolding program_plan
 program_started who s program free item m before after launch shows = shows_mapped (turned_to s) who (start_plan program free item.word) m before after m (Some launch) shows
 
@@ -64,15 +64,15 @@ handed_if f false r = refl
 
 -- a packet starts no program
 pub packet_quiet : (who : Who) (s next : Lists) (words m : List ℕ) (before after : List Access) (memory : List ℕ) (tame : Bool) →
-    Shows (carried who (packet_plan s words) m) before after memory (if tame then Some next else None) →
-    Shows (carried who (mapped quiet (packet_plan s words)) m) before after memory (if tame then Some (quiet next) else None)
+    Shows (outcome_of who (packet_plan s words) m) before after memory (if tame then Some next else None) →
+    Shows (outcome_of who (plan_mapped quiet (packet_plan s words)) m) before after memory (if tame then Some (quiet next) else None)
 packet_quiet who s next words m before after memory tame shows =
-    subst (λ r. Shows (carried who (mapped quiet (packet_plan s words)) m) before after memory r) (handed_if quiet tame next)
+    subst (λ r. Shows (outcome_of who (plan_mapped quiet (packet_plan s words)) m) before after memory r) (handed_if quiet tame next)
     (shows_mapped quiet who (packet_plan s words) m before after memory (if tame then Some next else None) shows)
 
 -- a renderer that may step, and is in no tile's list, is below its list's end
-pub ready_below : (s : Lists) (m : List ℕ) → s.renderer.inside ≡ None → glanced (renderer_ready s) m ≡ true → s.renderer.place < s.renderer.end
+pub ready_below : (s : Lists) (m : List ℕ) → s.renderer.inside ≡ None → glance_result (renderer_ready s) m ≡ true → s.renderer.place < s.renderer.end
 unfolding renderer_ready
 ready_below s m outside ready =
-    let here : glanced (ready_in s None) m ≡ true = subst (λ (inside : Option SubList). glanced (ready_in s inside) m ≡ true) outside ready in
+    let here : glance_result (ready_in s None) m ≡ true = subst (λ (inside : Option SubList). glance_result (ready_in s inside) m ≡ true) outside ready in
     grind (arith, common_steps, nat_tests, here)

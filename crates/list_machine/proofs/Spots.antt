@@ -1,7 +1,7 @@
 -- The spots of tiles as items are put to the others.
 use Rattle.std.proofs.Common.{◌≡◌, ◌≤◌, ◌<◌, ℕ, zero, suc, ◌+◌, ◌==◌, Bool, true, false, List, [], ◌∷◌, ◌++◌, length, replicate, slice_set, slice_index_or, refl, sym, ◌∙◌, ap, subst, arith, if◌then◌else◌}
 use Rattle.std.proofs.{lemmas.Bool.Decides.nat_tests, lemmas.List.length-replicate, lemmas.Grind.common_steps}
-use Rattle.list_machine.specs.Blocks.{spotted, one_more, spot_in, spot_of, no_spot, most_tiles, AreSpotsOf}
+use Rattle.list_machine.specs.Blocks.{spot_with, one_more, spot_in, spot_of, no_spot, most_tiles, AreSpotsOf}
 use Rattle.list_machine.specs.State.{Item, Spot}
 
 -- a tile has at most all items
@@ -11,15 +11,15 @@ count_more false spot place = omega arith
 
 count_in : (tile : ℕ) (items : List Item) (spot : Spot) → (spot_in tile spot items).count ≤ spot.count + length items
 count_in tile [] spot = omega arith
-count_in tile (item ∷ items) spot = omega (arith, count_in tile items (spotted tile spot item), count_more (item.tile == tile) spot item.place)
+count_in tile (item ∷ items) spot = omega (arith, count_in tile items (spot_with tile spot item), count_more (item.tile == tile) spot item.place)
 
 pub count_limit : (tile : ℕ) (items : List Item) → (spot_of tile items).count ≤ length items
 count_limit tile items = omega (arith, count_in tile items no_spot)
 
 -- one item more
-spot_on : (tile : ℕ) (items : List Item) (spot : Spot) (item : Item) → spot_in tile spot (items ++ item ∷ []) ≡ spotted tile (spot_in tile spot items) item
+spot_on : (tile : ℕ) (items : List Item) (spot : Spot) (item : Item) → spot_in tile spot (items ++ item ∷ []) ≡ spot_with tile (spot_in tile spot items) item
 spot_on tile [] spot item = refl
-spot_on tile (first ∷ items) spot item = spot_on tile items (spotted tile spot first) item
+spot_on tile (first ∷ items) spot item = spot_on tile items (spot_with tile spot first) item
 
 in_empty : (n k : ℕ) → slice_index_or (replicate n no_spot) k no_spot ≡ no_spot
 in_empty zero k = refl

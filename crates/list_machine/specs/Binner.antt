@@ -3,27 +3,27 @@ use Rattle.std.specs.Prelude.{ℕ, ◌+◌, ◌*◌, ◌/◌, ◌%◌, ◌==◌,
 use Rattle.field_words.specs.Words.{u32_at}
 use Rattle.packets.specs.Opcode.{halt, flush, start_tile_binning, increment_semaphore, indexed_primitive_list, array_primitive_list, gl_shader_state, tile_binning_mode, buffer_handles}
 use Rattle.packets.specs.{Length.bin_length, Length.bin_taken, Config.config_in}
-use Rattle.machine_plan.specs.{Choice.word_at, Glance.Glance, Glance.Now, World.mapped}
+use Rattle.machine_plan.specs.{Choice.word_at, Glance.Glance, Glance.Now, World.plan_mapped}
 use Rattle.machine_plan.specs.Plan.{Plan, Done, Wilds, Reads, Looks, Writes}
-use Rattle.list_machine.specs.Lists.{Lists, Turned, turned_to, quiet, with_kept, with_work, with_place, past, incremented, flushed, most_items}
+use Rattle.list_machine.specs.Lists.{Lists, Turned, turned_to, quiet, with_kept, with_work, with_place, past, after_increment, after_flush, most_items}
 use Rattle.list_machine.specs.{State.Config, State.Coordinate, State.Free, State.Launch, State.Primitive, State.Work, Fetch.fetch_plan}
 use Rattle.list_machine.specs.Start.{can_start, start_plan}
 use Rattle.list_machine.specs.Blocks.{tiles_of, has_room, spot_of, zeros, put_plan}
 
 -- 112 sets the configuration
-unfoldable pub configured : Lists → List ℕ → Lists
-configured s packet = with_kept s (record (s.binner.kept) { config = Some (config_in packet) })
+unfoldable pub config_set : Lists → List ℕ → Lists
+config_set s packet = with_kept s (record (s.binner.kept) { config = Some (config_in packet) })
 
 -- 64 keeps the state word
 unfoldable pub with_word : Lists → List ℕ → Lists
 with_word s packet = with_kept s (record (s.binner.kept) { word = Some (u32_at packet 1) })
 
--- 6 clears the states of all tiles, of 48 bytes each, and starts binning; without a config it is wild
-unfoldable pub started : Lists → Lists
-started s = with_kept s (record (s.binner.kept) { started = true })
+-- 6 clears the states of all tiles, of 48 bytes each, and starts binning; without a config it is undefined
+unfoldable pub after_start : Lists → Lists
+after_start s = with_kept s (record (s.binner.kept) { started = true })
 
 unfoldable pub clear_plan : Lists → Config → Plan Lists
-clear_plan s c = Writes c.states (zeros (48 * tiles_of c)) (Done (started s))
+clear_plan s c = Writes c.states (zeros (48 * tiles_of c)) (Done (after_start s))
 
 abbrev pub begin_plan : Lists → Option Config → Plan Lists
 begin_plan s None = Wilds
@@ -47,17 +47,17 @@ primitive_of packet =
 unfoldable pub work_of : ℕ → List ℕ → Work
 work_of word packet = record { word = word; primitive = primitive_of packet; done = 0; due = false }
 
--- a primitive is wild without a state word, or before binning is started
-abbrev pub drawn : Lists → Option ℕ → List ℕ → Plan Lists
-drawn s None packet = Wilds
-drawn s (Some word) packet = Done (with_work s (Some (work_of word packet)))
+-- a primitive is undefined without a state word, or before binning is started
+abbrev pub plan_of_draw : Lists → Option ℕ → List ℕ → Plan Lists
+plan_of_draw s None packet = Wilds
+plan_of_draw s (Some word) packet = Done (with_work s (Some (work_of word packet)))
 
 unfoldable pub draw_plan : Lists → List ℕ → Plan Lists
-draw_plan s packet = if s.binner.kept.started then drawn s s.binner.kept.word packet else Wilds
+draw_plan s packet = if s.binner.kept.started then plan_of_draw s s.binner.kept.word packet else Wilds
 
 -- 0 goes to the list's end
-unfoldable pub halted : Lists → Lists
-halted s = with_place s s.binner.end
+unfoldable pub after_halt : Lists → Lists
+after_halt s = with_place s s.binner.end
 
 -- an opcode that no packet has, and the packet of buffer handles, which is the driver's own
 unfoldable pub is_unknown : ℕ → Bool
@@ -68,13 +68,13 @@ unfoldable pub packet_plan : Lists → List ℕ → Plan Lists
 packet_plan s packet =
     let opcode = slice_index packet 0 in
     if is_unknown opcode then Wilds
-    else (if opcode == halt then Done (halted s)
-    else (if opcode == tile_binning_mode then Done (configured s packet)
+    else (if opcode == halt then Done (after_halt s)
+    else (if opcode == tile_binning_mode then Done (config_set s packet)
     else (if opcode == start_tile_binning then begin_plan s s.binner.kept.config
     else (if opcode == gl_shader_state then Done (with_word s packet)
     else (if opcode == indexed_primitive_list || opcode == array_primitive_list then draw_plan s packet
-    else (if opcode == increment_semaphore then Done (incremented s)
-    else (if opcode == flush then Done (flushed s) else Done s)))))))
+    else (if opcode == increment_semaphore then Done (after_increment s)
+    else (if opcode == flush then Done (after_flush s) else Done s)))))))
 
 -- The binner reads the packet at its place, goes past it and does what it says. To see the packet's
 -- length it looks at the opcode.
@@ -96,7 +96,7 @@ abbrev pub fetched_with : Lists → Work → ℕ → Turned
 fetched_with s w index = quiet (with_work s (Some (one_done w)))
 
 abbrev pub next_plan : Lists → Work → Plan Turned
-next_plan s w = mapped (fetched_with s w) (fetch_plan w.primitive w.word w.done)
+next_plan s w = plan_mapped (fetched_with s w) (fetch_plan w.primitive w.word w.done)
 
 -- the program that was due starts
 unfoldable pub not_due : Work → Work
@@ -106,7 +106,7 @@ abbrev pub started_with : Lists → Work → Option Launch → Turned
 started_with s w launch = turned_to (with_work s (Some (not_due w))) launch
 
 abbrev pub due_plan : Lists → Work → Free → Plan Turned
-due_plan s w free = mapped (started_with s w) (start_plan Coordinate free w.word)
+due_plan s w free = plan_mapped (started_with s w) (start_plan Coordinate free w.word)
 
 -- Choice word 0 names the tile that gets an item, or says that the primitive is done.
 unfoldable pub chosen_tile : Config → List ℕ → ℕ
@@ -124,10 +124,10 @@ item_plan s (Some c) w words = tile_plan s c w (chosen_tile c words)
 unfoldable pub work_plan : Lists → Work → Free → List ℕ → Plan Turned
 work_plan s w free words =
     if w.due then due_plan s w free
-    else (if nat_lt w.done w.primitive.length then next_plan s w else mapped quiet (item_plan s s.binner.kept.config w words))
+    else (if nat_lt w.done w.primitive.length then next_plan s w else plan_mapped quiet (item_plan s s.binner.kept.config w words))
 
 abbrev pub binner_by : Lists → Option Work → Free → List ℕ → Plan Turned
-binner_by s None free words = mapped quiet (read_plan s)
+binner_by s None free words = plan_mapped quiet (read_plan s)
 binner_by s (Some w) free words = work_plan s w free words
 
 -- the binner's step

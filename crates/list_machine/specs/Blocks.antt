@@ -33,13 +33,13 @@ abbrev pub one_more : Spot → ℕ → Spot
 one_more spot place = record { count = spot.count + 1; last = place }
 
 -- what a tile's list has, with one of the job's items more
-abbrev pub spotted : ℕ → Spot → Item → Spot
-spotted tile spot item = if item.tile == tile then one_more spot item.place else spot
+abbrev pub spot_with : ℕ → Spot → Item → Spot
+spot_with tile spot item = if item.tile == tile then one_more spot item.place else spot
 
 -- and with all of these
 abbrev pub spot_in : ℕ → Spot → List Item → Spot
 spot_in tile spot [] = spot
-spot_in tile spot (item ∷ items) = spot_in tile (spotted tile spot item) items
+spot_in tile spot (item ∷ items) = spot_in tile (spot_with tile spot item) items
 
 abbrev pub spot_of : ℕ → List Item → Spot
 spot_of tile items = spot_in tile no_spot items

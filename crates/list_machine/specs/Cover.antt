@@ -5,13 +5,13 @@ use Rattle.texture_layouts.specs.declared.surface.Tiling.TheVariants.{Raster, T,
 use Rattle.texture_layouts.specs.{declared.surface.Tiling.Tiling, declared.format.Style.Style, Place.raster_place, Place.microtile_place_of}
 use Rattle.texture_layouts.specs.Surface.{IsPixelSize, microtile_width_of, microtile_height_of}
 use Rattle.machine_plan.specs.Plan.{Plan, Reads, Writes}
-use Rattle.list_machine.specs.{State.Cover, State.Frame, Store.tile_side, Store.covered, Store.chosen}
+use Rattle.list_machine.specs.{State.Cover, State.Frame, Store.tile_side, Store.pixels_covered, Store.bytes_chosen}
 
 -- In raster a part is a covered row: its covered pixels, side by side. Without one there are no parts.
 unfoldable pub raster_cover : ℕ → Frame → ℕ → ℕ → ℕ → Cover
 raster_cover cpp frame base x y =
     let side = tile_side frame.bits in
-    let pixels = covered (x * side) side frame.width in
+    let pixels = pixels_covered (x * side) side frame.width in
     record {
       tiling = Raster;
       base = base;
@@ -20,7 +20,7 @@ raster_cover cpp frame base x y =
       left = x * side;
       top = y * side;
       across = if pixels == 0 then 0 else 1;
-      down = covered (y * side) side frame.height;
+      down = pixels_covered (y * side) side frame.height;
       size = cpp * pixels;
     }
 
@@ -38,8 +38,8 @@ tiled_cover tiling cpp frame base x y =
       wide = frame.width;
       left = x * side / width;
       top = y * side / height;
-      across = div_ceil (covered (x * side) side frame.width) width;
-      down = div_ceil (covered (y * side) side frame.height) height;
+      across = div_ceil (pixels_covered (x * side) side frame.width) width;
+      down = div_ceil (pixels_covered (y * side) side frame.height) height;
       size = 64;
     }
 
@@ -50,7 +50,7 @@ cover_in Raster cpp frame base x y = raster_cover cpp frame base x y
 cover_in T cpp frame base x y = tiled_cover T cpp frame base x y
 cover_in Lt cpp frame base x y = tiled_cover Lt cpp frame base x y
 
--- the same by what bits say, None where they name nothing that there is, or before the frame is set
+-- the cover by what bits say, None where they name nothing that there is, or before the frame is set
 abbrev pub cover_by : Option Style → Frame → ℕ → ℕ → ℕ → Option Cover
 cover_by None frame base x y = None
 cover_by (Some style) frame base x y = Some (cover_in style.tiling style.cpp frame base x y)
@@ -77,7 +77,7 @@ part_place c i = c.base + part_offset c.tiling c.wide c.cpp (c.left + i % c.acro
 unfoldable pub parts_written : {R : Type 0} → Cover → List ℕ → ℕ → ℕ → Plan R → Plan R
 parts_written c words i zero next = next
 parts_written c words i (suc n) next =
-    Writes (part_place c i) (chosen words (i * c.size) c.size) (parts_written c words (suc i) n next)
+    Writes (part_place c i) (bytes_chosen words (i * c.size) c.size) (parts_written c words (suc i) n next)
 
 -- n parts from part i on, each read; what the renderer makes of them is its own
 unfoldable pub parts_read : {R : Type 0} → Cover → ℕ → ℕ → Plan R → Plan R

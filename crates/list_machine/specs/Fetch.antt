@@ -2,7 +2,7 @@
 use Rattle.std.specs.Prelude.{ℕ, zero, suc, ◌+◌, ◌*◌, ◌-◌, ◌/◌, ◌%◌, ◌^◌, ◌&&◌, nat_lt, Bool, if◌then◌else◌, List, slice_index}
 use Rattle.field_words.specs.Words.{u16_at, u32_at}
 use Rattle.packets.specs.StateWord.{attribute_count, is_extended}
-use Rattle.machine_plan.specs.{Plan.Plan, Plan.Done, Plan.Reads, World.followed}
+use Rattle.machine_plan.specs.{Plan.Plan, Plan.Done, Plan.Reads, World.plan_followed}
 use Rattle.list_machine.specs.State.{Primitive}
 
 -- the bytes of an index
@@ -62,7 +62,7 @@ attribute_plan word index t = Reads (attribute_place word t) 8 (λ attribute. ex
 -- n attributes from attribute t on
 unfoldable pub attributes_plan : ℕ → ℕ → ℕ → ℕ → Plan ℕ
 attributes_plan word t zero index = Done index
-attributes_plan word t (suc n) index = followed (attribute_plan word index t) (attributes_plan word (t + 1) n)
+attributes_plan word t (suc n) index = plan_followed (attribute_plan word index t) (attributes_plan word (t + 1) n)
 
 -- all attributes of a vertex
 abbrev pub all_attributes_plan : ℕ → ℕ → Plan ℕ
@@ -74,4 +74,4 @@ indexed_plan p word index = if draws_nothing p index then Done index else all_at
 
 -- Vertex k of a primitive with this state word is fetched. It comes to the vertex's index.
 unfoldable pub fetch_plan : Primitive → ℕ → ℕ → Plan ℕ
-fetch_plan p word k = followed (index_plan p k) (indexed_plan p word)
+fetch_plan p word k = plan_followed (index_plan p k) (indexed_plan p word)

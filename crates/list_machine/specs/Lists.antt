@@ -48,7 +48,7 @@ lists_start bin_place bin_len render_place render_len = record {
   items = [];
 }
 
--- the same but for one part
+-- the lists but for one part
 abbrev pub with_binner : Lists → Binner → Lists
 with_binner s binner = record s { binner = binner }
 
@@ -70,12 +70,12 @@ abbrev pub past : Lists → ℕ → Lists
 past s len = with_place s (s.binner.place + len)
 
 -- the semaphore is to be raised once more
-abbrev pub incremented : Lists → Lists
-incremented s = record s { pending = s.pending + 1 }
+abbrev pub after_increment : Lists → Lists
+after_increment s = record s { pending = s.pending + 1 }
 
 -- all tile lists are closed, and the semaphore is raised as often as was asked
-abbrev pub flushed : Lists → Lists
-flushed s = record s { closed = true; semaphore = s.semaphore + s.pending; pending = 0 }
+abbrev pub after_flush : Lists → Lists
+after_flush s = record s { closed = true; semaphore = s.semaphore + s.pending; pending = 0 }
 
 -- one is taken from the semaphore
 abbrev pub with_taken : Lists → Lists
@@ -88,7 +88,7 @@ with_item s item = record s { items = s.items ++ item ∷ [] }
 abbrev pub with_block : Lists → Lists
 with_block s = record s { blocks = s.blocks + 1 }
 
--- A wild step ends its unit's work: the unit goes to its list's end. The binner drops its primitive,
+-- An undefined step ends its unit's work: the unit goes to its list's end. The binner drops its primitive,
 -- the renderer the load that waits and the tile list that it is in.
 abbrev pub binner_ended : Lists → Lists
 binner_ended s = with_binner s (record (s.binner) { place = s.binner.end; work = None })

@@ -1,8 +1,8 @@
 -- One step of the renderer.
 use Rattle.std.specs.Prelude.{◌≡◌, ◌<◌, ℕ, ◌+◌, ◌-◌, ◌/◌, ◌%◌, ◌==◌, ◌&&◌, ◌||◌, not, nat_lt, nat_le, Bool, true, false, is_some, if◌then◌else◌, List, [], ◌∷◌, drop, slice_index, Option, Some, None}
 use Rattle.packets.specs.declared.packet.Packet.TheVariants.{WaitOnSemaphore, BranchToSubList, StoreTileColor, StoreTileColorAndEnd, StoreFullResolution, LoadFullResolution, StoreTileBuffer, LoadTileBuffer, TileRenderingMode, ClearColors, TileCoordinates}
-use Rattle.packets.specs.{declared.packet.Packet.Packet, Length.render_taken, Opcode.wait_on_semaphore, Packet.decoded}
-use Rattle.machine_plan.specs.{Choice.word_at, Glance.Glance, Glance.Now, Glance.At, World.mapped}
+use Rattle.packets.specs.{declared.packet.Packet.Packet, Length.render_taken, Opcode.wait_on_semaphore, Packet.packet_decoded}
+use Rattle.machine_plan.specs.{Choice.word_at, Glance.Glance, Glance.Now, Glance.At, World.plan_mapped}
 use Rattle.machine_plan.specs.Plan.{Plan, Done, Wilds, Reads, Looks}
 use Rattle.list_machine.specs.State.{Config, Found, Fragment, Frame, Free, Full, General, Item, Load, Program, SubList, Vertex}
 use Rattle.list_machine.specs.Lists.{Lists, Turned, turned_to, quiet, with_renderer, with_taken}
@@ -29,7 +29,7 @@ at_tile s x y = with_renderer s (record (s.renderer) { x = x; y = y; waiting = N
 abbrev pub with_inside : Lists → Option SubList → Lists
 with_inside s inside = with_renderer s (record (s.renderer) { inside = inside })
 
--- a load is wild where another one waits
+-- a load is undefined where another one waits
 abbrev pub wait_plan : Lists → Option Load → Load → Plan Lists
 wait_plan s None load = Done (with_load s load)
 wait_plan s (Some other) load = Wilds
@@ -48,7 +48,7 @@ abbrev pub tile_by : Option Config → ℕ → Option ℕ
 tile_by None address = None
 tile_by (Some c) address = tile_named c address
 
--- 17 goes into a tile's list. It is wild unless the lists are closed and one begins at its address.
+-- 17 goes into a tile's list. It is undefined unless the lists are closed and one begins at its address.
 unfoldable pub branch_plan : Lists → ℕ → Plan Lists
 branch_plan s address = if s.closed then enter_plan s (tile_by s.binner.kept.config address) else Wilds
 
@@ -70,10 +70,10 @@ act s words (TileRenderingMode address width height bits) = Done (with_frame s (
 act s words (ClearColors first second z stencil) = Done s
 act s words (TileCoordinates x y) = tile_plan s x y
 
--- bytes that are no packet of a renderer list are wild
-abbrev pub acted : Lists → List ℕ → Option Packet → Plan Lists
-acted s words None = Wilds
-acted s words (Some packet) = act s words packet
+-- bytes that are no packet of a renderer list are undefined
+abbrev pub plan_of_packet : Lists → List ℕ → Option Packet → Plan Lists
+plan_of_packet s words None = Wilds
+plan_of_packet s words (Some packet) = act s words packet
 
 -- The renderer reads the packet at its place, goes past it and does what it says. To see the packet's
 -- length it looks at the opcode.
@@ -81,7 +81,7 @@ unfoldable pub packet_plan : Lists → List ℕ → Plan Lists
 packet_plan s words =
     Looks s.renderer.place 1 (λ head.
     let len = render_taken (slice_index head 0) in
-    Reads s.renderer.place len (λ bytes. acted (beyond s len) words (decoded bytes)))
+    Reads s.renderer.place len (λ bytes. plan_of_packet (beyond s len) words (packet_decoded bytes)))
 
 -- the first item of this tile, where the items are numbered from n on
 abbrev pub first_of_tile : ℕ → ℕ → List Item → Option Found
@@ -96,18 +96,18 @@ item_at sub items = first_of_tile sub.tile sub.at (drop sub.at items)
 abbrev pub at_item : Lists → ℕ → ℕ → Lists
 at_item s tile n = with_inside s (Some (record { tile = tile; at = n }))
 
-abbrev pub fetched : Lists → ℕ → Turned
-fetched s index = quiet s
+abbrev pub item_fetched : Lists → ℕ → Turned
+item_fetched s index = quiet s
 
 -- a vertex is fetched: of an item without vertices none is
 unfoldable pub vertex_plan : Lists → Item → List ℕ → Plan Turned
 vertex_plan s item words =
     if item.primitive.length == 0 then Done (quiet s)
-    else mapped (fetched s) (fetch_plan item.primitive item.word (word_at words 1 % item.primitive.length))
+    else plan_mapped (item_fetched s) (fetch_plan item.primitive item.word (word_at words 1 % item.primitive.length))
 
 -- a program is started
 unfoldable pub program_plan : Lists → Program → Free → Item → Plan Turned
-program_plan s program free item = mapped (turned_to s) (start_plan program free item.word)
+program_plan s program free item = plan_mapped (turned_to s) (start_plan program free item.word)
 
 -- Choice word 0 says what is done at an item: a vertex is fetched, a vertex program started, a fragment
 -- program started, or the renderer goes past the item.
@@ -127,7 +127,7 @@ found_plan s free words sub None = Done (quiet (with_inside s None))
 found_plan s free words sub (Some found) = Reads found.item.place 16 (λ bytes. choice_plan s free words sub found)
 
 abbrev pub plan_in : Lists → Free → List ℕ → Option SubList → Plan Turned
-plan_in s free words None = mapped quiet (packet_plan s words)
+plan_in s free words None = plan_mapped quiet (packet_plan s words)
 plan_in s free words (Some sub) = found_plan s free words sub (item_at sub s.items)
 
 -- the renderer's step

@@ -1,4 +1,4 @@
--- The types of the code in which list units keep what they keep, and in which a step is told.
+-- The types of the code in which list units keep what they keep, and in which a step is reported.
 pub use Rattle.field_words.specs.declared.access.{Access.Access, Way.TheVariants.Read, Way.TheVariants.Write, Way.TheVariants.Wild}
 pub use Rattle.machine_plan.specs.declared.{launch.Free.Free, launch.Launch.Launch, who.Who.Who}
 pub use Rattle.packets.specs.declared.config.Config.{Config}

@@ -9,7 +9,7 @@ ghost use Rattle.machine_plan.specs.Glance.{Now};
 ghost use Rattle.machine_plan.specs.Turn.{Carries, CarriesOver, if_tame};
 ghost use Rattle.list_machine.specs.Lists.{binner_of, turned_to, quiet, binner_ended, with_work, most_items, MayIncrement};
 ghost use Rattle.list_machine.specs.Blocks.{has_room};
-ghost use Rattle.list_machine.specs.Binner.{configured, with_word, started, clear_plan, begin_plan, primitive_of, work_of, drawn, draw_plan, halted, is_unknown, packet_plan, read_plan, is_due, one_done, next_plan, not_due, due_plan, chosen_tile, tile_plan, item_plan, work_plan, binner_by, binner_plan, item_may, work_may, binner_may, binner_ready, has_binner_work};
+ghost use Rattle.list_machine.specs.Binner.{config_set, with_word, after_start, clear_plan, begin_plan, primitive_of, work_of, plan_of_draw, draw_plan, after_halt, is_unknown, packet_plan, read_plan, is_due, one_done, next_plan, not_due, due_plan, chosen_tile, tile_plan, item_plan, work_plan, binner_by, binner_plan, item_may, work_may, binner_may, binner_ready, has_binner_work};
 
 use crate::blocks::{has_room, tiles_of, write_zeros};
 use crate::fetch::fetch_vertex;
@@ -99,7 +99,7 @@ impl JobLists {
     // Opcode 112 keeps the config.
     fn configure(&mut self, packet: &[u8])
         requires { length packet.now ≡ 16 }
-        ensures { self.new ≡ configured self.old packet.now }
+        ensures { self.new ≡ config_set self.old packet.now }
     {
         let kept = self.binner().kept;
         self.set_kept(Kept {
@@ -122,7 +122,7 @@ impl JobLists {
 
     // Binning is started.
     fn start_binning(&mut self)
-        ensures { self.new ≡ started self.old }
+        ensures { self.new ≡ after_start self.old }
     {
         let kept = self.binner().kept;
         self.set_kept(Kept {
@@ -155,7 +155,7 @@ impl JobLists {
     }
 
     // Opcode 6 clears the tiles' states and starts binning. False comes exactly where no config is kept;
-    // then it is wild.
+    // then it is undefined.
     fn begin(&mut self, who: Who, memory: &mut PhysMem, accesses: &mut Accesses) -> bool
         requires { array_vec_len accesses.old < 272 }
         ensures shows { Carries who (begin_plan self.old self.old.binner.kept.config)
@@ -172,7 +172,7 @@ impl JobLists {
     }
 
     // Opcodes 32 and 33 bring a primitive into work. False comes exactly where no state word is kept or
-    // binning isn't started; then it is wild.
+    // binning isn't started; then it is undefined.
     fn draw(&mut self, packet: &[u8], who: Who, memory: &PhysMem, accesses: &mut Accesses) -> bool
         requires draws { (slice_index packet.now 0 ≡ indexed_primitive_list)
             ⊎ (slice_index packet.now 0 ≡ array_primitive_list) }
@@ -197,7 +197,7 @@ impl JobLists {
         }
     }
 
-    // Does what a packet says; the binner stands past it. False comes exactly where it is wild.
+    // Does what a packet says; the binner stands past it. False comes exactly where it is undefined.
     #[tactic(auto, unfolding(crate::proofs::Opened::binner, packets::specs::Length::bin_taken, packets::specs::Length::bin_length))]
     fn bin_packet(
         &mut self,
@@ -233,7 +233,7 @@ impl JobLists {
     }
 
     // Reads the packet at the binner's place, goes past it and does what it says. False comes exactly where
-    // that is wild; then the binner's work ends.
+    // that is undefined; then the binner's work ends.
     fn step_packet(&mut self, who: Who, memory: &mut PhysMem, accesses: &mut Accesses) -> bool
         requires below { self.old.binner.place < self.old.binner.end }
         requires room { array_vec_len accesses.old < 270 }
@@ -305,7 +305,7 @@ impl JobLists {
         }
     }
 
-    // The same with the config that is kept.
+    // Puts the work's item with the config that is kept.
     #[tactic(auto, using(crate::proofs::Putting::item_room))]
     fn put_item<C: Choices>(
         &mut self,
@@ -399,7 +399,7 @@ impl JobLists {
     /// One step of the binner, which may step, for the job of this number. What the hardware leaves open is
     /// answered by the words; a missing word is zero. It lists its accesses behind those already listed,
     /// and comes to the program that it starts, where it starts one. `None` comes exactly where the step is
-    /// wild; then the binner is at its list's end without work.
+    /// undefined; then the binner is at its list's end without work.
     pub fn step_binner<C: Choices>(
         &mut self,
         job: u8,

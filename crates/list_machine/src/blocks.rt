@@ -3,7 +3,7 @@ ghost use Rattle.std.specs.Prelude.{◌≡◌, ◌≤◌, ◌<◌, ◌+◌, ◌*
 ghost use Rattle.arrayvec.specs.ArrayVec.{array_vec_len};
 ghost use Rattle.machine_plan.specs.Turn.{Carries};
 ghost use Rattle.list_machine.specs.State.{Write};
-ghost use Rattle.machine_plan.specs.Memory.{stored};
+ghost use Rattle.machine_plan.specs.Memory.{bytes_stored};
 ghost use Rattle.machine_plan.specs.Plan.{access};
 ghost use Rattle.list_machine.specs.Lists.{most_items};
 ghost use Rattle.list_machine.specs.Blocks.{tiles_of, further_offset, block_place, has_room, one_more, spot_of, is_full, next_place, link_place, item_of, zeros, put_here, put_plan};
@@ -87,7 +87,7 @@ pub(crate) fn write_zeros(
 )
     requires near { place < 2 ^ 62 }
     requires room { array_vec_len accesses.old < 272 }
-    ensures memory { memory.new ≡ stored memory.old place (zeros len) }
+    ensures memory { memory.new ≡ bytes_stored memory.old place (zeros len) }
     ensures items { accesses.new.items ≡ accesses.old.items ++ access who Write place len ∷ [] }
     ensures len { array_vec_len accesses.new ≡ array_vec_len accesses.old + 1 }
 {

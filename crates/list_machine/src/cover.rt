@@ -3,7 +3,7 @@ ghost use Rattle.std.specs.Prelude.{◌≡◌, ◌+◌, ◌*◌, ◌≤◌, ◌<
 ghost use Rattle.std.specs.Int.{div_ceil};
 ghost use Rattle.texture_layouts.specs.Format.{IsShort};
 ghost use Rattle.texture_layouts.specs.Surface.{IsPixelSize};
-ghost use Rattle.list_machine.specs.Store.{tile_side, covered};
+ghost use Rattle.list_machine.specs.Store.{tile_side, pixels_covered};
 ghost use Rattle.list_machine.specs.Cover.{raster_cover, tiled_cover, cover_in, cover_by, cover_for, part_count, part_offset, part_place, IsSmall};
 
 use crate::state::Frame;
@@ -27,9 +27,9 @@ fn side(bits: u16) -> u32
 }
 
 /// How many of `length` pixels a tile covers that begins at pixel `start`.
-#[tactic(auto, unfolding(crate::specs::Store::covered))]
+#[tactic(auto, unfolding(crate::specs::Store::pixels_covered))]
 fn covered_pixels(start: u32, side: u32, length: u16) -> u32
-    ensures value { result ≡ covered start side length }
+    ensures value { result ≡ pixels_covered start side length }
     ensures limit { result ≤ side }
 {
     (length as u32).saturating_sub(start).min(side)

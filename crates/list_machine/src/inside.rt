@@ -1,7 +1,7 @@
 //! The renderer's step in a tile's list, and its whole step.
 ghost use Rattle.std.specs.Prelude.{◌≡◌, ◌+◌, ◌≤◌, ◌<◌, ◌^◌, drop, length, true, false, Some, None, IfSome, option_map};
 ghost use Rattle.arrayvec.specs.ArrayVec.{array_vec_len};
-ghost use Rattle.machine_plan.specs.Glance.{glanced};
+ghost use Rattle.machine_plan.specs.Glance.{glance_result};
 ghost use Rattle.machine_plan.specs.Turn.{Carries, CarriesOver, if_tame};
 ghost use Rattle.list_machine.specs.Lists.{Lists, Turned, turned_to, quiet, renderer_of, renderer_ended, most_items};
 ghost use Rattle.list_machine.specs.Renderer.{first_of_tile, item_at, at_item, vertex_plan, program_plan, choice_plan, found_plan, plan_in, renderer_plan, renderer_ready, has_renderer_work};
@@ -154,7 +154,7 @@ impl JobLists {
         self.take_found(sub, found, free, words, who, memory, accesses)
     }
 
-    /// A step outside of tile lists. False comes exactly where it is wild; then the renderer's work ends.
+    /// A step outside of tile lists. False comes exactly where it is undefined; then the renderer's work ends.
     fn take_listed<C: Choices>(
         &mut self,
         free: &Free,
@@ -185,7 +185,7 @@ impl JobLists {
     /// program could start now.
     ///
     /// It comes to the program that the step starts, where it starts one. `None` comes exactly where the
-    /// step is wild; then a Wild access is listed behind those before it, and the renderer's work ends.
+    /// step is undefined; then a Wild access is listed behind those before it, and the renderer's work ends.
     #[tactic(auto, unfolding(crate::specs::Renderer::renderer_plan))]
     pub fn step_renderer<C: Choices>(
         &mut self,
@@ -195,7 +195,7 @@ impl JobLists {
         memory: &mut PhysMem,
         accesses: &mut Accesses,
     ) -> Option<Option<Launch>>
-        requires ready { glanced (renderer_ready self.old) memory.old ≡ true }
+        requires ready { glance_result (renderer_ready self.old) memory.old ≡ true }
         requires room { array_vec_len accesses.old ≤ 4 }
         ensures shows { Carries (renderer_of job) (renderer_plan self.old free.now (C.listed words.now))
             memory.old memory.new accesses.old accesses.new (option_map (turned_to self.new) result) }

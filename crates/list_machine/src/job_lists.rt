@@ -1,6 +1,6 @@
 //! What the list units of one job keep, as a whole.
 ghost use Rattle.std.specs.Prelude.{◌≡◌, ◌≤◌, ◌<◌, ◌+◌, ◌*◌, ◌^◌, ◌++◌, ◌∷◌, [], length, IfOk};
-ghost use Rattle.list_machine.specs.Lists.{lists_start, with_kept, with_work, with_place, past, incremented, flushed, with_taken, with_item, with_block, binner_ended, renderer_ended, most_items, AreNear, MayIncrement};
+ghost use Rattle.list_machine.specs.Lists.{lists_start, with_kept, with_work, with_place, past, after_increment, after_flush, with_taken, with_item, with_block, binner_ended, renderer_ended, most_items, AreNear, MayIncrement};
 ghost use Rattle.list_machine.specs.Renderer.{beyond, with_frame, with_load, at_tile, with_inside};
 ghost use Rattle.list_machine.specs.Blocks.{spot_of};
 
@@ -243,14 +243,14 @@ impl JobLists {
     /// The semaphore is to be raised once more.
     pub(crate) fn increment(&mut self)
         requires { MayIncrement self.old }
-        ensures { self.new ≡ incremented self.old }
+        ensures { self.new ≡ after_increment self.old }
     {
         self.pending += 1;
     }
 
     /// Closes the tile lists, and raises the semaphore as often as was asked.
     pub(crate) fn flush(&mut self)
-        ensures { self.new ≡ flushed self.old }
+        ensures { self.new ≡ after_flush self.old }
     {
         self.closed = true;
         self.semaphore += self.pending;

@@ -3,10 +3,10 @@
 
 ghost use Rattle.std.specs.Prelude.{◌≡◌, ◌*◌, ◌≤◌, ◌<◌, ◌^◌, true, IfSome};
 ghost use Rattle.arrayvec.specs.ArrayVec.{array_vec_len};
-ghost use Rattle.machine_plan.specs.Memory.{stored};
-ghost use Rattle.list_machine.specs.Store.{chosen_byte, chosen};
+ghost use Rattle.machine_plan.specs.Memory.{bytes_stored};
+ghost use Rattle.list_machine.specs.Store.{chosen_byte, bytes_chosen};
 ghost use Rattle.list_machine.specs.Cover.{IsSmall, part_count, part_place, parts_written, parts_read};
-ghost use Rattle.list_machine.specs.Surfaces.{Stores, Loads, aligned, names_none, whole_written, cover_written, cover_read, general_written, general_read, frame_written, waiting_read};
+ghost use Rattle.list_machine.specs.Surfaces.{Stores, Loads, aligned_address, names_none, whole_written, cover_written, cover_read, general_written, general_read, frame_written, waiting_read};
 
 use crate::cover::{cover_for, part_count, part_place};
 use crate::reads::end_wild;
@@ -30,12 +30,13 @@ fn byte_of_words<C: Choices>(words: &C, k: u64) -> u8
 }
 
 /// Writes `size` chosen bytes at `place`, from byte `from` of the choice words on.
-#[tactic(auto, using(crate::proofs::Storing::chosen_step), unfolding(crate::specs::Store::chosen, machine_plan::specs::Memory::stored))]
+#[tactic(auto, using(crate::proofs::Storing::chosen_step), unfolding(crate::specs::Store::bytes_chosen, machine_plan::specs::Memory::bytes_stored))]
 fn store_chosen<C: Choices>(memory: &mut PhysMem, place: u64, words: &C, from: u64, size: u32)
     requires few { size ≤ 2 ^ 14 }
     requires near { from ≤ 2 ^ 19 }
     requires room { place ≤ 2 ^ 60 }
-    ensures { memory.new ≡ stored memory.old place (chosen (C.listed words.now) from size) }
+    ensures { memory.new ≡ bytes_stored memory.old place
+        (bytes_chosen (C.listed words.now) from size) }
 {
     for i in 0..size {
         put_byte(
@@ -89,7 +90,7 @@ fn read_parts(cover: &Cover, who: Who, accesses: &mut Accesses)
     }
 }
 
-/// Writes all parts of a cover. False comes exactly where there is none, which is wild.
+/// Writes all parts of a cover. False comes exactly where there is none, which is undefined.
 fn write_cover<C: Choices>(
     cover: Option<Cover>,
     words: &C,
@@ -111,7 +112,7 @@ fn write_cover<C: Choices>(
     }
 }
 
-/// Reads all parts of a cover. False comes exactly where there is none, which is wild.
+/// Reads all parts of a cover. False comes exactly where there is none, which is undefined.
 fn read_cover(cover: Option<Cover>, who: Who, accesses: &mut Accesses) -> bool
     requires small { IfSome cover IsSmall }
     requires room { array_vec_len accesses.old ≤ 8 }
@@ -128,7 +129,7 @@ fn read_cover(cover: Option<Cover>, who: Who, accesses: &mut Accesses) -> bool
 
 /// An address without its low four bits.
 fn aligned(address: u32) -> u32
-    ensures { result ≡ aligned address }
+    ensures { result ≡ aligned_address address }
 {
     address - address % 16
 }
@@ -140,7 +141,7 @@ fn names_none(bits: u16) -> bool
     field(bits as u64, 2, 0) == 0
 }
 
-/// Stores tile (x, y) by general bits. False comes exactly where that is wild.
+/// Stores tile (x, y) by general bits. False comes exactly where that is undefined.
 pub(crate) fn store_general<C: Choices>(
     bits: u16,
     address: u32,
@@ -162,7 +163,7 @@ pub(crate) fn store_general<C: Choices>(
     write_cover(cover, words, who, memory, accesses)
 }
 
-/// Loads tile (x, y) by general bits. False comes exactly where that is wild.
+/// Loads tile (x, y) by general bits. False comes exactly where that is undefined.
 fn load_general(bits: u16, address: u32, tile: Tile, who: Who, accesses: &mut Accesses) -> bool
     requires { array_vec_len accesses.old ≤ 8 }
     ensures { Loads who (general_read bits address tile.frame tile.x tile.y) accesses.old
@@ -176,7 +177,7 @@ fn load_general(bits: u16, address: u32, tile: Tile, who: Who, accesses: &mut Ac
     read_cover(cover, who, accesses)
 }
 
-/// Stores tile (x, y) of the frame. False comes exactly where that is wild.
+/// Stores tile (x, y) of the frame. False comes exactly where that is undefined.
 pub(crate) fn store_frame<C: Choices>(
     tile: Tile,
     words: &C,
@@ -216,7 +217,7 @@ pub(crate) fn store_whole<C: Choices>(
     list_access(who, Way::Write, place, WHOLE_SIZE, accesses);
 }
 
-/// Does the load that waits, where one does. False comes exactly where that is wild.
+/// Does the load that waits, where one does. False comes exactly where that is undefined.
 pub(crate) fn load_waiting(
     waiting: Option<Load>,
     tile: Tile,

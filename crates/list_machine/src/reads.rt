@@ -1,4 +1,4 @@
-//! Reads of memory that are listed, and the end of a step that is wild.
+//! Reads of memory that are listed, and the end of a step that is undefined.
 ghost use Rattle.std.specs.Prelude.{◌≡◌, false, ◌≤◌, ◌<◌, ◌+◌, ◌^◌, ◌++◌, ◌∷◌, []};
 ghost use Rattle.arrayvec.specs.ArrayVec.{array_vec_len};
 ghost use Rattle.field_words.specs.Words.{u32_at};
@@ -45,7 +45,7 @@ pub(crate) fn read_word(place: u64, who: Who, memory: &PhysMem, accesses: &mut A
     LittleEndian::read_u32(&bytes)
 }
 
-/// Lists that the step is wild. It is false, as the result of such a step.
+/// Lists that the step is undefined. It is false, as the result of such a step.
 pub(crate) fn end_wild(who: Who, accesses: &mut Accesses) -> bool
     requires { array_vec_len accesses.old < 272 }
     ensures items { accesses.new.items ≡ accesses.old.items ++ access who Wild 0 0 ∷ [] }

@@ -2,11 +2,11 @@
 ghost use Rattle.std.specs.Prelude.{◌≡◌, ◌+◌, ◌≤◌, ◌<◌, ◌^◌, length, slice_index, true, false};
 ghost use Rattle.arrayvec.specs.ArrayVec.{array_vec_len};
 ghost use Rattle.packets.specs.Length.{render_taken};
-ghost use Rattle.packets.specs.Packet.{decoded};
-ghost use Rattle.machine_plan.specs.Glance.{glanced};
+ghost use Rattle.packets.specs.Packet.{packet_decoded};
+ghost use Rattle.machine_plan.specs.Glance.{glance_result};
 ghost use Rattle.machine_plan.specs.Turn.{Carries, CarriesAnywhere, if_tame};
 ghost use Rattle.list_machine.specs.Lists.{renderer_ended};
-ghost use Rattle.list_machine.specs.Renderer.{wait_plan, tile_named, enter_plan, tile_by, branch_plan, tile_plan, act, acted, packet_plan, may_pass, renderer_ready};
+ghost use Rattle.list_machine.specs.Renderer.{wait_plan, tile_named, enter_plan, tile_by, branch_plan, tile_plan, act, plan_of_packet, packet_plan, may_pass, renderer_ready};
 
 use crate::blocks::tiles_of;
 use crate::job_lists::JobLists;
@@ -47,7 +47,7 @@ impl JobLists {
     /// needn't wait there for the semaphore.
     #[tactic(auto, unfolding(crate::specs::Renderer::renderer_ready), using(crate::proofs::Steps::first_byte))]
     pub fn is_renderer_ready(&self, memory: &PhysMem) -> bool
-        ensures { result ≡ glanced (renderer_ready self.now) memory.now }
+        ensures { result ≡ glance_result (renderer_ready self.now) memory.now }
     {
         let kept = self.renderer();
         match kept.inside {
@@ -56,7 +56,7 @@ impl JobLists {
         }
     }
 
-    /// Keeps a load as waiting. False comes exactly where that is wild, since another one waits.
+    /// Keeps a load as waiting. False comes exactly where that is undefined, since another one waits.
     fn wait_with(&mut self, load: Load, who: Who, accesses: &mut Accesses) -> bool
         requires { array_vec_len accesses.old ≤ 8 }
         ensures shows { CarriesAnywhere who (wait_plan self.old self.old.renderer.waiting load)
@@ -72,7 +72,7 @@ impl JobLists {
         }
     }
 
-    /// Goes into the list of this tile. False comes exactly where there is none, which is wild.
+    /// Goes into the list of this tile. False comes exactly where there is none, which is undefined.
     fn enter(&mut self, tile: Option<u32>, who: Who, accesses: &mut Accesses) -> bool
         requires { array_vec_len accesses.old ≤ 8 }
         ensures shows { CarriesAnywhere who (enter_plan self.old tile) accesses.old accesses.new
@@ -98,7 +98,7 @@ impl JobLists {
         }
     }
 
-    /// Goes into the tile list at this address. False comes exactly where that is wild: the lists aren't
+    /// Goes into the tile list at this address. False comes exactly where that is undefined: the lists aren't
     /// closed, or none begins there.
     #[tactic(auto, unfolding(crate::specs::Renderer::branch_plan))]
     fn branch(&mut self, address: u32, who: Who, accesses: &mut Accesses) -> bool
@@ -128,7 +128,7 @@ impl JobLists {
         }
     }
 
-    /// Names the tile, and does the load that waits there. False comes exactly where that is wild.
+    /// Names the tile, and does the load that waits there. False comes exactly where that is undefined.
     #[tactic(auto, unfolding(crate::specs::Renderer::tile_plan))]
     fn name_tile(&mut self, x: u8, y: u8, who: Who, accesses: &mut Accesses) -> bool
         requires { array_vec_len accesses.old ≤ 8 }
@@ -149,7 +149,7 @@ impl JobLists {
         true
     }
 
-    /// Does what a packet says, with the renderer past it. False comes exactly where that is wild.
+    /// Does what a packet says, with the renderer past it. False comes exactly where that is undefined.
     fn act<C: Choices>(
         &mut self,
         packet: Packet,
@@ -205,7 +205,7 @@ impl JobLists {
     }
 
     /// Does what the bytes of a packet say, with the renderer past it. False comes exactly where that is
-    /// wild.
+    /// undefined.
     fn act_on<C: Choices>(
         &mut self,
         bytes: &[u8],
@@ -216,8 +216,9 @@ impl JobLists {
     ) -> bool
         requires length { length bytes.now ≡ render_taken (slice_index bytes.now 0) }
         requires room { array_vec_len accesses.old ≤ 8 }
-        ensures shows { Carries who (acted self.old (C.listed words.now) (decoded bytes.now))
-            memory.old memory.new accesses.old accesses.new (if_tame result self.new) }
+        ensures shows { Carries who (plan_of_packet self.old (C.listed words.now)
+            (packet_decoded bytes.now)) memory.old memory.new accesses.old accesses.new
+            (if_tame result self.new) }
         ensures same { result ≡ false → self.new ≡ self.old }
     {
         match decode(bytes) {
@@ -227,7 +228,7 @@ impl JobLists {
     }
 
     /// Reads the packet at the renderer's place, goes past it and does what it says. False comes exactly
-    /// where that is wild; then the renderer's work ends.
+    /// where that is undefined; then the renderer's work ends.
     pub(crate) fn take_packet<C: Choices>(
         &mut self,
         words: &C,

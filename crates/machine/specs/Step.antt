@@ -4,10 +4,10 @@ use Rattle.std.specs.Prelude.{ℕ, ◌+◌, Bool, false, ◌&&◌, nat_lt, is_no
 use Rattle.std.specs.List.{list_all}
 use Rattle.field_words.specs.declared.access.Actor.TheVariants.{Binner as TheBinner, Renderer as TheRenderer, Qpu as TheQpu, Tmu as TheTmu}
 use Rattle.field_words.specs.{declared.access.Access.Access, declared.access.Actor.Actor}
-use Rattle.machine_plan.specs.{declared.launch.Launch.Launch, Plan.Done, Glance.Glance, Glance.Now, Glance.glanced, Runs.Moved, Runs.Run, World.mapped, World.Turn, World.world_may, World.world_step}
+use Rattle.machine_plan.specs.{declared.launch.Launch.Launch, Plan.Done, Glance.Glance, Glance.Now, Glance.glance_result, Runs.Moved, Runs.Run, World.plan_mapped, World.Turn, World.world_may, World.world_step}
 use Rattle.list_machine.specs.Lists.{Lists, Turned, quiet, binner_of, renderer_of, binner_ended, renderer_ended}
 use Rattle.list_machine.specs.{Binner.binner_ready, Binner.binner_plan, Renderer.renderer_ready, Renderer.renderer_plan}
-use Rattle.qpu_machine.specs.Qpu.{active_of, job_of_thread, qpu_ready, qpu_plan, qpu_stopped, queue_of, oldest, job_of_request, tmu_ready, tmu_plan, dropped, launched, free_in, is_idle}
+use Rattle.qpu_machine.specs.Qpu.{active_of, job_of_thread, qpu_ready, qpu_plan, qpu_stopped, queue_of, oldest, job_of_request, tmu_ready, tmu_plan, after_drop, after_launch, free_in, is_idle}
 use Rattle.qpu_machine.specs.declared.state.Qpu.{Qpu}
 use Rattle.machine.specs.State.{Units, State, Picked, item_at, put_at, binner_job, renderer_job}
 
@@ -19,7 +19,7 @@ pub record Event : Type 0 where
 -- A program that a list unit starts for job j begins in the first thread that can take it.
 abbrev pub with_launch : ℕ → Option Launch → List Qpu → List Qpu
 with_launch j None qpus = qpus
-with_launch j (Some launch) qpus = launched j launch qpus
+with_launch j (Some launch) qpus = after_launch j launch qpus
 
 -- a list unit has come to this for job j
 abbrev pub with_lists : Units → ℕ → Turned → Units
@@ -61,7 +61,7 @@ abbrev pub binner_turn : Units → Option (Picked Lists) → List ℕ → Turn U
 binner_turn u None words = no_turn u TheBinner
 binner_turn u (Some b) words = record {
   who = binner_of b.number;
-  plan = mapped (with_lists u b.number) (binner_plan b.item (free_in u.qpus) words);
+  plan = plan_mapped (with_lists u b.number) (binner_plan b.item (free_in u.qpus) words);
   wild = with_lists u b.number (quiet (binner_ended b.item));
 }
 
@@ -69,7 +69,7 @@ abbrev pub renderer_turn : Units → Option (Picked Lists) → List ℕ → Turn
 renderer_turn u None words = no_turn u TheRenderer
 renderer_turn u (Some r) words = record {
   who = renderer_of r.number;
-  plan = mapped (with_lists u r.number) (renderer_plan r.item (free_in u.qpus) words);
+  plan = plan_mapped (with_lists u r.number) (renderer_plan r.item (free_in u.qpus) words);
   wild = with_lists u r.number (quiet (renderer_ended r.item));
 }
 
@@ -77,7 +77,7 @@ abbrev pub qpu_turn : Units → ℕ → Option Qpu → List ℕ → Turn Units
 qpu_turn u k None words = no_turn u (TheQpu k)
 qpu_turn u k (Some q) words = record {
   who = record { unit = TheQpu k; job = job_of_thread (active_of q) };
-  plan = mapped (with_qpu u k) (qpu_plan q words);
+  plan = plan_mapped (with_qpu u k) (qpu_plan q words);
   wild = with_qpu u k (qpu_stopped q);
 }
 
@@ -85,8 +85,8 @@ abbrev pub tmu_turn : Units → ℕ → ℕ → Option Qpu → List ℕ → Turn
 tmu_turn u k n None words = no_turn u (TheTmu k n)
 tmu_turn u k n (Some q) words = record {
   who = record { unit = TheTmu k n; job = job_of_request (oldest (queue_of q n)) };
-  plan = mapped (with_qpu u k) (tmu_plan q n words);
-  wild = with_qpu u k (dropped q n);
+  plan = plan_mapped (with_qpu u k) (tmu_plan q n words);
+  wild = with_qpu u k (after_drop q n);
 }
 
 -- whether a unit may step
@@ -131,12 +131,12 @@ unfoldable pub turn : Units → Event → Turn Units
 turn u event = unit_turn u event.unit event.words
 
 -- a unit may step
-unfoldable pub enabled : State → Actor → Bool
-enabled s unit = glanced (unit_ready s.units unit) s.memory
+unfoldable pub is_enabled : State → Actor → Bool
+is_enabled s unit = glance_result (unit_ready s.units unit) s.memory
 
 -- no job is the binner's or the renderer's, all threads are idle and all queues are empty
-unfoldable pub finished : State → Bool
-finished s = (is_none (binner_job s.units) && is_none (renderer_job s.units)) && list_all is_idle s.units.qpus
+unfoldable pub is_finished : State → Bool
+is_finished s = (is_none (binner_job s.units) && is_none (renderer_job s.units)) && list_all is_idle s.units.qpus
 
 unfoldable pub job_of : State → Actor → ℕ
 job_of s unit = unit_job s.units unit

@@ -1,6 +1,6 @@
 //! The turns of binner and renderer.
 ghost use Rattle.std.specs.Prelude.{◌≡◌, ◌≤◌, ◌<◌, [], IsTrue, length, Some};
-ghost use Rattle.machine_plan.specs.{Glance.glanced, World.Moves, World.turned};
+ghost use Rattle.machine_plan.specs.{Glance.glance_result, World.Moves, World.world_turned};
 ghost use Rattle.list_machine.specs.Binner.{binner_ready};
 ghost use Rattle.list_machine.specs.Renderer.{renderer_ready};
 ghost use Rattle.qpu_machine.specs.Qpu.{free_in};
@@ -39,7 +39,7 @@ impl Machine {
 
     /// Whether the binner may step.
     pub(crate) fn binner_may(&self) -> bool
-        ensures { result ≡ glanced (binner_may self.now.units (binner_job self.now.units))
+        ensures { result ≡ glance_result (binner_may self.now.units (binner_job self.now.units))
             self.now.memory }
     {
         match self.binner_job() {
@@ -52,7 +52,8 @@ impl Machine {
 
     /// Whether the renderer may step.
     pub(crate) fn renderer_may(&self) -> bool
-        ensures { result ≡ glanced (renderer_may (renderer_job self.now.units)) self.now.memory }
+        ensures { result ≡ glance_result (renderer_may (renderer_job self.now.units))
+            self.now.memory }
     {
         match self.renderer_job() {
             None => false,
@@ -63,10 +64,11 @@ impl Machine {
     /// The binner's turn, for its job; without one it does nothing.
     pub(crate) fn take_binner_turn<C: Choices>(&mut self, words: &C, accesses: &mut Accesses)
         requires empty { accesses.old.items ≡ [] }
-        requires may { IsTrue (glanced (binner_may self.old.units (binner_job self.old.units))
+        requires may { IsTrue (glance_result (binner_may self.old.units (binner_job self.old.units))
             self.old.memory) }
-        ensures { Moves (turned self.old (binner_turn self.old.units (binner_job self.old.units)
-            (C.listed words.now))) accesses.new.items self.new }
+        ensures { Moves (world_turned self.old
+            (binner_turn self.old.units (binner_job self.old.units) (C.listed words.now)))
+            accesses.new.items self.new }
     {
         if let Some(job) = self.binner_job() {
             self.bin(job, words, accesses);
@@ -77,10 +79,11 @@ impl Machine {
     fn bin<C: Choices>(&mut self, job: usize, words: &C, accesses: &mut Accesses)
         requires empty { accesses.old.items ≡ [] }
         requires within { job < length self.old.units.jobs }
-        requires ready { IsTrue (glanced (binner_ready (job_at self.old.units.jobs job)
+        requires ready { IsTrue (glance_result (binner_ready (job_at self.old.units.jobs job)
             (free_in self.old.units.qpus)) self.old.memory) }
         ensures { let picked = Some (picked_in self.old.units.jobs job) in
-            Moves (turned self.old (binner_turn self.old.units picked (C.listed words.now))) accesses.new.items self.new }
+            Moves (world_turned self.old (binner_turn self.old.units picked (C.listed words.now)))
+            accesses.new.items self.new }
     {
         let free = free_in(self.qpus.as_slice());
         let started = self.jobs[job].step_binner(
@@ -96,10 +99,11 @@ impl Machine {
     /// The renderer's turn, for its job; without one it does nothing.
     pub(crate) fn take_renderer_turn<C: Choices>(&mut self, words: &C, accesses: &mut Accesses)
         requires empty { accesses.old.items ≡ [] }
-        requires may { IsTrue (glanced (renderer_may (renderer_job self.old.units))
+        requires may { IsTrue (glance_result (renderer_may (renderer_job self.old.units))
             self.old.memory) }
-        ensures { Moves (turned self.old (renderer_turn self.old.units (renderer_job self.old.units)
-            (C.listed words.now))) accesses.new.items self.new }
+        ensures { Moves (world_turned self.old
+            (renderer_turn self.old.units (renderer_job self.old.units) (C.listed words.now)))
+            accesses.new.items self.new }
     {
         if let Some(job) = self.renderer_job() {
             self.render(job, words, accesses);
@@ -110,10 +114,11 @@ impl Machine {
     fn render<C: Choices>(&mut self, job: usize, words: &C, accesses: &mut Accesses)
         requires empty { accesses.old.items ≡ [] }
         requires within { job < length self.old.units.jobs }
-        requires ready { IsTrue (glanced (renderer_ready (job_at self.old.units.jobs job))
+        requires ready { IsTrue (glance_result (renderer_ready (job_at self.old.units.jobs job))
             self.old.memory) }
         ensures { let picked = Some (picked_in self.old.units.jobs job) in
-            Moves (turned self.old (renderer_turn self.old.units picked (C.listed words.now))) accesses.new.items self.new }
+            Moves (world_turned self.old (renderer_turn self.old.units picked (C.listed words.now)))
+            accesses.new.items self.new }
     {
         let free = free_in(self.qpus.as_slice());
         let started = self.jobs[job].step_renderer(

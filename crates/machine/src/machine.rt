@@ -3,7 +3,7 @@ ghost use Rattle.std.specs.Prelude.{◌≡◌, ◌≤◌, ◌<◌, [], IsTrue, f
 ghost use Rattle.list_machine.specs.Binner.{has_binner_work};
 ghost use Rattle.list_machine.specs.Renderer.{has_renderer_work};
 ghost use Rattle.machine_plan.specs.World.{Moves};
-ghost use Rattle.machine.specs.Step.{enabled, finished, job_of, step};
+ghost use Rattle.machine.specs.Step.{is_enabled, is_finished, job_of, step};
 ghost use Rattle.machine.specs.State.{start_of, binner_job, renderer_job, picked_in};
 
 use crate::job::{Start, all_started, idle_qpus};
@@ -98,9 +98,9 @@ impl Machine {
 
     /// Whether the unit may step. A processor above 11 or a TMU above 1 never may.
     #[inline(always)]
-    #[tactic(auto, unfolding(crate::specs::Step::enabled))]
+    #[tactic(auto, unfolding(crate::specs::Step::is_enabled))]
     pub fn enabled(&self, unit: Actor) -> bool
-        ensures { result ≡ enabled self.now unit }
+        ensures { result ≡ is_enabled self.now unit }
     {
         match unit {
             Actor::Binner => self.binner_may(),
@@ -112,9 +112,9 @@ impl Machine {
 
     /// Whether no unit has any work left: no job is the binner's or the renderer's, all threads are idle, and all queues are
     /// empty.
-    #[tactic(auto, unfolding(crate::specs::Step::finished))]
+    #[tactic(auto, unfolding(crate::specs::Step::is_finished))]
     pub fn finished(&self) -> bool
-        ensures { result ≡ finished self.now }
+        ensures { result ≡ is_finished self.now }
     {
         (self.binner_job().is_none() && self.renderer_job().is_none()) && self.are_qpus_idle()
     }
@@ -137,8 +137,8 @@ impl Machine {
     ///
     /// `NotEnabled` comes exactly where the unit is not enabled, and then nothing else has changed. A step takes no memory.
     pub fn step(&mut self, unit: Actor, words: &[u32], accesses: &mut Accesses) -> Stepped
-        ensures done { IsTrue (enabled self.old unit) → result ≡ Stepped.Done }
-        ensures refused { enabled self.old unit ≡ false → result ≡ Stepped.NotEnabled }
+        ensures done { IsTrue (is_enabled self.old unit) → result ≡ Stepped.Done }
+        ensures refused { is_enabled self.old unit ≡ false → result ≡ Stepped.NotEnabled }
         ensures same { result ≡ Stepped.NotEnabled → self.new ≡ self.old }
         ensures emptied { result ≡ Stepped.NotEnabled → accesses.new.items ≡ [] }
         ensures moved { result ≡ Stepped.Done
@@ -148,16 +148,16 @@ impl Machine {
         self.step_by(unit, &words, accesses)
     }
 
-    /// The same step, which asks for each word when it needs it.
-    #[tactic(auto, unfolding(crate::specs::Step::enabled))]
+    /// The step of a unit, which asks for each word when it needs it.
+    #[tactic(auto, unfolding(crate::specs::Step::is_enabled))]
     pub fn step_by<C: Choices>(
         &mut self,
         unit: Actor,
         words: &C,
         accesses: &mut Accesses,
     ) -> Stepped
-        ensures done { IsTrue (enabled self.old unit) → result ≡ Stepped.Done }
-        ensures refused { enabled self.old unit ≡ false → result ≡ Stepped.NotEnabled }
+        ensures done { IsTrue (is_enabled self.old unit) → result ≡ Stepped.Done }
+        ensures refused { is_enabled self.old unit ≡ false → result ≡ Stepped.NotEnabled }
         ensures same { result ≡ Stepped.NotEnabled → self.new ≡ self.old }
         ensures emptied { result ≡ Stepped.NotEnabled → accesses.new.items ≡ [] }
         ensures moved { result ≡ Stepped.Done
@@ -173,10 +173,10 @@ impl Machine {
     }
 
     // This unit's turn, which may step.
-    #[tactic(auto, unfolding(crate::specs::Step::enabled, crate::specs::Step::turn))]
+    #[tactic(auto, unfolding(crate::specs::Step::is_enabled, crate::specs::Step::turn))]
     fn take_turn<C: Choices>(&mut self, unit: Actor, words: &C, accesses: &mut Accesses)
         requires empty { accesses.old.items ≡ [] }
-        requires may { IsTrue (enabled self.old unit) }
+        requires may { IsTrue (is_enabled self.old unit) }
         ensures { Moves (step self.old (record { unit = unit; words = C.listed words.now }))
             accesses.new.items self.new }
     {

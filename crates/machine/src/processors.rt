@@ -1,6 +1,6 @@
 //! The turns of the shader processors and of their texture and memory units (TMUs).
 ghost use Rattle.std.specs.Prelude.{◌≡◌, ◌≤◌, ◌<◌, [], IsTrue};
-ghost use Rattle.machine_plan.specs.{Glance.glanced, World.Moves, World.turned};
+ghost use Rattle.machine_plan.specs.{Glance.glance_result, World.Moves, World.world_turned};
 ghost use Rattle.std.specs.List.{list_all};
 ghost use Rattle.qpu_machine.specs.Qpu.{is_idle};
 ghost use Rattle.machine.specs.State.{item_at};
@@ -14,7 +14,7 @@ use qpu_machine::{is_qpu_idle, is_qpu_ready, is_tmu_ready, qpu_job, step_qpu, st
 impl Machine {
     /// Whether processor `k` may step; there are twelve.
     pub(crate) fn qpu_may(&self, k: u8) -> bool
-        ensures { result ≡ glanced (qpu_may (item_at self.now.units.qpus k)) self.now.memory }
+        ensures { result ≡ glance_result (qpu_may (item_at self.now.units.qpus k)) self.now.memory }
     {
         let k = k as usize;
         k < self.qpus.len() && is_qpu_ready(&self.qpus[k], &self.memory)
@@ -22,7 +22,8 @@ impl Machine {
 
     /// Whether TMU `n` of processor `k` may step; each has two.
     pub(crate) fn tmu_may(&self, k: u8, n: u8) -> bool
-        ensures { result ≡ glanced (tmu_may (item_at self.now.units.qpus k) n) self.now.memory }
+        ensures { result ≡ glance_result (tmu_may (item_at self.now.units.qpus k) n)
+            self.now.memory }
     {
         let k = k as usize;
         k < self.qpus.len() && n < 2 && is_tmu_ready(&self.qpus[k], n)
@@ -62,9 +63,11 @@ impl Machine {
     /// The turn of processor `k`, which may step.
     pub(crate) fn take_qpu_turn<C: Choices>(&mut self, k: u8, words: &C, accesses: &mut Accesses)
         requires empty { accesses.old.items ≡ [] }
-        requires may { IsTrue (glanced (qpu_may (item_at self.old.units.qpus k)) self.old.memory) }
-        ensures { Moves (turned self.old (qpu_turn self.old.units k (item_at self.old.units.qpus k)
-            (C.listed words.now))) accesses.new.items self.new }
+        requires may { IsTrue (glance_result (qpu_may (item_at self.old.units.qpus k))
+            self.old.memory) }
+        ensures { Moves (world_turned self.old
+            (qpu_turn self.old.units k (item_at self.old.units.qpus k) (C.listed words.now)))
+            accesses.new.items self.new }
     {
         let who = Who {
             unit: Actor::Qpu(k),
@@ -88,9 +91,9 @@ impl Machine {
         accesses: &mut Accesses,
     )
         requires empty { accesses.old.items ≡ [] }
-        requires may { IsTrue (glanced (tmu_may (item_at self.old.units.qpus k) n)
+        requires may { IsTrue (glance_result (tmu_may (item_at self.old.units.qpus k) n)
             self.old.memory) }
-        ensures { Moves (turned self.old (tmu_turn self.old.units k n
+        ensures { Moves (world_turned self.old (tmu_turn self.old.units k n
             (item_at self.old.units.qpus k) (C.listed words.now))) accesses.new.items self.new }
     {
         let who = Who {

@@ -3,7 +3,7 @@ use Rattle.std.proofs.Common.{◌≡◌, ℕ, zero, suc, ◌+◌, ◌⊎◌, inl
 use Rattle.std.proofs.lemmas.{Bool.false≢true, Option.slice_get-map}
 use Rattle.machine_plan.specs.Regions.{Interval, Inside, Rights, rights_of, IsIn, IsSafeAccess, HasReadOnly, Agree, Misses}
 use Rattle.machine_plan.specs.Others.{Happening, Steps, Changes, MayHappen, happen, AllMayHappen, IsLeft}
-use Rattle.machine_plan.specs.{World.Turn, Runs.reached}
+use Rattle.machine_plan.specs.{World.Turn, Runs.state_reached}
 use Rattle.apart_law.specs.Part.{UnitsAlike, StatesAlike}
 use Rattle.promises.specs.Trail.{Client, accesses_of, Entry, entry_of, own_entry, happening_entry, with_entry, entries_of}
 use Rattle.promises.specs.Apart.{regions_of, IsUnshared, Beginning, AreLeft}
@@ -79,7 +79,7 @@ covered mine rights j p size own lies = own_region_from mine 0 j j rights p size
 pub has_regions : (mine : Client) (rights : List Rights) → IsUnshared mine rights → HasRegions mine rights (regions_of mine 0 rights)
 has_regions mine rights unshared = search (rules, arith, covered, in_own)
 
--- the same intervals are the client's among its other neighbours
+-- these intervals are the client's among its other neighbours
 pub neighbour_has : (mine : Client) (b c : Beginning) → AreNeighbours mine b c → HasRegions mine c.rights (regions_of mine 0 b.rights)
 neighbour_has mine b c near = search (rules, arith, covered, in_own)
 
@@ -227,10 +227,10 @@ apart_with_others_law mine b c m n near has also agree happenings others found t
     let ran = trails_alike (happening_entry mine) (happen turn) mine (MayApart b all) (MayApart c all) (Known b) (Known c) (StatesAlike mine all) (steps_alike mine b c near)
     (start_of m b.starts) happenings (begins_known b near.begins m has) (all_apart b all happenings (start_of m b.starts) run.allowed left)
     (start_of n c.starts) others (begins_known c near.other_begins n also) (begin_alike mine b c near m n agree) (all_apart c all others (start_of n c.starts) other.allowed also_left) trails in
-    let ends : Agree all (reached (happen turn) (start_of m b.starts) happenings).memory (reached (happen turn) (start_of n c.starts) others).memory = ran.states.memory in
+    let ends : Agree all (state_reached (happen turn) (start_of m b.starts) happenings).memory (state_reached (happen turn) (start_of n c.starts) others).memory = ran.states.memory in
     record {
       accesses = ap (accesses_of mine) run.accesses ∙ (ran.accesses ∙ sym (ap (accesses_of mine) other.accesses));
-      memory = subst (λ (w : State). Agree all w.memory t.memory) (sym run.last) (subst (λ (w : State). Agree all (reached (happen turn) (start_of m b.starts) happenings).memory w.memory) (sym other.last) ends);
+      memory = subst (λ (w : State). Agree all w.memory t.memory) (sym run.last) (subst (λ (w : State). Agree all (state_reached (happen turn) (start_of m b.starts) happenings).memory w.memory) (sym other.last) ends);
     }
 
 -- runs in which nobody else writes

@@ -1,7 +1,7 @@
 -- What jobs may only read stays: homes, primitives that may be drawn, and the texts of lists. So what jobs begin with is known of their units.
 use Rattle.std.proofs.Common.{◌≡◌, ◌≤◌, ◌<◌, ℕ, ◌+◌, ◌-◌, ◌*◌, List, length, ◌∙◌, ap, subst, arith, ◌%◌, ◌==◌, not, Bool, false, refl, sym, [], ◌∷◌, rules}
 use Rattle.std.specs.Int.{from_le_bytes, w64}
-use Rattle.field_words.specs.{Words.u32_at, Pieces.joined as joined_bytes}
+use Rattle.field_words.specs.{Words.u32_at, Pieces.joined_texts as joined_bytes}
 use Rattle.machine_plan.specs.Regions.{Inside, Rights, rights_of, IsOutside, HasReadOnly, Interval}
 use Rattle.machine_plan.specs.{Memory.bytes_at, declared.launch.Launch.Launch}
 use Rattle.machine_plan.proofs.{Memory.inside_part, Memory.bytes_same, Safe.joined_covers, Words.word_read}
@@ -11,7 +11,7 @@ use Rattle.packets.specs.{StateWord.record_size, Packet.slots_text}
 use Rattle.emitted_facts.specs.Records.{address_word, shape_word, extension_word, is_single, code_word, stream_word}
 use Rattle.emitted_facts.proofs.Records.{entry_in, extension_in, header_in, same_attribute}
 use Rattle.list_machine.specs.{Binner.primitive_of, Fetch.record_place, Lists.lists_start}
-use Rattle.list_law.specs.Emitted.{words_in, RecordStands, program_in}
+use Rattle.list_law.specs.Emitted.{words_in, RecordLies, program_in}
 use Rattle.list_law.specs.{Uses.Fetches, Uses.Programs, Binning.DrawsSo, Lists.ListsFine}
 use Rattle.list_law.proofs.Emitted.{same_count, same_extended, emitted_fetches, emitted_programs}
 use Rattle.list_law.proofs.Start.{lists_begin, walks_so}
@@ -54,7 +54,7 @@ pub homes_stay_law : HomesStay
 homes_stay_law rights plains first j home buffers begins = search (rules, arith, home_stays)
 
 -- a word of the record is the first memory's
-pub word_stays : (rights : List Rights) (first m : List ℕ) (j word i : ℕ) → RecordStands (rights_of rights j).region first word → IsFixed rights (record_place word) (record_size word) → HasReadOnly rights first m → 4 * i + 4 ≤ record_size word
+pub word_stays : (rights : List Rights) (first m : List ℕ) (j word i : ℕ) → RecordLies (rights_of rights j).region first word → IsFixed rights (record_place word) (record_size word) → HasReadOnly rights first m → 4 * i + 4 ≤ record_size word
     → words_in m word i ≡ words_in first word i
 word_stays rights first m j word i stands fixed has room =
     let p : ℕ = record_place word + 4 * i in
@@ -62,7 +62,7 @@ word_stays rights first m j word i stands fixed has room =
     let bytes : bytes_at m p 4 ≡ bytes_at first p 4 = fixed_part rights first m j (record_place word) (record_size word) p 4 fixed has (omega arith) (omega (arith, room)) lies in
     sym (word_read m p 4 (omega arith)) ∙ ap (λ b. u32_at b 0) bytes ∙ word_read first p 4 (omega arith)
 
-pub record_stays : (rights : List Rights) (first m : List ℕ) (j word : ℕ) → IsFixed rights (record_place word) (record_size word) → HasReadOnly rights first m → RecordStands (rights_of rights j).region first word → RecordStands (rights_of rights j).region m word
+pub record_stays : (rights : List Rights) (first m : List ℕ) (j word : ℕ) → IsFixed rights (record_place word) (record_size word) → HasReadOnly rights first m → RecordLies (rights_of rights j).region first word → RecordLies (rights_of rights j).region m word
 record_stays rights first m j word fixed has stands = search (rules, arith, inside_part, joined_covers)
 
 -- a program of the record, which may be started
@@ -82,8 +82,8 @@ fetches_stay rights plains first m j word packet begins has =
     let region = (rights_of rights j).region in
     let state = begins.state in
     let counts = same_count state word begins.is_state in
-    let stays : (i : ℕ) → 4 * i + 4 ≤ record_size word → words_in m word i ≡ words_in first word i = λ i room. word_stays rights first m j word i begins.record_stands begins.record_fixed has room in
-    emitted_fetches (Inside region) region m state word begins.most packet (λ place size lies. lies) (record_stays rights first m j word begins.record_fixed has begins.record_stands) begins.is_state
+    let stays : (i : ℕ) → 4 * i + 4 ≤ record_size word → words_in m word i ≡ words_in first word i = λ i room. word_stays rights first m j word i begins.record_lies begins.record_fixed has room in
+    emitted_fetches (Inside region) region m state word begins.most packet (λ place size lies. lies) (record_stays rights first m j word begins.record_fixed has begins.record_lies) begins.is_state
     (λ t below.
     let room = entry_in word t (omega (arith, counts, below)) in
     same_attribute (Inside region) state begins.most (words_in m word) (words_in first word) t (stays (address_word t) (omega (arith, room))) (stays (shape_word t) (omega (arith, room)))
@@ -95,9 +95,9 @@ programs_stay : (rights : List Rights) (plains : ℕ → List Interval) (first m
 programs_stay rights plains first m j word packet begins has =
     let region = (rights_of rights j).region in
     let room = header_in word in
-    let stays : (i : ℕ) → i < 9 → words_in m word i ≡ words_in first word i = λ i below. word_stays rights first m j word i begins.record_stands begins.record_fixed has (omega (arith, room, below)) in
+    let stays : (i : ℕ) → i < 9 → words_in m word i ≡ words_in first word i = λ i below. word_stays rights first m j word i begins.record_lies begins.record_fixed has (omega (arith, room, below)) in
     let single : not (is_single (words_in m word)) ≡ not (is_single (words_in first word)) = single_stays (words_in m word) (words_in first word) (stays 0 (omega arith)) in
-    emitted_programs region (LaunchFine rights plains first j) m word (record_stays rights first m j word begins.record_fixed has begins.record_stands)
+    emitted_programs region (LaunchFine rights plains first j) m word (record_stays rights first m j word begins.record_fixed has begins.record_lies)
     (program_stays rights plains first m j word (not (is_single (words_in m word))) (not (is_single (words_in first word))) 0 single (stays 1 (omega arith)) (stays 2 (omega arith)) begins.fragment)
     (program_stays rights plains first m j word false false 1 refl (stays 4 (omega arith)) (stays 5 (omega arith)) begins.vertex)
     (program_stays rights plains first m j word false false 2 refl (stays 7 (omega arith)) (stays 8 (omega arith)) begins.coordinate)

@@ -4,8 +4,8 @@ use Rattle.std.proofs.lemmas.Bool.{false≢true}
 use Rattle.std.specs.Prelude.{IfSome, ◌==◌, ◌&&◌, ◌||◌, is_some, is_none, option_map}
 use Rattle.machine_plan.specs.Regions.{Every, Inside, Rights, rights_of, IsSafeAccess, IsSafeIn, HasReadOnly, Interval}
 use Rattle.machine_plan.specs.declared.{launch.Launch.Launch, launch.Free.Free, who.Who.Who}
-use Rattle.machine_plan.specs.Glance.{Glance, Now, glanced, GlancesIn}
-use Rattle.machine_plan.specs.{Plan.Plan, Plan.Keeps, Plan.access, World.mapped, World.Owes}
+use Rattle.machine_plan.specs.Glance.{Glance, Now, glance_result, GlancesIn}
+use Rattle.machine_plan.specs.{Plan.Plan, Plan.Keeps, Plan.access, World.plan_mapped, World.Owes}
 use Rattle.machine.specs.State.{Picked, first_where, item_at, put_at, Units, binner_job, renderer_job, job_start, units_start}
 use Rattle.machine.specs.Step.{with_launch, with_lists, with_qpu, is_ahead, binner_may, renderer_may, qpu_may, tmu_may, binner_turn, renderer_turn, qpu_turn, tmu_turn, unit_ready, unit_turn, ready, turn}
 use Rattle.machine.specs.declared.job.Start.{Start}
@@ -16,7 +16,7 @@ use Rattle.machine_law.specs.Laws.{AreFine, UnitsOwe}
 use Rattle.machine_plan.proofs.{Runs.every-append, Safe.safe_of, Worlds.keeps_mapped, Plans.keeps_of, Plans.keeps_weaker}
 use Rattle.qpu_machine.specs.declared.state.{Asked.Asked, Thread.Thread, Qpu.Qpu, Ask.Ask, Request.Request}
 use Rattle.qpu_machine.specs.declared.state.Fate.{Fate, TheVariants.Switches, TheVariants.Ends}
-use Rattle.qpu_machine.specs.Qpu.{active_of, left_by, gives_way, woken_slot, queue_with, settled, went, oldest, queue_of, with_result, dropped, given, served, in_first, in_other, started_in, launched, job_of_thread, ready_by, plan_by, job_of_request, serving, free_in, idle_qpu}
+use Rattle.qpu_machine.specs.Qpu.{active_of, left_by, gives_way, woken_slot, queue_with, after_turn, went, oldest, queue_of, with_result, after_drop, result_given, after_service, in_first, in_other, started_in, after_launch, job_of_thread, ready_by, plan_by, job_of_request, serving, free_in, idle_qpu}
 use Rattle.qpu_machine.specs.{Start.thread_of, Request.ask_plan, Step.ThreadTurn, Step.thread_plan, Step.thread_ready}
 use Rattle.field_words.specs.declared.access.Actor.TheVariants.{Binner as TheBinner, Renderer as TheRenderer, Qpu as TheQpu, Tmu as TheTmu}
 use Rattle.field_words.specs.declared.access.Actor.{Actor}
@@ -39,7 +39,7 @@ item_fine P [] k all = tt
 item_fine P (x ∷ xs) zero all = all.0
 item_fine P (x ∷ xs) (suc k) all = item_fine P xs k all.1
 
--- the same where the list is numbered from n on
+-- an item put into a list that is numbered from n on
 pub put_each : {X : Type 0} (P : ℕ → X → Type 0) (n k number : ℕ) (xs : List X) (new : X) → number ≡ n + k → P number new → EachAt P n xs → EachAt P n (put_at xs k new)
 put_each P n k number [] new e fine all = tt
 put_each P n zero number (x ∷ xs) new e fine all = let same : number ≡ n = omega (arith, e) in (subst (λ i. P i new) same fine, all.1)
@@ -88,7 +88,7 @@ started_fine : (f : Facts) (threaded : Bool) (t : Thread) (qpus : List Qpu) → 
 started_fine f threaded t [] thread fresh all = tt
 started_fine f threaded t (q ∷ qpus) thread fresh all = search (rules, arith, chosen, in_first_fine, in_other_fine, started_fine f threaded t qpus thread fresh all.1)
 
-pub launched_fine : (f : Facts) (j : ℕ) (launch : Launch) (qpus : List Qpu) → f.OfThread (thread_of j launch) → Every (QpuFine f) qpus → Every (QpuFine f) (launched j launch qpus)
+pub launched_fine : (f : Facts) (j : ℕ) (launch : Launch) (qpus : List Qpu) → f.OfThread (thread_of j launch) → Every (QpuFine f) qpus → Every (QpuFine f) (after_launch j launch qpus)
 launched_fine f j launch qpus thread all = started_fine f launch.threaded (thread_of j launch) qpus thread (begins_fresh j launch) all
 
 woken_fine : (f : Facts) (over : Bool) (slot : Option Thread) → SlotFresh slot → SlotFine f slot → SlotFine f (woken_slot over slot)
@@ -113,11 +113,11 @@ record LeftFine (f : Facts) (job : ℕ) (own : Option Thread) (over : Bool) (ask
   pub asks : (one : Asked) → asked ≡ Some one → f.OfAsk job one.ask
 
 settled_by_second : (f : Facts) (q : Qpu) (second : Bool) (job : ℕ) (own : Option Thread) (over : Bool) (asked : Option Asked) → QpuFine f (record q { second = second }) → LeftFine f job own over asked
-    → QpuFine f (settled (record q { second = second }) job own over asked)
-unfolding settled
+    → QpuFine f (after_turn (record q { second = second }) job own over asked)
+unfolding after_turn
 settled_by_second f q second job own over asked fine left = search (rules, arith, woken_fine, rest_first, queue_fine, rest_other)
 
-settled_fine : (f : Facts) (q : Qpu) (job : ℕ) (own : Option Thread) (over : Bool) (asked : Option Asked) → QpuFine f q → LeftFine f job own over asked → QpuFine f (settled q job own over asked)
+settled_fine : (f : Facts) (q : Qpu) (job : ℕ) (own : Option Thread) (over : Bool) (asked : Option Asked) → QpuFine f q → LeftFine f job own over asked → QpuFine f (after_turn q job own over asked)
 settled_fine f q job own over asked fine left = settled_by_second f q q.second job own over asked fine left
 
 -- what an instruction left of its thread
@@ -135,8 +135,8 @@ oldest_fine f requests all = search (rules, arith)
 pub queue_of_fine : (f : Facts) (q : Qpu) (tmu : ℕ) → QpuFine f q → Every (AskOf f) (queue_of q tmu)
 queue_of_fine f q tmu fine = chosen (Every (AskOf f)) (tmu == 0) q.queue0.items q.queue1.items fine.queue0 fine.queue1
 
-dropped_fine : (f : Facts) (q : Qpu) (tmu : ℕ) → QpuFine f q → QpuFine f (dropped q tmu)
-unfolding dropped
+dropped_fine : (f : Facts) (q : Qpu) (tmu : ℕ) → QpuFine f q → QpuFine f (after_drop q tmu)
+unfolding after_drop
 dropped_fine f q tmu fine = search (rules, arith, chosen, drop_every)
 
 -- a finished result changes nothing of what is known
@@ -153,12 +153,12 @@ given_rests : (second active : Bool) (tmu : ℕ) (row : Option (List ℕ)) (firs
     → SlotFresh (if active then (if second then first else option_map (with_result tmu row) first) else (if second then option_map (with_result tmu row) other else other))
 given_rests second active tmu row first other fresh = search (rules, arith, got_fresh)
 
-given_fine : (f : Facts) (q : Qpu) (tmu : ℕ) (second : Bool) (row : Option (List ℕ)) → Gets f → QpuFine f q → QpuFine f (given q tmu second row)
-unfolding given
+given_fine : (f : Facts) (q : Qpu) (tmu : ℕ) (second : Bool) (row : Option (List ℕ)) → Gets f → QpuFine f q → QpuFine f (result_given q tmu second row)
+unfolding result_given
 given_fine f q tmu second row gets fine = search (rules, arith, chosen, got_fine, given_rests)
 
-pub served_fine : (f : Facts) (q : Qpu) (tmu : ℕ) (request : Request) (row : Option (List ℕ)) → Gets f → QpuFine f q → QpuFine f (served q tmu request row)
-served_fine f q tmu request row gets fine = given_fine f (dropped q tmu) tmu request.second row gets (dropped_fine f q tmu fine)
+pub served_fine : (f : Facts) (q : Qpu) (tmu : ℕ) (request : Request) (row : Option (List ℕ)) → Gets f → QpuFine f q → QpuFine f (after_service q tmu request row)
+served_fine f q tmu request row gets fine = given_fine f (after_drop q tmu) tmu request.second row gets (dropped_fine f q tmu fine)
 
 -- what all units owe of a plan
 abbrev pub AllKeep : List Rights → Facts → Who → Plan Units → List ℕ → Type 0
@@ -166,7 +166,7 @@ AllKeep rights f who plan m = Keeps who (Inside (rights_of rights who.job).regio
 
 -- A unit's law for its job makes the machine's, where what it came to is put among what all units keep.
 lifts : {R : Type 0} (rights : List Rights) (f : Facts) (who : Who) (put : R → Units) (P : R → Type 0) → ((r : R) → P r → UnitsFine f (put r))
-    → (plan : Plan R) (m : List ℕ) → KeepsFor rights who.job who P plan m → AllKeep rights f who (mapped put plan) m
+    → (plan : Plan R) (m : List ℕ) → KeepsFor rights who.job who P plan m → AllKeep rights f who (plan_mapped put plan) m
 lifts rights f who put P puts plan m keeps =
     let one : Rights = rights_of rights who.job in
     let L = Inside one.region in
@@ -186,11 +186,11 @@ qpu_fine : (f : Facts) (u : Units) (k : ℕ) (q : Qpu) → UnitsFine f u → Qpu
 qpu_fine f u k q fine known = record { jobs = fine.jobs; qpus = put_every (QpuFine f) u.qpus k q known fine.qpus }
 
 -- a list unit that isn't held is ready
-pub not_held : (held : Bool) (glance : Glance Bool) (m : List ℕ) → IsTrue (glanced (if held then Now false else glance) m) → glanced glance m ≡ true
+pub not_held : (held : Bool) (glance : Glance Bool) (m : List ℕ) → IsTrue (glance_result (if held then Now false else glance) m) → glance_result glance m ≡ true
 not_held held glance m on = search (rules, arith, false≢true)
 
 binner_owes : (rights : List Rights) (K : List ℕ → Type 0) (f : Facts) → UnitLaws rights K f → (u : Units) (found : Option (Picked Lists)) (words m : List ℕ)
-    → K m → UnitsFine f u → IfSome found (PickedFine f.OfJob) → IsTrue (glanced (binner_may u found) m) → AllKeep rights f (binner_turn u found words).who (binner_turn u found words).plan m
+    → K m → UnitsFine f u → IfSome found (PickedFine f.OfJob) → IsTrue (glance_result (binner_may u found) m) → AllKeep rights f (binner_turn u found words).who (binner_turn u found words).plan m
 binner_owes rights K f laws u None words m here fine known may = absurd (false≢true may)
 binner_owes rights K f laws u (Some b) words m here fine known may =
     let free : Free = free_in u.qpus in
@@ -198,7 +198,7 @@ binner_owes rights K f laws u (Some b) words m here fine known may =
     (laws.binner b.number b.item free words m here known (not_held (is_ahead b.number (renderer_job u)) (binner_ready b.item free) m may))
 
 renderer_owes : (rights : List Rights) (K : List ℕ → Type 0) (f : Facts) → UnitLaws rights K f → (u : Units) (found : Option (Picked Lists)) (words m : List ℕ)
-    → K m → UnitsFine f u → IfSome found (PickedFine f.OfJob) → IsTrue (glanced (renderer_may found) m) → AllKeep rights f (renderer_turn u found words).who (renderer_turn u found words).plan m
+    → K m → UnitsFine f u → IfSome found (PickedFine f.OfJob) → IsTrue (glance_result (renderer_may found) m) → AllKeep rights f (renderer_turn u found words).who (renderer_turn u found words).plan m
 renderer_owes rights K f laws u None words m here fine known may = absurd (false≢true may)
 renderer_owes rights K f laws u (Some r) words m here fine known may =
     let free : Free = free_in u.qpus in
@@ -207,8 +207,8 @@ renderer_owes rights K f laws u (Some r) words m here fine known may =
 
 -- a processor by its active thread
 slot_owes : (rights : List Rights) (K : List ℕ → Type 0) (f : Facts) → UnitLaws rights K f → (u : Units) (k : ℕ) (q : Qpu) (slot : Option Thread) (words m : List ℕ)
-    → K m → UnitsFine f u → QpuFine f q → SlotFine f slot → IsTrue (glanced (ready_by slot q) m)
-    → AllKeep rights f (record { unit = TheQpu k; job = job_of_thread slot }) (mapped (with_qpu u k) (plan_by slot q words)) m
+    → K m → UnitsFine f u → QpuFine f q → SlotFine f slot → IsTrue (glance_result (ready_by slot q) m)
+    → AllKeep rights f (record { unit = TheQpu k; job = job_of_thread slot }) (plan_mapped (with_qpu u k) (plan_by slot q words)) m
 slot_owes rights K f laws u k q None words m here fine known thread may = absurd (false≢true may)
 slot_owes rights K f laws u k q (Some t) words m here fine known thread may =
     let who : Who = record { unit = TheQpu k; job = t.job } in
@@ -216,19 +216,19 @@ slot_owes rights K f laws u k q (Some t) words m here fine known thread may =
     let L = Inside one.region in
     let G = IsSafeIn one in
     let plan : Plan ThreadTurn = thread_plan t words in
-    lifts rights f who (with_qpu u k) (QpuFine f) (λ next one. qpu_fine f u k next fine one) (mapped (went q t) plan) m
+    lifts rights f who (with_qpu u k) (QpuFine f) (λ next one. qpu_fine f u k next fine one) (plan_mapped (went q t) plan) m
     (keeps_mapped (went q t) who L G (λ n next. QpuFine f next) plan m
     (keeps_weaker who L L G G (λ n turn. ThreadTurned f t turn) (λ n turn. QpuFine f (went q t turn)) (λ p n lies. lies) (λ a safe. safe) (λ n turn turned. went_fine f q t turn known turned) plan m
     (laws.thread t who words m here thread)))
 
 qpu_owes : (rights : List Rights) (K : List ℕ → Type 0) (f : Facts) → UnitLaws rights K f → (u : Units) (k : ℕ) (found : Option Qpu) (words m : List ℕ)
-    → K m → UnitsFine f u → IfSome found (QpuFine f) → IsTrue (glanced (qpu_may found) m) → AllKeep rights f (qpu_turn u k found words).who (qpu_turn u k found words).plan m
+    → K m → UnitsFine f u → IfSome found (QpuFine f) → IsTrue (glance_result (qpu_may found) m) → AllKeep rights f (qpu_turn u k found words).who (qpu_turn u k found words).plan m
 qpu_owes rights K f laws u k found words m here fine known may = search (rules, arith, false≢true, slot_owes, active_fine)
 
 -- a TMU by its oldest request
 request_owes : (rights : List Rights) (K : List ℕ → Type 0) (f : Facts) → UnitLaws rights K f → (u : Units) (k n : ℕ) (q : Qpu) (found : Option Request) (words m : List ℕ)
     → K m → UnitsFine f u → QpuFine f q → IfSome found (AskOf f)
-    → AllKeep rights f (record { unit = TheTmu k n; job = job_of_request found }) (mapped (with_qpu u k) (serving found q n words)) m
+    → AllKeep rights f (record { unit = TheTmu k n; job = job_of_request found }) (plan_mapped (with_qpu u k) (serving found q n words)) m
 request_owes rights K f laws u k n q None words m here fine known asked = qpu_fine f u k q fine known
 request_owes rights K f laws u k n q (Some request) words m here fine known asked =
     let who : Who = record { unit = TheTmu k n; job = request.job } in
@@ -236,18 +236,18 @@ request_owes rights K f laws u k n q (Some request) words m here fine known aske
     let L = Inside one.region in
     let G = IsSafeIn one in
     let plan : Plan (Option (List ℕ)) = ask_plan request.ask words in
-    lifts rights f who (with_qpu u k) (QpuFine f) (λ next one. qpu_fine f u k next fine one) (mapped (served q n request) plan) m
-    (keeps_mapped (served q n request) who L G (λ i next. QpuFine f next) plan m
-    (keeps_weaker who L L G G (λ i row. Unit {0}) (λ i row. QpuFine f (served q n request row)) (λ p i lies. lies) (λ a safe. safe) (λ i row none. served_fine f q n request row laws.gets known) plan m
+    lifts rights f who (with_qpu u k) (QpuFine f) (λ next one. qpu_fine f u k next fine one) (plan_mapped (after_service q n request) plan) m
+    (keeps_mapped (after_service q n request) who L G (λ i next. QpuFine f next) plan m
+    (keeps_weaker who L L G G (λ i row. Unit {0}) (λ i row. QpuFine f (after_service q n request row)) (λ p i lies. lies) (λ a safe. safe) (λ i row none. served_fine f q n request row laws.gets known) plan m
     (laws.request request.job request.ask who words m here asked)))
 
 tmu_owes : (rights : List Rights) (K : List ℕ → Type 0) (f : Facts) → UnitLaws rights K f → (u : Units) (k n : ℕ) (found : Option Qpu) (words m : List ℕ)
-    → K m → UnitsFine f u → IfSome found (QpuFine f) → IsTrue (glanced (tmu_may found n) m) → AllKeep rights f (tmu_turn u k n found words).who (tmu_turn u k n found words).plan m
+    → K m → UnitsFine f u → IfSome found (QpuFine f) → IsTrue (glance_result (tmu_may found n) m) → AllKeep rights f (tmu_turn u k n found words).who (tmu_turn u k n found words).plan m
 tmu_owes rights K f laws u k n found words m here fine known may = search (rules, arith, false≢true, request_owes, oldest_fine, queue_of_fine)
 
 -- each unit
 unit_owes : (rights : List Rights) (K : List ℕ → Type 0) (f : Facts) → UnitLaws rights K f → (u : Units) (unit : Actor) (words m : List ℕ)
-    → K m → UnitsFine f u → IsTrue (glanced (unit_ready u unit) m) → AllKeep rights f (unit_turn u unit words).who (unit_turn u unit words).plan m
+    → K m → UnitsFine f u → IsTrue (glance_result (unit_ready u unit) m) → AllKeep rights f (unit_turn u unit words).who (unit_turn u unit words).plan m
 unit_owes rights K f laws u TheBinner words m here fine may = binner_owes rights K f laws u (binner_job u) words m here fine (first_fine f.OfJob has_binner_work 0 u.jobs fine.jobs) may
 unit_owes rights K f laws u TheRenderer words m here fine may = renderer_owes rights K f laws u (renderer_job u) words m here fine (first_fine f.OfJob has_renderer_work 0 u.jobs fine.jobs) may
 unit_owes rights K f laws u (TheQpu k) words m here fine may = qpu_owes rights K f laws u k (item_at u.qpus k) words m here fine (item_fine (QpuFine f) u.qpus k fine.qpus) may
@@ -296,7 +296,7 @@ turned_known : (rights : List Rights) (plains : ℕ → List Interval) (first : 
     → TurnedFine (rights_of rights j) (HasReadOnly rights first) (LaunchFine rights plains first j) known.config known.frame turned → ListsTurned (facts_of rights plains first) j turned
 turned_known rights plains first j s known turned fine = search (rules, arith)
 
-binner_law : (rights : List Rights) (plains : ℕ → List Interval) (first : List ℕ) (j : ℕ) (s : Lists) (free : Free) (words m : List ℕ) → HasReadOnly rights first m → JobFine rights plains first j s → glanced (binner_ready s free) m ≡ true
+binner_law : (rights : List Rights) (plains : ℕ → List Interval) (first : List ℕ) (j : ℕ) (s : Lists) (free : Free) (words m : List ℕ) → HasReadOnly rights first m → JobFine rights plains first j s → glance_result (binner_ready s free) m ≡ true
     → KeepsFor rights j (binner_of j) (ListsTurned (facts_of rights plains first) j) (binner_plan s free words) m
 binner_law rights plains first j s free words m here known on =
     let r : Rights = rights_of rights j in
@@ -306,7 +306,7 @@ binner_law rights plains first j s free words m here known on =
     (λ p n lies. lies) (λ a safe. safe) (λ k turned fine. turned_known rights plains first j s known turned fine) (binner_plan s free words) m
     (binner_keeps (binner_of j) r K O known.config known.frame s free words m known.allocates here known.lists on)
 
-renderer_law : (rights : List Rights) (plains : ℕ → List Interval) (first : List ℕ) (j : ℕ) (s : Lists) (free : Free) (words m : List ℕ) → HasReadOnly rights first m → JobFine rights plains first j s → glanced (renderer_ready s) m ≡ true
+renderer_law : (rights : List Rights) (plains : ℕ → List Interval) (first : List ℕ) (j : ℕ) (s : Lists) (free : Free) (words m : List ℕ) → HasReadOnly rights first m → JobFine rights plains first j s → glance_result (renderer_ready s) m ≡ true
     → KeepsFor rights j (renderer_of j) (ListsTurned (facts_of rights plains first) j) (renderer_plan s free words) m
 renderer_law rights plains first j s free words m here known on =
     let r : Rights = rights_of rights j in

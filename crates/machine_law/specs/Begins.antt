@@ -1,10 +1,10 @@
 -- What jobs begin with, said of the first memory alone: no job may write their lists, their code and their streams.
 use Rattle.std.specs.Prelude.{◌≡◌, ◌<◌, ◌⊎◌, ℕ, ◌*◌, false, not, List, Option, length, slice_index}
-use Rattle.field_words.specs.Pieces.{joined as joined_bytes}
+use Rattle.field_words.specs.Pieces.{joined_texts as joined_bytes}
 use Rattle.packets.specs.{declared.packet.Packet.Packet, Packet.slots_text, StateWord.attribute_count, StateWord.record_size}
 use Rattle.packets.specs.declared.config.Config.{Config}
 use Rattle.emitted_facts.specs.{Facts.IsAttributeIn, Facts.IsPrimitive, Records.is_single}
-use Rattle.machine_plan.specs.Regions.{Interval, Inside, Rights, rights_of, joined, HasReadOnly}
+use Rattle.machine_plan.specs.Regions.{Interval, Inside, Rights, rights_of, regions_joined, HasReadOnly}
 use Rattle.machine_plan.specs.{declared.launch.Launch.Launch, Memory.bytes_at}
 use Rattle.shader_flow.specs.Flow.{is_threaded}
 use Rattle.uniform_stream.specs.Stream.{uniforms_of}
@@ -12,7 +12,7 @@ use Rattle.list_machine.specs.{declared.state.Frame.Frame, Fetch.record_place}
 use Rattle.bin_walks.specs.Walks.{nothing_kept, Walks}
 use Rattle.render_walks.specs.Walks.{at_start, WalksTo, AllFit}
 use Rattle.list_law.specs.{Binning.DrawsSo, Binning.Allocates, Rendering.MayDo, Rendering.NoMatter, Rendering.AllSet}
-use Rattle.list_law.specs.Emitted.{words_in, RecordStands, IsStateOf, program_in}
+use Rattle.list_law.specs.Emitted.{words_in, RecordLies, IsStateOf, program_in}
 use Rattle.qpu_law.specs.{Home.Home, Thread.IsHome, Thread.HasSamples}
 use Rattle.promises.specs.Rights.{IsFixed, IsOneOf}
 use Rattle.machine.specs.declared.job.Start.{Start}
@@ -25,7 +25,7 @@ pub record TextBegins (rights : List Rights) (first : List ℕ) (j place : ℕ) 
   pub fixed : IsFixed rights place (length text)
 
 -- A shader and its stream are a home in the first memory, which no job may write. Each sample of the shader reads in one of these
--- buffers, which are Plain buffers of job j.
+-- buffers, which are data buffers of job j.
 pub record HomeBegins (rights : List Rights) (plains : ℕ → List Interval) (first : List ℕ) (j : ℕ) (home : Home) (buffers : List Interval) : Type 0 where
   pub stands : IsHome first (rights_of rights j).region home
   pub code : IsFixed rights home.place (8 * length home.code)
@@ -49,7 +49,7 @@ pub record DrawBegins (rights : List Rights) (plains : ℕ → List Interval) (f
   pub state : ℕ
   pub most : ℕ
   pub is_state : IsStateOf state word
-  pub record_stands : RecordStands (rights_of rights j).region first word
+  pub record_lies : RecordLies (rights_of rights j).region first word
   pub record_fixed : IsFixed rights (record_place word) (record_size word)
   pub attributes : (t : ℕ) → t < attribute_count state → IsAttributeIn (Inside (rights_of rights j).region) state (words_in first word) most t
   pub fragment : LaunchBegins rights plains first j (program_in first word (not (is_single (words_in first word))) 0)
@@ -78,7 +78,7 @@ pub record JobBegins (rights : List Rights) (plains : ℕ → List Interval) (fi
 -- What some job may reach and none may write stays, and so a home stays one.
 abbrev pub FixedStays : Type 0
 FixedStays =
-    (rights : List Rights) (first m : List ℕ) (place size : ℕ) → IsFixed rights place size → Inside (joined rights) place size
+    (rights : List Rights) (first m : List ℕ) (place size : ℕ) → IsFixed rights place size → Inside (regions_joined rights) place size
     → HasReadOnly rights first m → bytes_at m place size ≡ bytes_at first place size
 
 abbrev pub HomesStay : Type 0

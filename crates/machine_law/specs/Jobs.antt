@@ -10,12 +10,12 @@ use Rattle.qpu_law.specs.{Asks.IsFineAsk, Home.Home, Thread.IsHome, Thread.HasSa
 use Rattle.promises.specs.Rights.{IsOneOf}
 use Rattle.machine_law.specs.Units.{Facts}
 
--- Plain buffers by job: each is one of the intervals of its job's region.
+-- data buffers by job: each is one of the intervals of its job's region.
 abbrev pub ArePlain : List Rights → (ℕ → List Interval) → Type 0
 ArePlain rights plains = (j place size : ℕ) → IsOneOf (plains j) place size → IsOneOf (rights_of rights j).region place size
 
 -- A shader and its stream are a home for threads of job j: they stand in each memory that has what jobs may only read as the first, in
--- the job's region, and each sample of the shader reads in one of these buffers, which are Plain buffers of the job.
+-- the job's region, and each sample of the shader reads in one of these buffers, which are data buffers of the job.
 pub record HomeFine (rights : List Rights) (plains : ℕ → List Interval) (first : List ℕ) (j : ℕ) (home : Home) (buffers : List Interval) : Type 0 where
   pub stands : (m : List ℕ) → HasReadOnly rights first m → IsHome m (rights_of rights j).region home
   pub samples : HasSamples buffers home
@@ -45,7 +45,7 @@ pub record JobFine (rights : List Rights) (plains : ℕ → List Interval) (firs
   pub allocates : Allocates (rights_of rights j) config
   pub lists : ListsFine (rights_of rights j) (HasReadOnly rights first) (LaunchFine rights plains first j) config frame s
 
--- what is known of all that the units keep, for jobs with these rights and these Plain buffers over this first memory
+-- what is known of all that the units keep, for jobs with these rights and these data buffers over this first memory
 abbrev pub facts_of : List Rights → (ℕ → List Interval) → List ℕ → Facts
 facts_of rights plains first = record {
   OfJob = JobFine rights plains first;

@@ -1,7 +1,7 @@
 -- The law of the whole machine: what jobs with such beginnings are, while others may write all but what jobs may only read.
 use Rattle.std.specs.Prelude.{ℕ, List}
 use Rattle.machine_plan.specs.World.{Safe, Same}
-use Rattle.machine_plan.specs.Regions.{Interval, Rights, joined, HasReadOnly}
+use Rattle.machine_plan.specs.Regions.{Interval, Rights, regions_joined, HasReadOnly}
 use Rattle.machine.specs.{declared.job.Start.Start, State.Units, State.units_start}
 use Rattle.machine.specs.Step.{ready, turn}
 use Rattle.machine_law.specs.{Units.EachAt, Jobs.ArePlain, Laws.AreFine, Begins.JobBegins}
@@ -23,4 +23,4 @@ JobsSound =
 abbrev pub SoundJobsAreSafe : Type 0
 SoundJobsAreSafe =
     (rights : List Rights) (plains : ℕ → List Interval) (m : List ℕ) (u : Units) → Sound rights plains m u
-    → Safe ready turn rights m u × Same ready turn rights (joined rights) m u
+    → Safe ready turn rights m u × Same ready turn rights (regions_joined rights) m u

@@ -1,7 +1,7 @@
 -- What each unit of the machine owes, said over any facts of what the units keep.
 use Rattle.std.specs.Prelude.{◌≡◌, ◌≢◌, ℕ, ◌+◌, true, List, [], ◌∷◌, Option, Some, IfSome}
 use Rattle.machine_plan.specs.{declared.launch.Free.Free, declared.launch.Launch.Launch, declared.who.Who.Who, Plan.Plan, Plan.Keeps}
-use Rattle.machine_plan.specs.Glance.{glanced, GlancesIn}
+use Rattle.machine_plan.specs.Glance.{glance_result, GlancesIn}
 use Rattle.machine_plan.specs.Regions.{Every, Inside, Rights, rights_of, IsSafeIn}
 use Rattle.list_machine.specs.{Binner.binner_ready, Binner.binner_plan, Lists.Lists, Lists.Turned, Lists.binner_of, Lists.renderer_of}
 use Rattle.list_machine.specs.Renderer.{renderer_ready, renderer_plan}
@@ -64,9 +64,9 @@ KeepsFor rights j who P plan m = Keeps who (Inside (rights_of rights j).region) 
 -- renderer or a thread may step is seen in the job's region; a binner looks nowhere for it. A program that is started is a
 -- thread, and a finished result changes nothing.
 pub record UnitLaws (rights : List Rights) (K : List ℕ → Type 0) (f : Facts) : Type 0 where
-  pub binner : (j : ℕ) (s : Lists) (free : Free) (words m : List ℕ) → K m → f.OfJob j s → glanced (binner_ready s free) m ≡ true
+  pub binner : (j : ℕ) (s : Lists) (free : Free) (words m : List ℕ) → K m → f.OfJob j s → glance_result (binner_ready s free) m ≡ true
       → KeepsFor rights j (binner_of j) (ListsTurned f j) (binner_plan s free words) m
-  pub renderer : (j : ℕ) (s : Lists) (free : Free) (words m : List ℕ) → K m → f.OfJob j s → glanced (renderer_ready s) m ≡ true
+  pub renderer : (j : ℕ) (s : Lists) (free : Free) (words m : List ℕ) → K m → f.OfJob j s → glance_result (renderer_ready s) m ≡ true
       → KeepsFor rights j (renderer_of j) (ListsTurned f j) (renderer_plan s free words) m
   pub renderer_looks : (j : ℕ) (s : Lists) (m : List ℕ) → K m → f.OfJob j s → GlancesIn (Inside (rights_of rights j).region) (renderer_ready s) m
   pub thread : (t : Thread) (who : Who) (words m : List ℕ) → K m → f.OfThread t

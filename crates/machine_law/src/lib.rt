@@ -36,7 +36,7 @@ pub fn draws_stay()
 
 /// Where all is known of what the units keep, the machine is sound over each memory that has what jobs may only read as the first:
 /// every run is safe while others write all else, bytes outside the jobs' regions have no effect, and a step of a texture unit reads
-/// inside one Plain buffer of the job for which it steps, whatever words answer it.
+/// inside one data buffer of the job for which it steps, whatever words answer it.
 pub fn machine_sound()
     ensures { MachineSound }
 {}

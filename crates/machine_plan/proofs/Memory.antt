@@ -2,7 +2,7 @@
 use Rattle.std.proofs.Common.{◌≡◌, ◌≢◌, ◌≤◌, ◌<◌, ℕ, zero, suc, ◌+◌, inl, inr, List, [], ◌∷◌, length, slice_index, slice_set, refl, sym, ◌∙◌, ap, arith, take, drop, ◌++◌, add-one, add-zero, append_assoc}
 use Rattle.std.proofs.lemmas.{Grind.common_steps, List.get_or-set_same, List.get_or-set_other, List.length-set, List.Edits.sets-eq}
 use Rattle.field_words.specs.Writes.{with_bytes}
-use Rattle.machine_plan.specs.{Memory.bytes_at, Memory.stored, Regions.Interval, Regions.Inside, Regions.Agree}
+use Rattle.machine_plan.specs.{Memory.bytes_at, Memory.bytes_stored, Regions.Interval, Regions.Inside, Regions.Agree}
 
 -- a part of what lies inside lies inside
 pub inside_part : (rs : List Interval) (p n q k : ℕ) → Inside rs p n → p ≤ q → q + k ≤ p + n → Inside rs q k
@@ -15,8 +15,8 @@ unfolding bytes_at
 length-bytes_at m p zero = refl
 length-bytes_at m p (suc n) = ap suc (length-bytes_at m (suc p) n)
 
-pub length-stored : (m : List ℕ) (p : ℕ) (bs : List ℕ) → length (stored m p bs) ≡ length m
-unfolding stored
+pub length-stored : (m : List ℕ) (p : ℕ) (bs : List ℕ) → length (bytes_stored m p bs) ≡ length m
+unfolding bytes_stored
 length-stored m p [] = refl
 length-stored m p (b ∷ bs) = length-stored (slice_set m p b) (suc p) bs ∙ length-set m p b
 
@@ -33,9 +33,9 @@ bytes_agree rs m k agree p (suc n) h =
 pub same-set : (m k : List ℕ) (p b q : ℕ) → length m ≡ length k → slice_index m q ≡ slice_index k q → slice_index (slice_set m p b) q ≡ slice_index (slice_set k p b) q
 same-set m k p b q long same = grind (arith, common_steps, get_or-set_same, get_or-set_other)
 
--- the same write keeps the agreement, wherever it goes
-pub stored_agree : (rs : List Interval) (bs : List ℕ) (m k : List ℕ) (p : ℕ) → Agree rs m k → Agree rs (stored m p bs) (stored k p bs)
-unfolding stored
+-- one write in both keeps the agreement, wherever it goes
+pub stored_agree : (rs : List Interval) (bs : List ℕ) (m k : List ℕ) (p : ℕ) → Agree rs m k → Agree rs (bytes_stored m p bs) (bytes_stored k p bs)
+unfolding bytes_stored
 stored_agree rs [] m k p agree = agree
 stored_agree rs (b ∷ bs) m k p agree =
     stored_agree rs bs (slice_set m p b) (slice_set k p b) (suc p) (record {
@@ -44,8 +44,8 @@ stored_agree rs (b ∷ bs) m k p agree =
     })
 
 -- a write keeps each byte outside it
-pub stored_keeps : (bs : List ℕ) (m : List ℕ) (p q : ℕ) → (p ≤ q → q < p + length bs → ⊥) → slice_index (stored m p bs) q ≡ slice_index m q
-unfolding stored
+pub stored_keeps : (bs : List ℕ) (m : List ℕ) (p q : ℕ) → (p ≤ q → q < p + length bs → ⊥) → slice_index (bytes_stored m p bs) q ≡ slice_index m q
+unfolding bytes_stored
 stored_keeps [] m p q out = refl
 stored_keeps (b ∷ bs) m p q out =
     let other : q ≢ p = λ e. out (omega arith) (omega arith) in

@@ -1,7 +1,7 @@
 -- What safe accesses leave alone.
 use Rattle.std.proofs.Common.{◌≡◌, ℕ, zero, suc, inl, inr, List, [], ◌∷◌, ◌++◌, sym, subst, arith}
 use Rattle.field_words.specs.declared.access.{Access.Access, Way.TheVariants.Read}
-use Rattle.machine_plan.specs.Regions.{Interval, Inside, Every, Rights, rights_of, joined, IsIn, IsSafeAccess, IsSafeIn, IsOutside, Misses}
+use Rattle.machine_plan.specs.Regions.{Interval, Inside, Every, Rights, rights_of, regions_joined, IsIn, IsSafeAccess, IsSafeIn, IsOutside, Misses}
 use Rattle.machine_plan.specs.{declared.who.Who.Who, Plan.access}
 use Rattle.machine_plan.proofs.{Memory.inside_part, Runs.every-weaker}
 
@@ -16,10 +16,10 @@ inside-back [] qs p n lies = lies
 inside-back (r ∷ rs) qs p n lies = inr (inside-back rs qs p n lies)
 
 -- each job's region lies in the regions of all jobs
-pub joined_covers : (jobs : List Rights) (j p n : ℕ) → Inside (rights_of jobs j).region p n → Inside (joined jobs) p n
+pub joined_covers : (jobs : List Rights) (j p n : ℕ) → Inside (rights_of jobs j).region p n → Inside (regions_joined jobs) p n
 joined_covers [] j p n none = absurd none
-joined_covers (one ∷ others) zero p n lies = inside-front one.region (joined others) p n lies
-joined_covers (one ∷ others) (suc j) p n lies = inside-back one.region (joined others) p n (joined_covers others j p n lies)
+joined_covers (one ∷ others) zero p n lies = inside-front one.region (regions_joined others) p n lies
+joined_covers (one ∷ others) (suc j) p n lies = inside-back one.region (regions_joined others) p n (joined_covers others j p n lies)
 
 -- a safe access writes no byte that no job may write
 pub safe_misses : (jobs : List Rights) (p : ℕ) → IsOutside jobs p → (a : Access) → IsSafeAccess jobs a → Misses p a

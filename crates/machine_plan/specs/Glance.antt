@@ -8,9 +8,9 @@ pub data Glance (R : Type 0) : Type 0 where
   At : (place len : ℕ) → (List ℕ → Glance R) → Glance R
 
 -- what a glance at this memory comes to
-abbrev pub glanced : {R : Type 0} → Glance R → List ℕ → R
-glanced (Now r) m = r
-glanced (At place len next) m = glanced (next (bytes_at m place len)) m
+abbrev pub glance_result : {R : Type 0} → Glance R → List ℕ → R
+glance_result (Now r) m = r
+glance_result (At place len next) m = glance_result (next (bytes_at m place len)) m
 
 -- each look of a glance at this memory meets L
 abbrev pub GlancesIn : {R : Type 0} → (ℕ → ℕ → Type 0) → Glance R → List ℕ → Type 0

@@ -7,6 +7,6 @@ bytes_at memory place zero = []
 bytes_at memory place (suc n) = slice_index memory place ∷ bytes_at memory (suc place) n
 
 -- the memory after these bytes are written from a place on, byte by byte
-unfoldable pub stored : List ℕ → ℕ → List ℕ → List ℕ
-stored memory place [] = memory
-stored memory place (byte ∷ bytes) = stored (slice_set memory place byte) (suc place) bytes
+unfoldable pub bytes_stored : List ℕ → ℕ → List ℕ → List ℕ
+bytes_stored memory place [] = memory
+bytes_stored memory place (byte ∷ bytes) = bytes_stored (slice_set memory place byte) (suc place) bytes

@@ -2,8 +2,8 @@
 -- may only read. What it is for jobs to be safe among them, and to depend on nothing else.
 use Rattle.std.specs.Prelude.{◌≡◌, ℕ, Bool, IsTrue, List, [], ◌∷◌, length, slice_index}
 use Rattle.field_words.specs.declared.access.Access.{Access}
-use Rattle.machine_plan.specs.Regions.{Interval, Every, Rights, joined, IsSafeAccess, IsOutside, HasReadOnly, Agree}
-use Rattle.machine_plan.specs.{Glance.Glance, Runs.Moved, Runs.found_by, Runs.reached}
+use Rattle.machine_plan.specs.Regions.{Interval, Every, Rights, regions_joined, IsSafeAccess, IsOutside, HasReadOnly, Agree}
+use Rattle.machine_plan.specs.{Glance.Glance, Runs.Moved, Runs.found_by, Runs.state_reached}
 use Rattle.machine_plan.specs.World.{World, Turn, world_may, world_step}
 
 -- What happens next: a unit steps, or somebody else leaves this memory.
@@ -30,7 +30,7 @@ AllMayHappen ready turn jobs w (one ∷ others) = MayHappen ready jobs w one × 
 pub record OthersRun {U E : Type 0} (ready : U → E → Glance Bool) (turn : U → E → Turn U) (jobs : List Rights) (w : World U) (happenings : List (Happening E)) (found : List Access) (t : World U) : Type 0 where
   pub allowed : AllMayHappen ready turn jobs w happenings
   pub accesses : found ≡ found_by (happen turn) w happenings
-  pub last : t ≡ reached (happen turn) w happenings
+  pub last : t ≡ state_reached (happen turn) w happenings
 
 -- the others leave the byte at p alone in this run
 abbrev pub IsLeft : {U E : Type 0} → (U → E → Turn U) → ℕ → World U → List (Happening E) → Type 0
@@ -53,7 +53,7 @@ pub record SafeAmong {U E : Type 0} (ready : U → E → Glance Bool) (turn : U 
       → OthersRun ready turn jobs (record { memory = first; units = start }) happenings found t
       → IsSafeAmong turn jobs (record { memory = first; units = start }) happenings found t.memory
 
--- the same step, or changes that agree on the intervals
+-- one step in both, or changes that agree on the intervals
 abbrev pub IsAlike : {E : Type 0} → List Interval → Happening E → Happening E → Type 0
 IsAlike all (Steps event) (Steps other) = event ≡ other
 IsAlike all (Changes m) (Changes k) = Agree all m k
@@ -73,12 +73,12 @@ pub record RunsAlike {U E : Type 0} (ready : U → E → Glance Bool) (turn : U 
   pub last : World U
   pub run : OthersRun ready turn jobs (record { memory = other; units = start }) happenings found last
   pub units_alike : last.units ≡ t.units
-  pub memory_alike : Agree (joined jobs) t.memory last.memory
+  pub memory_alike : Agree (regions_joined jobs) t.memory last.memory
 
 -- Bytes outside the jobs' regions have no effect, also where others write them: over every memory of the same length that agrees on the
 -- regions, each run is done alike, with changes by others that agree there.
 pub record SameAmong {U E : Type 0} (ready : U → E → Glance Bool) (turn : U → E → Turn U) (jobs : List Rights) (first : List ℕ) (start : U) : Type 0 where
-  pub every_memory : (other : List ℕ) → Agree (joined jobs) first other
-      → (happenings others : List (Happening E)) (found : List Access) (t : World U) → AreAlike (joined jobs) happenings others
+  pub every_memory : (other : List ℕ) → Agree (regions_joined jobs) first other
+      → (happenings others : List (Happening E)) (found : List Access) (t : World U) → AreAlike (regions_joined jobs) happenings others
       → OthersRun ready turn jobs (record { memory = first; units = start }) happenings found t
       → RunsAlike ready turn jobs other start others found t

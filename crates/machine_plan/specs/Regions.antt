@@ -36,18 +36,18 @@ abbrev pub rights_of : List Rights → ℕ → Rights
 rights_of jobs j = slice_index_or jobs j (record { region = []; writable = [] })
 
 -- the regions of all jobs, joined
-abbrev pub joined : List Rights → List Interval
-joined [] = []
-joined (one ∷ others) = one.region ++ joined others
+abbrev pub regions_joined : List Rights → List Interval
+regions_joined [] = []
+regions_joined (one ∷ others) = one.region ++ regions_joined others
 
--- An access is safe where it isn't wild, lies wholly in one interval of the region of the job
+-- An access is safe where it isn't undefined, lies wholly in one interval of the region of the job
 -- that it carries, and, where it writes, in one interval of what that job may write.
 pub record IsSafeAccess (jobs : List Rights) (a : Access) : Type 0 where
   pub tame : a.way ≢ Wild
   pub inside : IsIn (rights_of jobs a.job).region a
   pub writes : a.way ≡ Write → IsIn (rights_of jobs a.job).writable a
 
--- The same of an access of one job, by what that job may reach.
+-- An access of one job is safe by what that job may reach.
 pub record IsSafeIn (one : Rights) (a : Access) : Type 0 where
   pub tame : a.way ≢ Wild
   pub inside : IsIn one.region a
@@ -66,7 +66,7 @@ pub record IsKept (jobs : List Rights) (before after : List ℕ) : Type 0 where
 -- All other bytes may differ.
 pub record HasReadOnly (jobs : List Rights) (first m : List ℕ) : Type 0 where
   pub long : length m ≡ length first
-  pub same : (p : ℕ) → Inside (joined jobs) p 1 → IsOutside jobs p → slice_index m p ≡ slice_index first p
+  pub same : (p : ℕ) → Inside (regions_joined jobs) p 1 → IsOutside jobs p → slice_index m p ≡ slice_index first p
 
 -- two memories of one length that agree on the bytes of the intervals
 pub record Agree (intervals : List Interval) (m k : List ℕ) : Type 0 where

@@ -18,13 +18,13 @@ found_by step s [] = []
 found_by step s (event ∷ events) = (step s event).accesses ++ found_by step (step s event).state events
 
 -- the state after all steps
-abbrev pub reached : {S E : Type 0} → (S → E → Moved S) → S → List E → S
-reached step s [] = s
-reached step s (event ∷ events) = reached step (step s event).state events
+abbrev pub state_reached : {S E : Type 0} → (S → E → Moved S) → S → List E → S
+state_reached step s [] = s
+state_reached step s (event ∷ events) = state_reached step (step s event).state events
 
 -- A run from s over these events gives these accesses and ends in t. An event whose unit may not
 -- step has no run.
 pub record Run {S E : Type 0} (can : S → E → Bool) (step : S → E → Moved S) (s : S) (events : List E) (found : List Access) (t : S) : Type 0 where
   pub allowed : Allowed can step s events
   pub accesses : found ≡ found_by step s events
-  pub last : t ≡ reached step s events
+  pub last : t ≡ state_reached step s events

@@ -3,25 +3,25 @@
 -- said here once, and what the units owe for it.
 use Rattle.std.specs.Prelude.{◌≡◌, ℕ, Bool, IsTrue, List, unwrap_or}
 use Rattle.field_words.specs.declared.access.Access.{Access}
-use Rattle.machine_plan.specs.Plan.{Plan, Done, Wilds, Reads, Looks, Writes, Outcome, carried, Keeps}
+use Rattle.machine_plan.specs.Plan.{Plan, Done, Wilds, Reads, Looks, Writes, Outcome, outcome_of, Keeps}
 use Rattle.machine_plan.specs.Regions.{Interval, Inside, Every, Rights, rights_of, IsSafeAccess, IsKept, HasReadOnly, Agree}
-use Rattle.machine_plan.specs.{declared.who.Who.Who, Glance.Glance, Glance.glanced, Glance.GlancesIn, Runs.Moved, Runs.Run}
+use Rattle.machine_plan.specs.{declared.who.Who.Who, Glance.Glance, Glance.glance_result, Glance.GlancesIn, Runs.Moved, Runs.Run}
 
 -- the plan with its result handed on
-abbrev pub mapped : {R T : Type 0} → (R → T) → Plan R → Plan T
-mapped put (Done r) = Done (put r)
-mapped put Wilds = Wilds
-mapped put (Reads place len next) = Reads place len (λ bytes. mapped put (next bytes))
-mapped put (Looks place len next) = Looks place len (λ bytes. mapped put (next bytes))
-mapped put (Writes place bytes next) = Writes place bytes (mapped put next)
+abbrev pub plan_mapped : {R T : Type 0} → (R → T) → Plan R → Plan T
+plan_mapped put (Done r) = Done (put r)
+plan_mapped put Wilds = Wilds
+plan_mapped put (Reads place len next) = Reads place len (λ bytes. plan_mapped put (next bytes))
+plan_mapped put (Looks place len next) = Looks place len (λ bytes. plan_mapped put (next bytes))
+plan_mapped put (Writes place bytes next) = Writes place bytes (plan_mapped put next)
 
 -- the plan and then the one that goes by its result
-abbrev pub followed : {R T : Type 0} → Plan R → (R → Plan T) → Plan T
-followed (Done r) further = further r
-followed Wilds further = Wilds
-followed (Reads place len next) further = Reads place len (λ bytes. followed (next bytes) further)
-followed (Looks place len next) further = Looks place len (λ bytes. followed (next bytes) further)
-followed (Writes place bytes next) further = Writes place bytes (followed next further)
+abbrev pub plan_followed : {R T : Type 0} → Plan R → (R → Plan T) → Plan T
+plan_followed (Done r) further = further r
+plan_followed Wilds further = Wilds
+plan_followed (Reads place len next) further = Reads place len (λ bytes. plan_followed (next bytes) further)
+plan_followed (Looks place len next) further = Looks place len (λ bytes. plan_followed (next bytes) further)
+plan_followed (Writes place bytes next) further = Writes place bytes (plan_followed next further)
 
 -- memory, and all else that the machine keeps
 pub record World (U : Type 0) : Type 0 where
@@ -29,7 +29,7 @@ pub record World (U : Type 0) : Type 0 where
   pub units : U
 
 -- what a unit would do: for whom, its plan, which comes to what all units keep then, and what they
--- keep where the step is wild
+-- keep where the step is undefined
 pub record Turn (U : Type 0) : Type 0 where
   pub who : Who
   pub plan : Plan U
@@ -37,19 +37,19 @@ pub record Turn (U : Type 0) : Type 0 where
 
 -- an event may happen where its glance at the memory says so
 abbrev pub world_may : {U E : Type 0} → (U → E → Glance Bool) → World U → E → Bool
-world_may ready w e = glanced (ready w.units e) w.memory
+world_may ready w e = glance_result (ready w.units e) w.memory
 
 -- what a turn has done whose plan had this outcome
-abbrev pub settled : {U : Type 0} → U → Outcome U → Moved (World U)
-settled wild o = record { accesses = o.accesses; state = record { memory = o.memory; units = unwrap_or o.result wild } }
+abbrev pub outcome_settled : {U : Type 0} → U → Outcome U → Moved (World U)
+outcome_settled wild o = record { accesses = o.accesses; state = record { memory = o.memory; units = unwrap_or o.result wild } }
 
 -- the turn taken
-abbrev pub turned : {U : Type 0} → World U → Turn U → Moved (World U)
-turned w t = settled t.wild (carried t.who t.plan w.memory)
+abbrev pub world_turned : {U : Type 0} → World U → Turn U → Moved (World U)
+world_turned w t = outcome_settled t.wild (outcome_of t.who t.plan w.memory)
 
 -- the step of an event
 abbrev pub world_step : {U E : Type 0} → (U → E → Turn U) → World U → E → Moved (World U)
-world_step turn w e = turned w (turn w.units e)
+world_step turn w e = world_turned w (turn w.units e)
 
 -- what a step leaves: its accesses in order, and the next state
 pub record Moves {U : Type 0} (moved : Moved (World U)) (accesses : List Access) (w : World U) : Type 0 where
@@ -91,5 +91,5 @@ pub record Same {U E : Type 0} (ready : U → E → Glance Bool) (turn : U → E
 -- does safe accesses alone, and comes to what is kept again.
 pub record Owes {U E : Type 0} (ready : U → E → Glance Bool) (turn : U → E → Turn U) (jobs : List Rights) (first : List ℕ) (I : U → Type 0) : Type 0 where
   pub looks : (u : U) (m : List ℕ) (e : E) → I u → HasReadOnly jobs first m → GlancesIn (Inside (rights_of jobs (turn u e).who.job).region) (ready u e) m
-  pub keeps : (u : U) (m : List ℕ) (e : E) → I u → HasReadOnly jobs first m → IsTrue (glanced (ready u e) m)
+  pub keeps : (u : U) (m : List ℕ) (e : E) → I u → HasReadOnly jobs first m → IsTrue (glance_result (ready u e) m)
       → Keeps (turn u e).who (Inside (rights_of jobs (turn u e).who.job).region) (IsSafeAccess jobs) (λ k next. I next) (turn u e).plan m

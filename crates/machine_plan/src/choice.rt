@@ -1,4 +1,4 @@
-//! Choice words, each told when a step asks for it.
+//! Choice words, each given when a step asks for it.
 ghost use Rattle.std.specs.Prelude.{◌≡◌, ℕ, List};
 ghost use Rattle.machine_plan.specs.Choice.{word_at};
 

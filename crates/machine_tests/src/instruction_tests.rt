@@ -60,7 +60,7 @@ fn worked(threaded: bool, before: [u64; 3]) -> Thread {
     thread
 }
 
-// One step, and the places and lengths of what it read; none where it is wild.
+// One step, and the places and lengths of what it read; none where it is undefined.
 fn step(thread: &mut Thread, memory: &PhysMem, words: &[u32]) -> (Option<Leaves>, [(u64, u32); 2]) {
     let who = Who {
         unit: Actor::Qpu(0),
@@ -132,7 +132,7 @@ const WILD: [(u64, [u64; 3], bool); 39] = [
     (0x1002_0e67_159e_7240, [POINT, NOTHING, NOTHING], false),
 ];
 
-// Each of them is read, no uniform is, and the step is wild.
+// Each of them is read, no uniform is, and the step is undefined.
 #[test]
 fn undefined_instructions(rt: HostRuntime) -> Result<(), NoMemory> {
     for (word, before, threaded) in WILD {

@@ -70,7 +70,7 @@ fn word_at(machine: &Machine, place: u32) -> u32 {
 }
 
 // 7 is no packet of a renderer list, a packet of three bytes in a list of one is read whole, and a branch before the tile lists are
-// closed is wild.
+// closed is undefined.
 #[test]
 fn ends_of_a_renderer_list(rt: HostRuntime) -> Result<(), NoMemory> {
     let lists: [(&[u8], u32, &[(Way, u64, u32)]); 3] = [
@@ -90,7 +90,7 @@ fn ends_of_a_renderer_list(rt: HostRuntime) -> Result<(), NoMemory> {
 }
 
 // Bits that name no buffer: a load waits, and is done without an access, before any frame is set; a store does nothing either. Another
-// load is wild where one waits.
+// load is undefined where one waits.
 #[test]
 fn names_no_buffer(rt: HostRuntime) -> Result<(), NoMemory> {
     let list = [
@@ -117,7 +117,7 @@ fn names_no_buffer(rt: HostRuntime) -> Result<(), NoMemory> {
 
 // Tile (1, 0) of a frame of 70x10 pixels has six pixels in a row: two microtiles of 4x4, in three rows. The frame is stored in T, then
 // in Lt at an address whose low four bits don't count; a load in T waits and is done where its tile is named. A load by bits that name
-// no tiling is wild only there.
+// no tiling is undefined only there.
 #[test]
 fn edge_of_a_frame(rt: HostRuntime) -> Result<(), NoMemory> {
     let list = [
@@ -305,7 +305,7 @@ fn started(code: u64) -> [(Way, u64, u32); 3]
     ]
 }
 
-// 17 is wild where the lists aren't closed, and at an address that is no tile's.
+// 17 is undefined where the lists aren't closed, and at an address that is no tile's.
 #[test]
 fn no_tile_list(rt: HostRuntime) -> Result<(), NoMemory> {
     let mut closes = [0; 18];
@@ -387,7 +387,7 @@ fn fetches_and_puts(rt: HostRuntime) -> Result<(), NoMemory> {
     Ok(())
 }
 
-// A primitive before binning is started is read and then wild, and the binner's work ends.
+// A primitive before binning is started is read and then undefined, and the binner's work ends.
 #[test]
 fn wild_step_ends_the_list(rt: HostRuntime) -> Result<(), NoMemory> {
     let list = [33, 4, 3, 0, 0, 0, 0, 0, 0, 0, 7, 4];
@@ -562,7 +562,7 @@ fn jobs_share_a_processor(rt: HostRuntime) -> Result<(), NoMemory> {
     Ok(())
 }
 
-// A uniform right after an instruction that sets their address is wild, and ends the thread.
+// A uniform right after an instruction that sets their address is undefined, and ends the thread.
 #[test]
 fn uniform_after_an_address_is_wild(rt: HostRuntime) -> Result<(), NoMemory> {
     let code = [LOAD, POINT, TAKE, NOTHING];
@@ -583,7 +583,7 @@ fn uniform_after_an_address_is_wild(rt: HostRuntime) -> Result<(), NoMemory> {
     Ok(())
 }
 
-// Packets of a binner list that do nothing by themselves, each with its length; those that there aren't are read and then wild, and so are
+// Packets of a binner list that do nothing by themselves, each with its length; those that there aren't are read and then undefined, and so are
 // draws before binning is started and the start without a config. A packet that goes past the list's end is read whole.
 #[test]
 fn packets_of_a_binner_list(rt: HostRuntime) -> Result<(), NoMemory> {
@@ -635,7 +635,7 @@ fn drawing(alloc: Global, at: usize, byte: u8) -> Result<Machine, NoMemory> {
 }
 
 // A state word whose low bits are zero has eight attributes. A program is due behind each sixteenth vertex. A primitive before the state word is
-// wild. The binner waits where a further block would lie outside of the allocation.
+// undefined. The binner waits where a further block would lie outside of the allocation.
 #[test]
 fn primitives_in_work(rt: HostRuntime) -> Result<(), NoMemory> {
     let mut machine = drawing(rt.alloc(), 18, 0)?;
@@ -660,7 +660,7 @@ fn primitives_in_work(rt: HostRuntime) -> Result<(), NoMemory> {
 }
 
 // A load of a row of nine pixels at 0x3e0, by its bits: of colour with four bytes each, and in formats 1 and 2 with two; of depth; of no buffer; and
-// by bits that name no tiling, no buffer and no format. Without a frame it is wild too.
+// by bits that name no tiling, no buffer and no format. Without a frame it is undefined too.
 #[test]
 fn loads_by_bits(rt: HostRuntime) -> Result<(), NoMemory> {
     for (first, second, size) in [

@@ -154,7 +154,7 @@ fn ends_in_slots(rt: HostRuntime) -> Result<(), NoMemory> {
     Ok(())
 }
 
-// A switch in a branch's slots is wild, and so is a branch in a switch's, each with two accesses. A switch alone acts after two
+// A switch in a branch's slots is undefined, and so is a branch in a switch's, each with two accesses. A switch alone acts after two
 // more instructions, and leaves a fresh thread.
 #[test]
 fn switches(rt: HostRuntime) -> Result<(), NoMemory> {
@@ -224,8 +224,8 @@ fn serves_a_cube(rt: HostRuntime) -> Result<(), NoMemory> {
     Ok(())
 }
 
-// Below the base of a cube at 0 there is no place for level 1 of face 0: that read is wild, behind the one before it. And a
-// cube without a stride is wild at once.
+// Below the base of a cube at 0 there is no place for level 1 of face 0: that read is undefined, behind the one before it. And a
+// cube without a stride is undefined at once.
 #[test]
 fn texture_below_its_base(rt: HostRuntime) -> Result<(), NoMemory> {
     let memory = memory_with(rt.alloc(), &[])?;

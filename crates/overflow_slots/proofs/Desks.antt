@@ -253,9 +253,9 @@ overflow_2 r desk job low none agrees =
 
 full_or_not : (free : Option ℕ) (helds : List Held) (newest used : ℕ) (room : Bool) → IsNewest helds newest used → (newest ≡ 0 → ⊥) → has_room used ≡ room
     → run.overflow_answer_of free helds ≡ (if room then Err 5 else slot_answer free)
-full_or_not free [] newest used room is some told = absurd (some is)
-full_or_not free (one ∷ others) newest used room is some told =
-    let here : has_room one.used ≡ room = ap has_room (sym is.1) ∙ told in
+full_or_not free [] newest used room is some report = absurd (some is)
+full_or_not free (one ∷ others) newest used room is some report =
+    let here : has_room one.used ≡ room = ap has_room (sym is.1) ∙ report in
     rw here refl
 
 pub overflow_5 : (r : Run) (desk : Desk) (job : ℕ) → job < 32 → (slice_index desk.newest job ≡ 0 → ⊥) → has_room (slice_index desk.used job) ≡ true

@@ -92,8 +92,8 @@ with run job held blocks = record {
   blocks = λ other. if other == job then blocks else run.blocks other;
 }
 
-abbrev pub ended : Run → ℕ → Run
-ended run job = with run job [] []
+abbrev pub after_end : Run → ℕ → Run
+after_end run job = with run job [] []
 
 abbrev pub end_answer_of : ℕ → List Held → Result ℕ ℕ
 end_answer_of count [] = Err 2
@@ -101,7 +101,7 @@ end_answer_of count (one ∷ others) = Ok count
 
 -- 2
 unfoldable pub end_answer : Run → ℕ → Result ℕ ℕ
-end_answer run job = end_answer_of (free_count (ended run job)) (run.held job)
+end_answer run job = end_answer_of (free_count (after_end run job)) (run.held job)
 
 -- a block was given of the newest slot
 abbrev pub with_block : Run → ℕ → List Held → Result Block ℕ → Run
@@ -117,7 +117,7 @@ with_slot run job front others blocks (Ok slot) = with run job (record { slot = 
 
 abbrev pub with_end : Run → ℕ → Result ℕ ℕ → Run
 with_end run job (Err refusal) = run
-with_end run job (Ok count) = ended run job
+with_end run job (Ok count) = after_end run job
 
 -- what a call leaves: a refusal changes nothing
 unfoldable pub after : Run → Call → Run

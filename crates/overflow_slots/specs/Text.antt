@@ -24,7 +24,7 @@ line_of run (Take job) = block_line (take_answer run job)
 line_of run (Overflow job) = number_line (codes "slot") (overflow_answer run job)
 line_of run (End job) = number_line (codes "free") (end_answer run job)
 
--- the same for a line, which may be no call
+-- the line that answers a line, which may be no call
 abbrev pub call_reply : Run → Option Call → List ℕ
 call_reply run None = []
 call_reply run (Some call) = line_of run call

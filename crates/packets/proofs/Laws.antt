@@ -3,11 +3,11 @@ use Rattle.std.proofs.Common.{◌≡◌, length, get_or, Some, refl, ap, ◌∙�
 use Rattle.std.proofs.lemmas.Nat.{from_le_bytes-to_le_bytes_2, from_le_bytes-to_le_bytes_4}
 use Rattle.field_words.specs.Words.{u16_at, u32_at}
 use Rattle.packets.specs.declared.packet.Packet.TheVariants.{WaitOnSemaphore, BranchToSubList, StoreTileColor, StoreTileColorAndEnd, StoreFullResolution, LoadFullResolution, StoreTileBuffer, LoadTileBuffer, TileRenderingMode, ClearColors, TileCoordinates}
-use Rattle.packets.specs.{declared.packet.Packet.Packet, Packet.packet_text, Packet.decoded, Packet.Fits, Length.render_taken}
+use Rattle.packets.specs.{declared.packet.Packet.Packet, Packet.packet_text, Packet.packet_decoded, Packet.Fits, Length.render_taken}
 
 -- a number that stands behind the opcode, behind more, or alone
-pub decoded_text : (packet : Packet) → Fits packet → decoded (packet_text packet) ≡ Some packet
-unfolding decoded packet_text u16_at u32_at
+pub decoded_text : (packet : Packet) → Fits packet → packet_decoded (packet_text packet) ≡ Some packet
+unfolding packet_decoded packet_text u16_at u32_at
 decoded_text WaitOnSemaphore fits = refl
 decoded_text (BranchToSubList address) fits = ap (λ a. Some (BranchToSubList a)) (from_le_bytes-to_le_bytes_4 address fits)
 decoded_text StoreTileColor fits = refl

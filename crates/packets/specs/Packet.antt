@@ -50,8 +50,8 @@ packet_named o bytes =
     else None))))))))))
 
 -- The packet that the bytes are, by the first of them. Bytes past the end count as zero.
-unfoldable pub decoded : List ℕ → Option Packet
-decoded bytes = packet_named (slice_index bytes 0) bytes
+unfoldable pub packet_decoded : List ℕ → Option Packet
+packet_decoded bytes = packet_named (slice_index bytes 0) bytes
 
 -- the texts of the packets that are there, one after the other
 abbrev pub slots_text : List (Option Packet) → List ℕ

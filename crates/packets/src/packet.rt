@@ -3,7 +3,7 @@ ghost use Rattle.std.specs.Prelude.{◌≡◌, ◌≤◌, length, slice_index};
 ghost use Rattle.field_words.specs.Words.{u32_at};
 ghost use Rattle.packets.specs.Length.{render_taken};
 ghost use Rattle.packets.specs.declared.packet.Packet.{Packet};
-ghost use Rattle.packets.specs.Packet.{decoded, packet_text, Fits};
+ghost use Rattle.packets.specs.Packet.{packet_decoded, packet_text, Fits};
 
 use crate::opcode::{
     BRANCH_TO_SUB_LIST, CLEAR_COLORS, LOAD_FULL_RESOLUTION, LOAD_TILE_BUFFER,
@@ -63,10 +63,10 @@ fn word_behind(bytes: &[u8]) -> u32
 }
 
 /// The packet of these bytes, by its opcode.
-#[tactic(auto, unfolding(crate::specs::Packet::decoded, crate::specs::Length::render_taken, field_words::specs::Words::u16_at, field_words::specs::Words::u32_at))]
+#[tactic(auto, unfolding(crate::specs::Packet::packet_decoded, crate::specs::Length::render_taken, field_words::specs::Words::u16_at, field_words::specs::Words::u32_at))]
 fn packet_of(bytes: &[u8]) -> Option<Packet>
     requires { length bytes.now ≡ render_taken (slice_index bytes.now 0) }
-    ensures { result ≡ decoded bytes.now }
+    ensures { result ≡ packet_decoded bytes.now }
 {
     let opcode = bytes[0];
     match opcode {
@@ -114,7 +114,7 @@ fn packet_of(bytes: &[u8]) -> Option<Packet>
 /// packet of a renderer list has this opcode. What `put_packet` puts is read as the same packet.
 pub fn decode(bytes: &[u8]) -> Option<Packet>
     requires { length bytes.now ≡ render_taken (slice_index bytes.now 0) }
-    ensures value { result ≡ decoded bytes.now }
+    ensures value { result ≡ packet_decoded bytes.now }
     ensures again { (packet : Packet) → Fits packet → bytes.now ≡ packet_text packet
         → result ≡ Some packet }
 {

@@ -26,11 +26,11 @@ deed_val = vstruct (vcons mark vnil)
 abbrev pub deed_fields : List Val → Fml
 deed_fields = One.own_val (tt, tt)
 
-pub mark_told : (vs : List Val) → shadow (Empty.own_val tt vs) → vs ≡ mark ∷ []
-mark_told vs s = s.1.0
+pub mark_reported : (vs : List Val) → shadow (Empty.own_val tt vs) → vs ≡ mark ∷ []
+mark_reported vs s = s.1.0
 
-pub deed_told : (vs : List Val) → shadow (deed_fields vs) → vs ≡ deed_val ∷ []
-deed_told vs s = s.1.0 ∙ ap (λ us. vstruct (of_list (us ++ [])) ∷ []) s.1.1.0.1.0
+pub deed_reported : (vs : List Val) → shadow (deed_fields vs) → vs ≡ deed_val ∷ []
+deed_reported vs s = s.1.0 ∙ ap (λ us. vstruct (of_list (us ++ [])) ∷ []) s.1.1.0.1.0
 
 module _ {M : Type 1} {𝓤 : Ura M} (𝓛 : Logic 𝓤) where
   -- a struct without fields is made of nothing

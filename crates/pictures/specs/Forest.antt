@@ -21,23 +21,23 @@ escape byte =
     else (if byte == 62 then codes "&gt;"
     else (if byte == 34 then codes "&quot;" else byte ∷ [])))
 
-unfoldable pub escaped : List ℕ → List ℕ
-escaped words = flat_map escape words
+unfoldable pub words_escaped : List ℕ → List ℕ
+words_escaped words = flat_map escape words
 
 -- attributes whose values are words and numbers
-abbrev pub worded : List ℕ → List ℕ → Attribute
-worded name value = record { name = name; value = value }
+abbrev pub word_attribute : List ℕ → List ℕ → Attribute
+word_attribute name value = record { name = name; value = value }
 
-abbrev pub numbered : List ℕ → ℕ → Attribute
-numbered name number = record { name = name; value = decimal number }
+abbrev pub number_attribute : List ℕ → ℕ → Attribute
+number_attribute name number = record { name = name; value = decimal number }
 
 unfoldable pub attribute_text : Attribute → List ℕ
-attribute_text attribute = codes " " ++ (attribute.name ++ (codes "=\"" ++ (escaped attribute.value ++ codes "\"")))
+attribute_text attribute = codes " " ++ (attribute.name ++ (codes "=\"" ++ (words_escaped attribute.value ++ codes "\"")))
 
 -- An element stands between its name with its attributes and its name again, and each ends a line.
 abbrev pub forest_text : Forest → List ℕ
 forest_text Nothing = []
-forest_text (Words words) = escaped words
+forest_text (Words words) = words_escaped words
 forest_text (Leaf name attributes) = codes "<" ++ (name ++ (flat_map attribute_text attributes ++ codes "/>\n"))
 forest_text (Element name attributes inside) =
     codes "<" ++ (name ++ (flat_map attribute_text attributes ++ (codes ">" ++ (forest_text inside ++ (codes "</" ++ (name ++ codes ">\n"))))))

@@ -1,6 +1,6 @@
 -- The heat: a strip of boxes for reads and one for writes, which shows how many accesses touch each box; over the memory's strip, paled.
 use Rattle.std.specs.Prelude.{ℕ, ◌+◌, ◌-◌, ◌*◌, ◌/◌, ◌%◌, ◌^◌, ◌==◌, min, List, [], ◌∷◌, ◌++◌, length, slice_index_or, codes, if◌then◌else◌, decimal}
-use Rattle.pictures.specs.{Forest.Forest, Forest.Nothing, Forest.Leaf, Forest.Beside, Forest.worded, Forest.numbered, Parts.rect, Parts.label, Parts.each}
+use Rattle.pictures.specs.{Forest.Forest, Forest.Nothing, Forest.Leaf, Forest.Beside, Forest.word_attribute, Forest.number_attribute, Parts.rect, Parts.label, Parts.each}
 
 -- the row of the drawing at which the two strips begin
 abbrev pub heat_top : ℕ
@@ -21,7 +21,7 @@ heat_at class x counts n = heat_part class x n (slice_index_or counts n 0)
 -- the memory's strip once more, paled
 unfoldable pub ground : (x : ℕ) → Forest
 ground x = Leaf (codes "use")
-    (worded (codes "href") (codes "#strip") ∷ numbered (codes "x") (x - 96) ∷ numbered (codes "y") (heat_top - 72) ∷ worded (codes "class") (codes "pale") ∷ [])
+    (word_attribute (codes "href") (codes "#strip") ∷ number_attribute (codes "x") (x - 96) ∷ number_attribute (codes "y") (heat_top - 72) ∷ word_attribute (codes "class") (codes "pale") ∷ [])
 
 -- a strip with its title
 unfoldable pub heat_strip : (class title : List ℕ) → (x : ℕ) → (counts : List ℕ) → Forest

@@ -2,7 +2,7 @@
 use Rattle.std.specs.Prelude.{ℕ, ◌+◌, ◌-◌, ◌*◌, ◌/◌, ◌%◌, min, nat_lt, List, [], ◌∷◌, ◌++◌, length, codes, if◌then◌else◌, decimal}
 use Rattle.buffer_table.specs.{declared.buffer.Buffer.Buffer, declared.buffer.Kind.Kind, declared.buffer.Regions.Regions, Table.buffer_at}
 use Rattle.buffer_table.specs.declared.buffer.Kind.TheVariants.{Plain, Code}
-use Rattle.pictures.specs.{Forest.Forest, Forest.Nothing, Forest.Element, Forest.Beside, Forest.worded, Grid.box_size, Grid.box_count, Grid.shade_of, Grid.shade_in, Grid.class_of}
+use Rattle.pictures.specs.{Forest.Forest, Forest.Nothing, Forest.Element, Forest.Beside, Forest.word_attribute, Grid.box_size, Grid.box_count, Grid.shade_of, Grid.shade_in, Grid.class_of}
 use Rattle.pictures.specs.Parts.{rect, label, hex, each, drawing}
 
 -- the box of this number
@@ -13,7 +13,7 @@ box_part memory regions buffers n =
 
 unfoldable pub strip : (memory : ℕ) → Regions → List Buffer → Forest
 strip memory regions buffers =
-    Element (codes "g") (worded (codes "id") (codes "strip") ∷ []) (each (box_part memory regions buffers) (box_count memory))
+    Element (codes "g") (word_attribute (codes "id") (codes "strip") ∷ []) (each (box_part memory regions buffers) (box_count memory))
 
 -- at every fourth row of a strip that begins at y, the place of its first byte
 unfoldable pub place_part : (y memory : ℕ) → ℕ → Forest

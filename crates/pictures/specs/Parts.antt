@@ -1,16 +1,16 @@
 -- Parts of a drawing.
 use Rattle.std.specs.Prelude.{ℕ, zero, suc, false, List, [], ◌∷◌, ◌++◌, codes, flat_map}
 use Rattle.std.specs.Fmt.{decimal, digits}
-use Rattle.pictures.specs.Forest.{Forest, Attribute, Nothing, Words, Leaf, Element, Beside, worded, numbered, attribute_text, forest_text}
+use Rattle.pictures.specs.Forest.{Forest, Attribute, Nothing, Words, Leaf, Element, Beside, word_attribute, number_attribute, attribute_text, forest_text}
 use Rattle.pictures.specs.declared.parts.TheConstants.{STYLE, NAMESPACE}
 
 abbrev pub rect : (x y width height : ℕ) → (class : List ℕ) → Forest
 rect x y width height class = Leaf (codes "rect")
-    (numbered (codes "x") x ∷ numbered (codes "y") y ∷ numbered (codes "width") width ∷ numbered (codes "height") height
-    ∷ worded (codes "class") class ∷ [])
+    (number_attribute (codes "x") x ∷ number_attribute (codes "y") y ∷ number_attribute (codes "width") width ∷ number_attribute (codes "height") height
+    ∷ word_attribute (codes "class") class ∷ [])
 
 abbrev pub label : (x y : ℕ) → (class words : List ℕ) → Forest
-label x y class words = Element (codes "text") (numbered (codes "x") x ∷ numbered (codes "y") y ∷ worded (codes "class") class ∷ []) (Words words)
+label x y class words = Element (codes "text") (number_attribute (codes "x") x ∷ number_attribute (codes "y") y ∷ word_attribute (codes "class") class ∷ []) (Words words)
 
 unfoldable pub hex : ℕ → List ℕ
 hex number = codes "0x" ++ digits 16 false number
@@ -21,22 +21,22 @@ each part zero = Nothing
 each part (suc n) = Beside (each part n) (part n)
 
 -- an element with words in it alone
-abbrev pub told : (name words : List ℕ) → Forest
-told name words = Element name [] (Words words)
+abbrev pub word_element : (name words : List ℕ) → Forest
+word_element name words = Element name [] (Words words)
 
 abbrev pub root_attributes : (height : ℕ) → List Attribute
 root_attributes height =
-    worded (codes "xmlns") NAMESPACE.now ∷ numbered (codes "width") 960 ∷ numbered (codes "height") height
-    ∷ worded (codes "viewBox") (codes "0 0 960 " ++ decimal height) ∷ []
+    word_attribute (codes "xmlns") NAMESPACE.now ∷ number_attribute (codes "width") 960 ∷ number_attribute (codes "height") height
+    ∷ word_attribute (codes "viewBox") (codes "0 0 960 " ++ decimal height) ∷ []
 
 -- A drawing of 960 columns and so many rows, with its title, on paper of its own.
 abbrev pub drawing : (height : ℕ) → (title : List ℕ) → Forest → Forest
 drawing height title inside =
     Element (codes "svg") (root_attributes height)
-    (Beside (told (codes "title") title) (Beside (told (codes "style") STYLE.now) (Beside (rect 0 0 960 height (codes "paper")) inside)))
+    (Beside (word_element (codes "title") title) (Beside (word_element (codes "style") STYLE.now) (Beside (rect 0 0 960 height (codes "paper")) inside)))
 
 -- what stands before what is in a drawing
 abbrev pub opening : (height : ℕ) → (title : List ℕ) → List ℕ
 opening height title =
-    codes "<" ++ (codes "svg" ++ (flat_map attribute_text (root_attributes height) ++ (codes ">" ++ (forest_text (told (codes "title") title)
-    ++ (forest_text (told (codes "style") STYLE.now) ++ forest_text (rect 0 0 960 height (codes "paper")))))))
+    codes "<" ++ (codes "svg" ++ (flat_map attribute_text (root_attributes height) ++ (codes ">" ++ (forest_text (word_element (codes "title") title)
+    ++ (forest_text (word_element (codes "style") STYLE.now) ++ forest_text (rect 0 0 960 height (codes "paper")))))))

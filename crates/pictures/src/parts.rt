@@ -2,7 +2,7 @@
 ghost use Rattle.std.specs.Prelude.{◌≡◌, ◌++◌, [], codes, flat_map, OnOk, IfOk};
 ghost use Rattle.std.specs.Fmt.{decimal};
 ghost use Rattle.pictures.specs.Forest.{forest_text, attribute_text};
-ghost use Rattle.pictures.specs.Parts.{rect, label, hex, told, root_attributes, opening};
+ghost use Rattle.pictures.specs.Parts.{rect, label, hex, word_element, root_attributes, opening};
 ghost use Rattle.pictures.specs.Grid.{class_of};
 
 use crate::grid::Shade;
@@ -104,8 +104,9 @@ pub(crate) fn hex(alloc: Global, number: u64) -> Result<Vec<u8>, AllocError>
 }
 
 // An element without attributes that has words in it.
-fn push_told(out: &mut Vec<u8>, name: &str, words: &str) -> Drawn
-    ensures { OnOk result (out.new.items ≡ out.old.items ++ forest_text (told name.now words.now)) }
+fn push_word_element(out: &mut Vec<u8>, name: &str, words: &str) -> Drawn
+    ensures { OnOk result (out.new.items ≡ out.old.items
+        ++ forest_text (word_element name.now words.now)) }
 {
     begin(out, name)?;
     end_tag(out)?;
@@ -132,8 +133,8 @@ pub fn begin_drawing(alloc: Global, out: &mut Vec<u8>, height: u64, title: &str)
     begin(out, "svg")?;
     push_root(alloc, out, height)?;
     end_tag(out)?;
-    push_told(out, "title", title)?;
-    push_told(out, "style", STYLE)?;
+    push_word_element(out, "title", title)?;
+    push_word_element(out, "style", STYLE)?;
     push_rect(out, 0, 0, 960, height, "paper")
 }
 

@@ -3,7 +3,7 @@
 
 ghost use Rattle.std.specs.Prelude.{◌≡◌, ◌++◌, codes, OnOk, string_bytes};
 ghost use Rattle.std.specs.Fmt.{decimal};
-ghost use Rattle.pictures.specs.Forest.{escape, escaped, worded, numbered, attribute_text};
+ghost use Rattle.pictures.specs.Forest.{escape, words_escaped, word_attribute, number_attribute, attribute_text};
 
 use itoa::Buffer;
 use std::alloc::AllocError;
@@ -25,9 +25,9 @@ fn push_escape(out: &mut Vec<u8>, byte: u8) -> Drawn
 }
 
 /// Appends words, with escapes.
-#[tactic(auto, unfolding(crate::specs::Forest::escaped))]
+#[tactic(auto, unfolding(crate::specs::Forest::words_escaped))]
 pub fn push_words(out: &mut Vec<u8>, words: &[u8]) -> Drawn
-    ensures { OnOk result (out.new.items ≡ out.old.items ++ escaped words.now) }
+    ensures { OnOk result (out.new.items ≡ out.old.items ++ words_escaped words.now) }
 {
     for byte in words {
         push_escape(out, *byte)?;
@@ -37,7 +37,7 @@ pub fn push_words(out: &mut Vec<u8>, words: &[u8]) -> Drawn
 
 /// Appends a number as words.
 pub fn push_number(out: &mut Vec<u8>, number: u64) -> Drawn
-    ensures { OnOk result (out.new.items ≡ out.old.items ++ escaped (decimal number)) }
+    ensures { OnOk result (out.new.items ≡ out.old.items ++ words_escaped (decimal number)) }
 {
     let mut buffer = Buffer::new();
     push_words(out, buffer.format(number).as_bytes())
@@ -55,7 +55,7 @@ pub fn begin(out: &mut Vec<u8>, name: &str) -> Drawn
 #[tactic(auto, unfolding(crate::specs::Forest::attribute_text))]
 pub fn worded(out: &mut Vec<u8>, name: &str, value: &str) -> Drawn
     ensures { OnOk result (out.new.items ≡ out.old.items
-        ++ attribute_text (worded name.now value.now)) }
+        ++ attribute_text (word_attribute name.now value.now)) }
 {
     out.extend_from_slice(b" ")?;
     out.extend_from_slice(name.as_bytes())?;
@@ -68,7 +68,7 @@ pub fn worded(out: &mut Vec<u8>, name: &str, value: &str) -> Drawn
 #[tactic(auto, unfolding(crate::specs::Forest::attribute_text))]
 pub fn numbered(out: &mut Vec<u8>, name: &str, number: u64) -> Drawn
     ensures { OnOk result (out.new.items ≡ out.old.items
-        ++ attribute_text (numbered name.now number)) }
+        ++ attribute_text (number_attribute name.now number)) }
 {
     out.extend_from_slice(b" ")?;
     out.extend_from_slice(name.as_bytes())?;

@@ -61,7 +61,7 @@ fn the_most_buffers(rt: HostRuntime) -> Result<(), Fail> {
     Ok(())
 }
 
-/// The first rule that stands of a memory below 0xFF000000, with the lists' region above its buffers, of which so many others come before
+/// The first broken rule of a memory below 0xFF000000, with the lists' region above its buffers, of which so many others come before
 /// the three, the next one always below the one before.
 fn high_fault_of(
     rt: &impl Abort,
@@ -158,7 +158,7 @@ fn handles_name_data_or_code(rt: HostRuntime) -> Result<(), Fail> {
     })?;
     let table = match Table::make(alloc, 0x84000, REGIONS, &buffers) {
         Ok(table) => table,
-        Err(_) => return Err("no rule stands".into()),
+        Err(_) => return Err("no rule is broken".into()),
     };
     match Handles::make(alloc, &table, 1, &[1, 0]) {
         Ok(handles) => {

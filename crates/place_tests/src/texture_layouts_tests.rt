@@ -4,7 +4,7 @@ use texture_layouts::{
     pixel_place, surface_size, texture_fits, tiling_of,
 };
 
-/// The number of the rule that stands, and 0 where none does.
+/// The number of the rule that is broken, and 0 where none is.
 fn number(answer: Result<(), u8>) -> u8 {
     match answer {
         Ok(()) => 0,
@@ -12,7 +12,7 @@ fn number(answer: Result<(), u8>) -> u8 {
     }
 }
 
-// base, bound, bytes of the buffer, the rule that stands
+// base, bound, bytes of the buffer, the rule that is broken
 const DIRECT: [(u32, u32, u32, u8); 5] = [
     (4092, 0, 4096, 0),
     (4092, 1, 4096, 3),

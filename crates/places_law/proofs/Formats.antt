@@ -5,10 +5,10 @@ use Rattle.std.specs.{List.range_with_len, Int.from_le_bytes, Int.w16, Int.w32}
 use Rattle.field_words.specs.{Words.u16_at, Words.u32_at, Questions.Question, Questions.Ask, Questions.each}
 use Rattle.buffer_table.specs.declared.buffer.Buffer.{Buffer}
 use Rattle.job_format.specs.Offsets.{job_size, version_in, buffer_count, job_count, entry_offset, job_offset, job_word, content_size, content_offset, handles_offset, bin_offset, records_offset, uniforms_offset, end_offset}
-use Rattle.job_format.specs.Reading.{cut, kind_of, regions_at, entry_at, surface_at, frame_at, words_at, buffers_at, contents_at, job_at, jobs_at, file_at}
+use Rattle.job_format.specs.Reading.{bytes_cut, kind_of, regions_at, entry_at, surface_at, frame_at, words_at, buffers_at, contents_at, job_at, jobs_at, file_at}
 use Rattle.job_format.specs.Faults.{fault, header_questions, entry_questions, job_entry_questions, buffer_questions, job_questions, content_questions, parts_questions, end_questions, format_questions}
 use Rattle.job_format.specs.declared.rule.FormatRule.TheVariants.{EndsEarly, BytesFollow}
-use Rattle.places_law.specs.Moved.{placeless, moved}
+use Rattle.places_law.specs.Moved.{placeless, with_buffers}
 use Rattle.places_law.proofs.Words.{SameEntry, ReadAlike}
 
 -- what stands behind the entries
@@ -32,7 +32,7 @@ byte_far a b n at c alike past =
     sym (byte_from a (at + c))
     ∙ (ap (λ (rest : List ℕ). slice_index rest 0) (alike.behind (at + c) (omega (arith, past))) ∙ byte_from b (at + c))
 
-cut_far : (a b : List ℕ) (n at size : ℕ) → ReadAlike a b n → entry_offset n ≤ at → cut a at size ≡ cut b at size
+cut_far : (a b : List ℕ) (n at size : ℕ) → ReadAlike a b n → entry_offset n ≤ at → bytes_cut a at size ≡ bytes_cut b at size
 cut_far a b n at size alike past = ap (take size) (alike.behind at past)
 
 -- the numbers in the header
@@ -45,7 +45,7 @@ count_same a b n alike = alike.header 28 (omega arith)
 jobs_same : (a b : List ℕ) (n : ℕ) → ReadAlike a b n → job_count a ≡ job_count b
 jobs_same a b n alike = alike.header 32 (omega arith)
 
--- the same rules of each item, and the same list by index
+-- two lists have the same rules of each item, by index
 each_below : {F : Type 0} (one other : ℕ → List (Question F)) (from n : ℕ) → ((k : ℕ) → from ≤ k → k < from + n → one k ≡ other k) → each one from n ≡ each other from n
 unfolding each
 each_below one other from zero same = refl
@@ -295,9 +295,9 @@ unfolding words_at
 words_same a b n at count alike past =
     range_same (λ i. u32_at a (at + 4 * i)) (λ i. u32_at b (at + 4 * i)) 0 count (λ i low high. word_far a b n at (4 * i) alike past)
 
-cut_same : (a b : List ℕ) (n at other size size_too : ℕ) → ReadAlike a b n → entry_offset n ≤ at → at ≡ other → size ≡ size_too → cut a at size ≡ cut b other size_too
+cut_same : (a b : List ℕ) (n at other size size_too : ℕ) → ReadAlike a b n → entry_offset n ≤ at → at ≡ other → size ≡ size_too → bytes_cut a at size ≡ bytes_cut b other size_too
 cut_same a b n at other size size_too alike past place long =
-    cut_far a b n at size alike past ∙ (λ p. cut b (place p) (long p))
+    cut_far a b n at size alike past ∙ (λ p. bytes_cut b (place p) (long p))
 
 job_same : (a b : List ℕ) (n : ℕ) → ReadAlike a b n → (j : ℕ) → job_at a j ≡ job_at b j
 unfolding job_at
@@ -329,7 +329,7 @@ job_same a b n alike j =
 contents_same : (a b : List ℕ) (n : ℕ) → ReadAlike a b n → contents_at a n ≡ contents_at b n
 unfolding contents_at
 contents_same a b n alike =
-    range_same (λ i. cut a (content_offset a i) (content_size a i)) (λ i. cut b (content_offset b i) (content_size b i)) 0 n
+    range_same (λ i. bytes_cut a (content_offset a i) (content_size a i)) (λ i. bytes_cut b (content_offset b i) (content_size b i)) 0 n
     (λ i low high. cut_same a b n (content_offset a i) (content_offset b i) (content_size a i) (content_size b i) alike (content_past a b n alike i)
     (content_offset_same a b n alike i (omega (arith, high))) (alike.entries i (omega (arith, high))).content)
 
@@ -359,7 +359,7 @@ file_buffers a b n alike =
     sym (ap (λ (k : ℕ). map placeless (buffers_at a k)) alike.count
     ∙ (buffers_placeless a b n alike ∙ ap (λ (k : ℕ). map placeless (buffers_at b k)) counts))
 
-pub file_moved : (a b : List ℕ) (n : ℕ) → ReadAlike a b n → moved (file_at a) (file_at b).buffers ≡ file_at b
+pub file_moved : (a b : List ℕ) (n : ℕ) → ReadAlike a b n → with_buffers (file_at a) (file_at b).buffers ≡ file_at b
 unfolding file_at
 file_moved a b n alike =
     let counts = sym alike.count ∙ count_same a b n alike in

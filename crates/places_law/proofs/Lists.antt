@@ -1,12 +1,12 @@
 -- The rules of binner lists and of surfaces read no place.
 use Rattle.std.proofs.Common.{◌≡◌, ℕ, ◌==◌, not, nat_lt, if◌then◌else◌, List, [], ◌∷◌, ◌++◌, length, slice_index, is_some, Option, Some, None, refl, ◌∙◌, ap}
-use Rattle.field_words.specs.Questions.{Question, Ask, answered}
+use Rattle.field_words.specs.Questions.{Question, Ask, with_answers}
 use Rattle.buffer_table.specs.{Table.TableModel, Handles.data_of}
 use Rattle.packets.specs.Opcode.{flush, start_tile_binning, increment_semaphore, indexed_primitive_list, array_primitive_list, gl_shader_state, tile_binning_mode}
-use Rattle.bin_list.specs.Rules.{given_of, flush_questions, start_questions, increment_questions, primitive_questions, index_buffer, indexes_end, index_questions, array_questions, state_questions, config_questions, kind_questions, cut_questions, packet_questions, end_questions, asked, questions_of, bin_questions}
+use Rattle.bin_list.specs.Rules.{given_of, flush_questions, start_questions, increment_questions, primitive_questions, index_buffer, indexes_end, index_questions, array_questions, state_questions, config_questions, kind_questions, cut_questions, packet_questions, end_questions, questions_of_packets, questions_of, bin_questions}
 use Rattle.bin_list.specs.{declared.fault.ListFault.ListFault, declared.rule.BinRule.BinRule, declared.seen.Seen.Seen, Faults.fault}
 use Rattle.bin_list.specs.declared.rule.BinRule.TheVariants.{NoIndexBuffer, IndexesOutside}
-use Rattle.bin_list.specs.{Packets.opcode, Packets.passed, Seen.place, Seen.seen_before}
+use Rattle.bin_list.specs.{Packets.opcode, Packets.packets_passed, Seen.place, Seen.seen_before}
 use Rattle.job_format.specs.{declared.file.Frame.Frame, declared.file.Surface.Surface}
 use Rattle.render_list.specs.Surfaces.{size_in, buffer_size, is_unnamed, shape_questions, size_questions, surface_questions, frame_questions, whole_questions, surface_faults}
 use Rattle.render_list.specs.{declared.fault.RenderFault.RenderFault, Frame.surface_at, Frame.is_present}
@@ -44,19 +44,19 @@ packet_same list declared t u handles alike seen packet =
     ap (λ (later : List (Question BinRule)). cut_questions packet ++ later) (kind_questions_same list declared t u handles alike seen packet)
 
 asked_same : (list : List ℕ) (declared : ℕ) (t u : TableModel) (handles : List ℕ) → AreAlike t u → (all : List (List ℕ))
-    → asked (given_of list declared t handles) all ≡ asked (given_of list declared u handles) all
+    → questions_of_packets (given_of list declared t handles) all ≡ questions_of_packets (given_of list declared u handles) all
 asked_same list declared t u handles alike [] = refl
 asked_same list declared t u handles alike (packet ∷ earlier) =
     let before = asked_same list declared t u handles alike earlier in
     let here = packet_same list declared t u handles alike (seen_before earlier) packet in
-    λ p. before p ++ answered (fault (place earlier)) (here p)
+    λ p. before p ++ with_answers (fault (place earlier)) (here p)
 
 pub bin_same : (list : List ℕ) (declared : ℕ) (t u : TableModel) (handles : List ℕ) → AreAlike t u
     → bin_questions list declared t handles ≡ bin_questions list declared u handles
 unfolding questions_of
 bin_same list declared t u handles alike =
-    ap (λ (front : List (Question ListFault)). front ++ answered (fault (length list)) (end_questions (seen_before (passed list))))
-    (asked_same list declared t u handles alike (passed list))
+    ap (λ (front : List (Question ListFault)). front ++ with_answers (fault (length list)) (end_questions (seen_before (packets_passed list))))
+    (asked_same list declared t u handles alike (packets_passed list))
 
 -- the size of what a handle names
 size_in_same : (t u : TableModel) → AreAlike t u → (number : Option ℕ) → size_in t number ≡ size_in u number

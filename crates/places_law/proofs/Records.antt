@@ -1,6 +1,6 @@
 -- The rules of shader records and uniforms read no place.
 use Rattle.std.proofs.Common.{◌≡◌, ℕ, zero, suc, ◌+◌, ◌*◌, ◌==◌, ◌&&◌, not, nat_lt, List, [], ◌∷◌, ◌++◌, length, is_some, Option, Some, None, refl, ◌∙◌, ap}
-use Rattle.field_words.specs.{Words.u32_at, Questions.Question, Questions.Ask, Questions.each, Questions.answered}
+use Rattle.field_words.specs.{Words.u32_at, Questions.Question, Questions.Ask, Questions.each, Questions.with_answers}
 use Rattle.buffer_table.specs.Table.{TableModel}
 use Rattle.qpu_isa.specs.Shader.{ShaderModel, sample_at}
 use Rattle.packets.specs.StateWord.{attribute_count}
@@ -130,7 +130,7 @@ sample_same x t u alike from shader i =
     let number = sample_number_same x t u alike from i in
     let size = ap (λ (n : Option ℕ). size_in t n) number ∙ size_in_same t u alike (sample_number (put x u) from i) in
     λ p. Ask (not (is_some (number p))) (sample_fault (from + 4 * i) (number_of NoTexture))
-    ∷ answered (sample_fault (first_word_at shader from i)) (setup_questions (sample_at shader i) (source_word (put x t) from shader) (size p))
+    ∷ with_answers (sample_fault (first_word_at shader from i)) (setup_questions (sample_at shader i) (source_word (put x t) from shader) (size p))
 
 use_same : (x : InputModel) (t u : TableModel) → AreAlike t u → (from : ℕ) (shader : Option ShaderModel) → use_questions (put x t) from shader ≡ use_questions (put x u) from shader
 unfolding use_questions

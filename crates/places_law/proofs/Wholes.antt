@@ -1,6 +1,6 @@
 -- Bytes of files that differ in places alone are refused alike.
 use Rattle.std.proofs.Common.{◌≡◌, ℕ, List, ◌++◌, length, Option, Some, None, refl, sym, ◌∙◌, ap}
-use Rattle.field_words.specs.Questions.{Question, first_of, answered}
+use Rattle.field_words.specs.Questions.{Question, first_of, with_answers}
 use Rattle.field_words.proofs.Questions.{passes, stops}
 use Rattle.job_format.specs.{declared.rule.Refusal.Refusal, Model.FileModel, Reading.file_at, Faults.format_questions}
 use Rattle.job_check.specs.{Faults.table_stage, Faults.file_stages, Whole.format_refused, Whole.questions_within, Whole.refusal_of}
@@ -26,8 +26,8 @@ alike_by : (bytes other : List ℕ) (n : ℕ) → ReadAlike bytes other n → fi
     → refusal_of other ≡ refusal_of bytes
 unfolding refusal_of questions_within
 alike_by bytes other n alike before behind =
-    let front = answered format_refused (format_questions bytes) in
-    ap (λ questions. first_of (answered format_refused questions ++ file_stages (file_at other))) (sym (format_same bytes other n alike))
+    let front = with_answers format_refused (format_questions bytes) in
+    ap (λ questions. first_of (with_answers format_refused questions ++ file_stages (file_at other))) (sym (format_same bytes other n alike))
     ∙ behind_front front (file_stages (file_at other)) (file_stages (file_at bytes)) (files_alike bytes other n alike before behind) (first_of front) refl
 
 pub moved_are_alike : MovedAreAlike

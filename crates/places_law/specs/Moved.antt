@@ -10,8 +10,8 @@ abbrev pub placeless : Buffer → Buffer
 placeless buffer = record { place = 0; size = buffer.size; client = buffer.client; kind = buffer.kind; content = buffer.content }
 
 -- the file with these entries of buffers
-abbrev pub moved : FileModel → List Buffer → FileModel
-moved f buffers = record {
+abbrev pub with_buffers : FileModel → List Buffer → FileModel
+with_buffers f buffers = record {
   version = f.version;
   mem_size = f.mem_size;
   regions = f.regions;
@@ -20,12 +20,12 @@ moved f buffers = record {
   jobs = f.jobs;
 }
 
--- The first rule that a file breaks doesn't depend on where its buffers lie, as long as they lie well: no rule on the memory stands
+-- The first rule that a file breaks doesn't depend on where its buffers lie, as long as they lie well: no rule on the memory is broken
 -- before or after they were moved.
 abbrev pub PlacesAreFree : Type 0
 PlacesAreFree = (f : FileModel) (buffers : List Buffer) → map placeless buffers ≡ map placeless f.buffers
-    → first_of (table_stage f) ≡ None → first_of (table_stage (moved f buffers)) ≡ None
-    → first_of (file_stages (moved f buffers)) ≡ first_of (file_stages f)
+    → first_of (table_stage f) ≡ None → first_of (table_stage (with_buffers f buffers)) ≡ None
+    → first_of (file_stages (with_buffers f buffers)) ≡ first_of (file_stages f)
 
 -- Bytes of two files with the same header, the same entries of buffers but for their places, and the same bytes behind the entries.
 pub record AreMoved (bytes other : List ℕ) : Type 0 where
@@ -39,7 +39,7 @@ pub record AreMoved (bytes other : List ℕ) : Type 0 where
   pub count : buffer_count head ≡ length buffers
   pub same : map placeless others ≡ map placeless buffers
 
--- The same for bytes: such files are refused alike.
+-- Bytes of such files are refused alike.
 abbrev pub MovedAreAlike : Type 0
 MovedAreAlike = (bytes other : List ℕ) → AreMoved bytes other
     → first_of (table_stage (file_at bytes)) ≡ None → first_of (table_stage (file_at other)) ≡ None

@@ -22,7 +22,7 @@ abbrev pub IsUnshared : Client → List Rights → Type 0
 IsUnshared mine rights =
     (j k p : ℕ) → mine j ≡ true → mine k ≡ false → Inside (rights_of rights j).region p 1 → Inside (rights_of rights k).writable p 1 → ⊥
 
--- All that a run of jobs begins with: what each may reach and write, the Plain buffers of each, the memory, and where their lists begin.
+-- All that a run of jobs begins with: what each may reach and write, the data buffers of each, the memory, and where their lists begin.
 pub record Beginning : Type 0 where
   pub rights : List Rights
   pub plains : ℕ → List Interval
@@ -46,7 +46,7 @@ RunsApart mine b c m n =
 abbrev pub AreLeft : List Interval → State → List (Happening Event) → Type 0
 AreLeft all s happenings = (p : ℕ) → Inside all p 1 → IsLeft turn p s happenings
 
--- The same of runs in which others write too, whatever, but nothing that is the client's, and nothing that jobs may only read.
+-- Runs end alike also where others write, whatever, but nothing that is the client's, and nothing that jobs may only read.
 abbrev pub RunsApartAmong : Client → Beginning → Beginning → List ℕ → List ℕ → Type 0
 RunsApartAmong mine b c m n =
     (happenings others : List (Happening Event)) (found there : List Access) (s t : State)
@@ -106,12 +106,12 @@ pub record AreApart (c : ℕ) (f g : FileModel) : Type 0 where
   pub alone : (m n : List ℕ) → AlikeTo c f g m n → RunsApart (jobs_of c f) (beginning_of f) (beginning_of g) m n
   pub while_others_write : (m n : List ℕ) → AlikeTo c f g m n → RunsApartAmong (jobs_of c f) (beginning_of f) (beginning_of g) m n
 
--- To each client the file is the same as every neighbour of which no rule stands.
+-- To each client the file is the same as every neighbour in which no rule is broken.
 abbrev pub IsApart : FileModel → Type 0
 IsApart f =
     (c : ℕ) (others : List ℕ) → IsBytes others → refusal_of others ≡ None
     → AreNeighbourFiles c f (file_at others) → AreApart c f (file_at others)
 
--- So it is of the file that any bytes hold of which no rule stands.
+-- So it is of the file that any bytes hold in which no rule is broken.
 abbrev pub BytesApart : Type 0
 BytesApart = (bytes : List ℕ) → IsBytes bytes → refusal_of bytes ≡ None → IsApart (file_at bytes)

@@ -74,7 +74,7 @@ FileEnds f =
     file_loops f ≡ false → (m : List ℕ) → Agree (fixed_of f) (memory_of f) m
     → Ends (file_rights f) m (units_start (file_starts f)) (longest_of f) (bound_of f)
 
--- Whatever bytes they are: where no rule stands of them, and no shader that a handle of their jobs names branches back, no run of their
+-- Whatever bytes they are: where no rule is broken by them, and no shader that a handle of their jobs names branches back, no run of their
 -- jobs has more steps than their file says, and so many more for each step in which a renderer stays at an item.
 abbrev pub AcceptedEnd : Type 0
 AcceptedEnd = (bytes : List ℕ) → IsBytes bytes → refusal_of bytes ≡ None → FileEnds (file_at bytes)

@@ -4,7 +4,7 @@
 -- has no work left. Only live jobs have rights.
 use Rattle.std.specs.Prelude.{◌≡◌, ◌≢◌, ℕ, Bool, false, IsTrue, if◌then◌else◌, List, [], ◌∷◌, ◌++◌, length, map, replicate, slice_index_or, Option}
 use Rattle.std.specs.Prelude.{Some, None, IfSome, option_map}
-use Rattle.machine_plan.specs.Regions.{Interval, Inside, Every, Rights, HasReadOnly, IsSafeAccess, IsKept, Agree, joined}
+use Rattle.machine_plan.specs.Regions.{Interval, Inside, Every, Rights, HasReadOnly, IsSafeAccess, IsKept, Agree, regions_joined}
 use Rattle.machine_plan.specs.{declared.launch.Launch.Launch, Runs.Moved}
 use Rattle.list_machine.specs.{Binner.has_binner_work, Lists.binner_ended, Lists.renderer_ended, Renderer.has_renderer_work}
 use Rattle.qpu_machine.specs.{declared.state.Qpu.Qpu, declared.state.Thread.Thread, Qpu.idle_qpu, Qpu.slot_of, Start.thread_of}
@@ -13,13 +13,13 @@ use Rattle.machine.specs.State.{State, Units, item_at, put_at, job_at, job_start
 use Rattle.machine.specs.declared.job.Start.{Start}
 use Rattle.promises.specs.Sound.{TexturesReadIn}
 
--- A job that is to be admitted: where its lists begin, what it may reach and write, and its Plain buffers.
+-- A job that is to be admitted: where its lists begin, what it may reach and write, and its data buffers.
 pub record Job : Type 0 where
   pub start : Start
   pub rights : Rights
   pub plain : List Interval
 
--- A job that was admitted: its rights and Plain buffers, and the memory as it was then.
+-- A job that was admitted: its rights and data buffers, and the memory as it was then.
 pub record Admitted : Type 0 where
   pub rights : Rights
   pub plain : List Interval
@@ -28,9 +28,9 @@ pub record Admitted : Type 0 where
 abbrev pub no_rights : Rights
 no_rights = record { region = []; writable = [] }
 
--- once it has retired, it has neither rights nor Plain buffers
-abbrev pub retired : Admitted → Admitted
-retired one = record one { rights = no_rights; plain = [] }
+-- once it has retired, it has neither rights nor data buffers
+abbrev pub job_retired : Admitted → Admitted
+job_retired one = record one { rights = no_rights; plain = [] }
 
 -- the machine's state, and all jobs that were admitted, by their numbers
 pub record Day : Type 0 where
@@ -41,7 +41,7 @@ pub record Day : Type 0 where
 abbrev pub admitted_at : List Admitted → ℕ → Admitted
 admitted_at jobs j = slice_index_or jobs j (record { rights = no_rights; plain = []; first = [] })
 
--- the rights of all jobs, of which those that retired have none, and the Plain buffers of each
+-- the rights of all jobs, of which those that retired have none, and the data buffers of each
 abbrev pub rights_in : List Admitted → List Rights
 rights_in jobs = map (λ one. one.rights) jobs
 
@@ -124,8 +124,8 @@ abbrev pub joined_by : Units → Job → Units
 joined_by u job = record { jobs = u.jobs ++ job_start job.start ∷ []; qpus = u.qpus }
 
 -- both list units of each job are at their lists' ends, and all processors are idle
-abbrev pub stopped : Units → Units
-stopped u = record { jobs = map (λ s. binner_ended (renderer_ended s)) u.jobs; qpus = replicate 12 idle_qpu }
+abbrev pub units_stopped : Units → Units
+units_stopped u = record { jobs = map (λ s. binner_ended (renderer_ended s)) u.jobs; qpus = replicate 12 idle_qpu }
 
 abbrev pub with_units : Day → Units → Day
 with_units d u = record { state = record { memory = d.state.memory; units = u }; jobs = d.jobs }
@@ -139,8 +139,8 @@ happen d (Admits job) = record {
   state = record { memory = d.state.memory; units = joined_by d.state.units job };
   jobs = d.jobs ++ (record { rights = job.rights; plain = job.plain; first = d.state.memory }) ∷ [];
 }
-happen d (Retires j) = record { state = d.state; jobs = put_at d.jobs j (retired (admitted_at d.jobs j)) }
-happen d Resets = with_units d (stopped d.state.units)
+happen d (Retires j) = record { state = d.state; jobs = put_at d.jobs j (job_retired (admitted_at d.jobs j)) }
+happen d Resets = with_units d (units_stopped d.state.units)
 
 -- what they all come to
 abbrev pub after : Day → List Happening → Day
@@ -161,13 +161,13 @@ pub record IsDoneAlike (d : Day) (other : State) (event : Event) : Type 0 where
   pub may_step : IsTrue (may other event)
   pub accesses : (step other event).accesses ≡ (step d.state event).accesses
   pub units : (step other event).state.units ≡ (step d.state event).state.units
-  pub memory : Agree (joined (rights_in d.jobs)) (step d.state event).state.memory (step other event).state.memory
+  pub memory : Agree (regions_joined (rights_in d.jobs)) (step d.state event).state.memory (step other event).state.memory
 
 -- Whichever unit may step now, its step is safe, and bytes outside the live jobs' regions have no effect on it; texture units read in one
--- Plain buffer of a live job; and what a live job may only read is as it was when the job was admitted.
+-- data buffer of a live job; and what a live job may only read is as it was when the job was admitted.
 pub record IsSafeDay (d : Day) : Type 0 where
   pub steps : (event : Event) → IsTrue (may d.state event) → IsSafeStep d (step d.state event)
-  pub same : (event : Event) (other : List ℕ) → Agree (joined (rights_in d.jobs)) d.state.memory other → IsTrue (may d.state event)
+  pub same : (event : Event) (other : List ℕ) → Agree (regions_joined (rights_in d.jobs)) d.state.memory other → IsTrue (may d.state event)
       → IsDoneAlike d (record { memory = other; units = d.state.units }) event
   pub textures : TexturesReadIn (plains_in d.jobs) d.state
   pub kept : Every (λ one. HasReadOnly (one.rights ∷ []) one.first d.state.memory) d.jobs

@@ -22,7 +22,7 @@ pub record IsApart (d : Day) (f : FileModel) (j : ℕ) : Type 0 where
   pub reads : (p : ℕ) → Inside (reads_of f j) p 1 → IsOutside (rights_in d.jobs) p
   pub writes : (p : ℕ) → Inside (writes_of f j) p 1 → (i : ℕ) → OnlyReads (rights_of (rights_in d.jobs) i) p → ⊥
 
--- A driver may hand in job j of a file in which no rule stands, where the memory has been prepared for it, and it is apart from the live jobs.
+-- A driver may hand in job j of a file in which no rule is broken, where the memory has been prepared for it, and it is apart from the live jobs.
 pub record MaySubmit (d : Day) (f : FileModel) (j : ℕ) : Type 0 where
   pub accepted : IsFaultless f
   pub inside : j < length f.jobs

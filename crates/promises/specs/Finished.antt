@@ -9,7 +9,7 @@ use Rattle.machine_plan.specs.{Others.Happening, Others.OthersRun, Regions.Every
 use Rattle.list_machine.specs.{declared.state.Work.Work, Lists.Lists, Binner.item_may}
 use Rattle.qpu_machine.specs.{declared.state.Qpu.Qpu, Bounds.finished0, Bounds.finished1, Qpu.is_idle}
 use Rattle.machine.specs.State.{Units, State, Picked, binner_job, units_start}
-use Rattle.machine.specs.Step.{Event, ready, turn, enabled, finished}
+use Rattle.machine.specs.Step.{Event, ready, turn, is_enabled, is_finished}
 use Rattle.promises.specs.{Bounded.shader_named, Holdings.fixed_of, Holdings.file_rights, Holdings.file_starts}
 use Rattle.strict_rules.specs.Rules.{waits_at}
 
@@ -36,13 +36,13 @@ pub record UnitsWait (u : Units) : Type 0 where
   pub idle : list_all is_idle u.qpus ≡ true
 
 -- How many requests and results a processor has that no load has taken, of both TMUs and both threads.
-unfoldable pub unloaded : Qpu → ℕ
-unloaded q =
+unfoldable pub count_unloaded : Qpu → ℕ
+count_unloaded q =
     (length q.queue0.items + length q.queue1.items) + ((finished0 q.first + finished1 q.first) + (finished0 q.other + finished1 q.other))
 
 -- no unit may step
 abbrev pub IsStill : State → Type 0
-IsStill s = (unit : Actor) → enabled s unit ≡ false
+IsStill s = (unit : Actor) → is_enabled s unit ≡ false
 
 -- Each run from these units over this memory, whichever unit steps next, whatever words answer it, and also while others write: where
 -- it has come to a state in which no unit may step, all is finished, or the binner's job waits for room. In each state a processor has at
@@ -50,10 +50,10 @@ IsStill s = (unit : Actor) → enabled s unit ≡ false
 pub record Finishes (rights : List Rights) (memory : List ℕ) (start : Units) : Type 0 where
   pub every_run : (happenings : List (Happening Event)) (found : List Access) (t : State)
       → OthersRun ready turn rights (record { memory = memory; units = start }) happenings found t
-      → IsStill t → (finished t ≡ true) ⊎ UnitsWait t.units
+      → IsStill t → (is_finished t ≡ true) ⊎ UnitsWait t.units
   pub room : (happenings : List (Happening Event)) (found : List Access) (t : State)
       → OthersRun ready turn rights (record { memory = memory; units = start }) happenings found t
-      → Every (λ q. unloaded q ≤ 4) t.units.qpus
+      → Every (λ q. count_unloaded q ≤ 4) t.units.qpus
 
 -- one of the shader does
 abbrev pub waits : Option (List ℕ) → Bool

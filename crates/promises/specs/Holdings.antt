@@ -25,7 +25,7 @@ unfoldable pub named_buffers : (ℕ → Option ℕ) → List Buffer → ℕ → 
 named_buffers names buffers zero = []
 named_buffers names buffers (suc n) = named_buffers names buffers n ++ interval_where buffers (names n)
 
--- the Plain buffers that the handles of job j name, and the Code buffers
+-- the data buffers that the handles of job j name, and the Code buffers
 unfoldable pub plain_of : FileModel → ℕ → List Interval
 plain_of f j = named_buffers (data_of (table_of f) (job_of f j).handles) f.buffers (length (job_of f j).handles)
 
@@ -47,7 +47,7 @@ lists_of f j = lists_in (layout_of f j) (lengths_of f j)
 unfoldable pub slot_in : FileModel → ℕ → Interval
 slot_in f j = interval (slot_of f j) slot_size
 
--- A job may reach its tile slot, the buffers that its handles name and its emitted lists; and it may write the slot and the Plain
+-- A job may reach its tile slot, the buffers that its handles name and its emitted lists; and it may write the slot and the data
 -- buffers among them.
 abbrev pub job_rights : FileModel → ℕ → Rights
 job_rights f j = record { region = slot_in f j ∷ (plain_of f j ++ (lists_of f j ++ codes_of f j)); writable = slot_in f j ∷ plain_of f j }

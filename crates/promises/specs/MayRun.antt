@@ -13,7 +13,7 @@ use Rattle.machine_plan.specs.Regions.{Agree}
 use Rattle.promises.specs.Holdings.{OfEachJob, plain_of, lists_of, fixed_of, file_rights, file_starts, IsNamedCode}
 use Rattle.promises.specs.{Rights.IsOneOf, Rights.IsFixed, Sound.AreSound}
 
--- No rule stands of the bytes, and they are one file's. From each memory of the emitted one's length that has the lists and the code of
+-- No rule is broken by the bytes, and they are one file's. From each memory of the emitted one's length that has the lists and the code of
 -- all jobs as emitted, whatever all other bytes are, the jobs are sound. What any job may write shares no byte with the lists of any job,
 -- and none with the code that one names.
 pub record MayRun (bytes : List ℕ) : Type 0 where
@@ -26,6 +26,6 @@ pub record MayRun (bytes : List ℕ) : Type 0 where
   pub code_fixed : OfEachJob (file_at bytes) (λ j. (place size : ℕ) → IsNamedCode (file_at bytes) j place size
       → IsFixed (file_rights (file_at bytes)) place size)
 
--- Whatever bytes they are: where no rule stands of them, their jobs may run.
+-- Whatever bytes they are: where no rule is broken by them, their jobs may run.
 abbrev pub AcceptedMayRun : Type 0
 AcceptedMayRun = (bytes : List ℕ) → IsBytes bytes → refusal_of bytes ≡ None → MayRun bytes

@@ -8,19 +8,19 @@ use Rattle.job_check.specs.{Faults.place_stages, Shaders.table_of, Shaders.conte
 use Rattle.promises.specs.Holdings.{OfEachJob, plain_of, file_rights, file_starts}
 use Rattle.promises.specs.Sound.{AreSound}
 
--- no rule of a file stands
+-- no rule of a file is broken
 pub record IsFaultless (f : FileModel) : Type 0 where
   pub well_formed : IsWellFormed f
   pub fits : Fits f
   pub none : first_of (place_stages f) ≡ None
 
 -- a buffer's contents, and zeros behind them up to its end
-abbrev pub filled : List ℕ → ℕ → List ℕ
-filled content size = content ++ zeros (size - length content)
+abbrev pub content_filled : List ℕ → ℕ → List ℕ
+content_filled content size = content ++ zeros (size - length content)
 
 -- the buffer holds its contents, and zeros behind them
 abbrev pub HasContent : List ℕ → Buffer → List ℕ → Type 0
-HasContent m buffer content = window_of m buffer.place buffer.size ≡ filled content buffer.size
+HasContent m buffer content = window_of m buffer.place buffer.size ≡ content_filled content buffer.size
 
 -- so does each Code buffer that a handle of job j names
 abbrev pub HasCode : FileModel → List ℕ → ℕ → Type 0

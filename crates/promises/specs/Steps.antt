@@ -76,29 +76,29 @@ bin_steps w [] = 0
 bin_steps w (packet ∷ packets) = packet_steps w packet + bin_steps w packets
 
 -- the place of the tile's list that a packet of a renderer list goes into, where it does
-abbrev pub entered : Packet → List ℕ
-entered WaitOnSemaphore = []
-entered (BranchToSubList address) = address ∷ []
-entered StoreTileColor = []
-entered StoreTileColorAndEnd = []
-entered (StoreFullResolution address) = []
-entered (LoadFullResolution address) = []
-entered (StoreTileBuffer bits address) = []
-entered (LoadTileBuffer bits address) = []
-entered (TileRenderingMode address width height bits) = []
-entered (ClearColors first second z stencil) = []
-entered (TileCoordinates x y) = []
+abbrev pub list_entered : Packet → List ℕ
+list_entered WaitOnSemaphore = []
+list_entered (BranchToSubList address) = address ∷ []
+list_entered StoreTileColor = []
+list_entered StoreTileColorAndEnd = []
+list_entered (StoreFullResolution address) = []
+list_entered (LoadFullResolution address) = []
+list_entered (StoreTileBuffer bits address) = []
+list_entered (LoadTileBuffer bits address) = []
+list_entered (TileRenderingMode address width height bits) = []
+list_entered (ClearColors first second z stencil) = []
+list_entered (TileCoordinates x y) = []
 
 abbrev pub all_entered : List (Option Packet) → List ℕ
 all_entered [] = []
 all_entered (None ∷ slots) = all_entered slots
-all_entered (Some packet ∷ slots) = entered packet ++ all_entered slots
+all_entered (Some packet ∷ slots) = list_entered packet ++ all_entered slots
 
 -- a packet of a renderer list takes one step, and one more where the tile's list that it went into is left
 abbrev pub render_steps : List (Option Packet) → ℕ
 render_steps [] = 0
 render_steps (None ∷ slots) = render_steps slots
-render_steps (Some packet ∷ slots) = 1 + length (entered packet) + render_steps slots
+render_steps (Some packet ∷ slots) = 1 + length (list_entered packet) + render_steps slots
 
 -- how often a place is among these; and the most that any of the first is among all
 abbrev pub times : ℕ → List ℕ → ℕ

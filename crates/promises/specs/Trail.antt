@@ -3,7 +3,7 @@ use Rattle.std.specs.Prelude.{ℕ, Bool, List, filter, false, if◌then◌else�
 use Rattle.field_words.specs.declared.access.Actor.TheVariants.{Binner as TheBinner, Renderer as TheRenderer, Qpu as TheQpu, Tmu as TheTmu}
 use Rattle.field_words.specs.{declared.access.Access.Access, declared.access.Actor.Actor}
 use Rattle.machine_plan.specs.Others.{Happening, Steps, Changes, happen}
-use Rattle.machine_plan.specs.{declared.launch.Launch.Launch, declared.launch.Slot.Slot, Plan.carried, Runs.Moved}
+use Rattle.machine_plan.specs.{declared.launch.Launch.Launch, declared.launch.Slot.Slot, Plan.outcome_of, Runs.Moved}
 use Rattle.list_machine.specs.Lists.{Lists, Turned, binner_of, renderer_of}
 use Rattle.list_machine.specs.{Binner.binner_plan, Renderer.renderer_plan}
 use Rattle.qpu_machine.specs.{declared.state.Qpu.Qpu, Qpu.slot_from, Qpu.free_in}
@@ -49,12 +49,12 @@ launch_in (Some turned) = turned.launch
 abbrev pub binner_starts : State → Option (Picked Lists) → List ℕ → Option Slot
 binner_starts s None words = None
 binner_starts s (Some b) words =
-    slot_for (launch_in (carried (binner_of b.number) (binner_plan b.item (free_in s.units.qpus) words) s.memory).result) s.units.qpus
+    slot_for (launch_in (outcome_of (binner_of b.number) (binner_plan b.item (free_in s.units.qpus) words) s.memory).result) s.units.qpus
 
 abbrev pub renderer_starts : State → Option (Picked Lists) → List ℕ → Option Slot
 renderer_starts s None words = None
 renderer_starts s (Some r) words =
-    slot_for (launch_in (carried (renderer_of r.number) (renderer_plan r.item (free_in s.units.qpus) words) s.memory).result) s.units.qpus
+    slot_for (launch_in (outcome_of (renderer_of r.number) (renderer_plan r.item (free_in s.units.qpus) words) s.memory).result) s.units.qpus
 
 -- list units alone start programs
 abbrev pub starts_in : State → Actor → List ℕ → Option Slot
@@ -93,6 +93,6 @@ entries_of entry move s (event ∷ events) = with_entry (entry s event) (entries
 abbrev pub trail_of : Client → State → List Event → List Entry
 trail_of mine s events = entries_of (own_entry mine) step s events
 
--- the same of a run in which others write too
+-- the client's trail of a run in which others write too
 abbrev pub trail_among : Client → State → List (Happening Event) → List Entry
 trail_among mine s happenings = entries_of (happening_entry mine) (happen turn) s happenings

@@ -24,8 +24,8 @@ shifted_right a b = a / 2 ^ (b % 32)
 unfoldable pub shifted_signed : ℕ → ℕ → ℕ
 shifted_signed a b = cast_unsigned w32 (shr_z (cast_signed w32 a) (2 ^ (b % 32)))
 
-unfoldable pub rotated : ℕ → ℕ → ℕ
-rotated a b = rotate_right w32 a b
+unfoldable pub rotated_word : ℕ → ℕ → ℕ
+rotated_word a b = rotate_right w32 a b
 
 -- sums and differences of bytes stop at 255 and at 0
 abbrev pub byte_of : ByteOperation → ℕ → ℕ → ℕ
@@ -58,7 +58,7 @@ add_result_of op a b =
     else (if op == 13 then Some ((a + 2 ^ 32 - b) % 2 ^ 32)
     else (if op == 14 then Some (shifted_right a b)
     else (if op == 15 then Some (shifted_signed a b)
-    else (if op == 16 then Some (rotated a b)
+    else (if op == 16 then Some (rotated_word a b)
     else (if op == 17 then Some (shifted_left a b)
     else (if op == 18 then Some (signed_min a b)
     else (if op == 19 then Some (signed_max a b)

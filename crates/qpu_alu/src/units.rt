@@ -84,7 +84,7 @@ fn product(a: u32, b: u32) -> u32
 
 /// What the add unit's operation `op`, a field of five bits, makes of its operands. `None` comes
 /// exactly where the result is free: at the float operations 1 to 8, and where `op` has no name.
-#[tactic(auto, unfolding(crate::specs::Operation::add_result_of, crate::specs::Operation::shifted_left, crate::specs::Operation::shifted_right, crate::specs::Operation::rotated))]
+#[tactic(auto, unfolding(crate::specs::Operation::add_result_of, crate::specs::Operation::shifted_left, crate::specs::Operation::shifted_right, crate::specs::Operation::rotated_word))]
 pub fn add_result(op: u8, a: u32, b: u32) -> Option<u32>
     requires { op < 32 }
     ensures { result ≡ add_result_of op a b }

@@ -106,8 +106,8 @@ words_step spots lines later first line words new is put = rw (is, put) refl
 pub fault_step : (spots : Spots) (lines later : List Line) (first : Line) (line : ℕ) (words : List ℕ) (answer : Stop AsmFault) → lines ≡ first ∷ later
     → IsFaultOf (line_words spots line words first) answer → IsFaultOf (lines_words spots line lines words) answer
 unfolding lines_words
-fault_step spots lines later first line words (stop.Fault fault) is told = rw (is, told) refl
-fault_step spots lines later first line words stop.NoMemory is told = tt
+fault_step spots lines later first line words (stop.Fault fault) is report = rw (is, report) refl
+fault_step spots lines later first line words stop.NoMemory is report = tt
 
 pub words_end : (spots : Spots) (text : List ℕ) (line : ℕ) (words : List ℕ) → length text ≤ 0 → lines_words spots line (read_lines text) words ≡ Ok words
 unfolding lines_words

@@ -2,12 +2,12 @@
 use Rattle.std.proofs.Common.{◌≡◌, inl, inr, ℕ, ◌+◌, ◌*◌, ◌^◌, ◌<◌, Bool, true, false, nat_lt, nat_le, ◌==◌, List, [], ◌∷◌, ◌++◌, length, map, refl, sym, ◌∙◌, ap, subst, arith, Option, None, Some, Result, Ok, Err, IfErr, append_assoc, append-nil, length-append, eq-eqb, if◌then◌else◌}
 use Rattle.std.specs.Option.{option_to_list}
 use Rattle.std.proofs.{lemmas.Bool.cases_Bool, lemmas.Bool.Decides.nat_tests}
-use Rattle.field_words.specs.{Least.Stands, Least.IsLeast, declared.stop.Stop.Stop}
+use Rattle.field_words.specs.{Least.IsBroken, Least.IsLeast, declared.stop.Stop.Stop}
 use Rattle.field_words.specs.declared.stop.Stop.TheVariants.{Fault, NoMemory}
-use Rattle.qpu_isa.specs.Fields.{joined}
+use Rattle.qpu_isa.specs.Fields.{fields_joined}
 use Rattle.script.specs.Lines.{before, behind}
 use Rattle.qpu_asm.specs.Items.{Spots, mistake_number, read_value, is_row, has_row, has_value, kind_named}
-use Rattle.qpu_asm.specs.Faults.{rows_behind, rows_after, mistakes_in, value_mistakes, named_mistakes, item_mistakes, items_mistakes, kind_mistakes, line_mistakes, fault_on, lines_faults, text_faults, IsUpTo, standing, AnswersLeast}
+use Rattle.qpu_asm.specs.Faults.{rows_behind, rows_after, mistakes_in, value_mistakes, named_mistakes, item_mistakes, items_mistakes, kind_mistakes, line_mistakes, fault_on, lines_faults, text_faults, IsUpTo, all_broken, AnswersLeast}
 use Rattle.qpu_asm.specs.Assembly.{value_or, row_values, kind_word, code_word, words_on, words_from, text_words, is_up_to, least_fault, words_or_least, Assembled, IsFaultOf}
 use Rattle.qpu_asm.specs.Walk.{least_of, Partial, with_value, skip_to, read_named, read_item, read_items, word_or_fault, closed_word, kind_code, option_code, code_of, with_word, line_words, if_words, lines_words}
 use Rattle.qpu_asm.specs.{declared.fault.AsmFault.AsmFault, declared.fault.Mistake.Mistake, declared.fault.Mistake.TheVariants.UnknownWord}
@@ -87,11 +87,11 @@ item_alone spots index all rows item = elim (cases_Bool (has_value item)) [
   | inr none ↦ rw none refl
 ]
 
-pub item_told : (spots : Spots) (index word : ℕ) (all rows : List Row) (item : List ℕ) (partial : Partial)
+pub item_reported : (spots : Spots) (index word : ℕ) (all rows : List Row) (item : List ℕ) (partial : Partial)
     → partial ≡ read_item spots index all (record { word = word; rows = rows; fault = None }) item
     → (partial.rows ≡ rows_after item rows) × (option_to_list partial.fault ≡ item_mistakes spots index all rows item)
 unfolding IsAlone
-item_told spots index word all rows item partial is =
+item_reported spots index word all rows item partial is =
     let at = item_at spots index all (record { word = word; rows = rows; fault = None }) item in
     (ap (λ p. p.rows) is ∙ at.0, ap (λ p. option_to_list p.fault) is ∙ (ap option_to_list at.1 ∙ item_alone spots index all rows item))
 
@@ -184,11 +184,11 @@ no_row spots index all item none = let wrong : false ≡ true = (clean spots ind
 
 joined_values : (spots : Spots) (index : ℕ) (all rows : List Row) (word : ℕ) (items : List (List ℕ)) → items_mistakes spots index all rows items ≡ []
     → closed_word (read_items spots index all (record { word = word; rows = rows; fault = None }) items)
-    ≡ Ok (joined word (widths_of rows) (row_values spots index rows items))
-unfolding read_items closed_word joined row_values items_mistakes
+    ≡ Ok (fields_joined word (widths_of rows) (row_values spots index rows items))
+unfolding read_items closed_word fields_joined row_values items_mistakes
 joined_values spots index all [] word [] none = refl
 joined_values spots index all [] word (item ∷ items) none = absurd (no_row spots index all item (none_both (item_mistakes spots index all [] item) _ none).0)
-joined_values spots index all (row ∷ rows) word [] none = ap (λ values. Ok (joined (word * 2 ^ row.width + row.fallback) (widths_of rows) values)) (sym (values_none spots index rows))
+joined_values spots index all (row ∷ rows) word [] none = ap (λ values. Ok (fields_joined (word * 2 ^ row.width + row.fallback) (widths_of rows) values)) (sym (values_none spots index rows))
 joined_values spots index all (row ∷ rows) word (item ∷ items) none =
     let name : List ℕ = before 61 item in
     let read : Result ℕ Mistake = read_value spots index name (behind 61 item) row in
@@ -201,13 +201,13 @@ joined_values spots index all (row ∷ rows) word (item ∷ items) none =
           let value : ℕ = value_or row.fallback read in
           ap (λ p. closed_word (read_items spots index all p items)) (item_here spots index all rows row word value item facts.0 here good)
           ∙ (joined_values spots index all rows (word * 2 ^ row.width + value) items left
-          ∙ ap (λ values. Ok (joined word (widths_of (row ∷ rows)) values)) (sym (values_here spots index rows row item items here)))
+          ∙ ap (λ values. Ok (fields_joined word (widths_of (row ∷ rows)) values)) (sym (values_here spots index rows row item items here)))
       | inr other ↦
           let there = sym (has_later name row rows other) ∙ facts.1 in
           let left = sym (mistakes_later spots index all rows row item items facts.0 other there) ∙ none in
           ap (λ p. closed_word (read_items spots index all p items)) (item_later spots index all rows row word item facts.0 other there)
           ∙ (joined_values spots index all rows (word * 2 ^ row.width + row.fallback) (item ∷ items) left
-          ∙ ap (λ values. Ok (joined word (widths_of (row ∷ rows)) values)) (sym (values_later spots index rows row item items other)))
+          ∙ ap (λ values. Ok (fields_joined word (widths_of (row ∷ rows)) values)) (sym (values_later spots index rows row item items other)))
     ]
 
 -- a line's least mistake
@@ -239,8 +239,8 @@ kind_line : (line word : ℕ) (words : List ℕ) (partial : Partial) (ms : List 
 unfolding closed_word least_after
 kind_line line word words partial [] good at = ap (with_word line words) (good refl)
 kind_line line word words partial (m ∷ ms) good at =
-    ap (λ fault. with_word line words (word_or_fault (joined partial.word (widths_of partial.rows) (fallbacks_of partial.rows)) fault)) at
-    ∙ least_line line (joined partial.word (widths_of partial.rows) (fallbacks_of partial.rows)) words m ms
+    ap (λ fault. with_word line words (word_or_fault (fields_joined partial.word (widths_of partial.rows) (fallbacks_of partial.rows)) fault)) at
+    ∙ least_line line (fields_joined partial.word (widths_of partial.rows) (fallbacks_of partial.rows)) words m ms
 
 coded_line : (spots : Spots) (line : ℕ) (words : List ℕ) (items : List (List ℕ)) (kind : Option Kind)
     → with_word line words (option_code spots (length words) items kind)
@@ -351,7 +351,7 @@ below_first fault (other ∷ others) =
     let less : AsmFault = if is_up_to other fault then other else fault in
     up_on (least_fault less others) less fault (below_first less others) (least_up fault other).0
 
-below_all : (fault : AsmFault) (faults : List AsmFault) (one : AsmFault) → Stands (standing (fault ∷ faults)) one → IsUpTo (least_fault fault faults) one
+below_all : (fault : AsmFault) (faults : List AsmFault) (one : AsmFault) → IsBroken (all_broken (fault ∷ faults)) one → IsUpTo (least_fault fault faults) one
 unfolding least_fault
 below_all fault faults one (inl here) = subst (λ f. IsUpTo (least_fault fault faults) f) here.1 (below_first fault faults)
 below_all fault [] one (inr none) = absurd none
@@ -362,19 +362,19 @@ below_all fault (other ∷ others) one (inr (inr later)) =
     let less : AsmFault = if is_up_to other fault then other else fault in
     below_all less others one (inr later)
 
-least_stands : (fault : AsmFault) (faults : List AsmFault) → Stands (standing (fault ∷ faults)) (least_fault fault faults)
+least_broken : (fault : AsmFault) (faults : List AsmFault) → IsBroken (all_broken (fault ∷ faults)) (least_fault fault faults)
 unfolding least_fault
-least_stands fault [] = inl (refl, refl)
-least_stands fault (other ∷ others) = elim (cases_Bool (is_up_to other fault)) [
-  | inl here ↦ rw here (inr (least_stands other others))
-  | inr later ↦ rw later (elim (least_stands fault others) [ inl first ↦ inl first | inr rest ↦ inr (inr rest) ])
+least_broken fault [] = inl (refl, refl)
+least_broken fault (other ∷ others) = elim (cases_Bool (is_up_to other fault)) [
+  | inl here ↦ rw here (inr (least_broken other others))
+  | inr later ↦ rw later (elim (least_broken fault others) [ inl first ↦ inl first | inr rest ↦ inr (inr rest) ])
 ]
 
-least_of_all : (words : List ℕ) (faults : List AsmFault) (fault : AsmFault) → words_or_least words faults ≡ Err fault → IsLeast IsUpTo (standing faults) fault
+least_of_all : (words : List ℕ) (faults : List AsmFault) (fault : AsmFault) → words_or_least words faults ≡ Err fault → IsLeast IsUpTo (all_broken faults) fault
 least_of_all words [] fault is = cc
 least_of_all words (first ∷ faults) fault is =
     let e : least_fault first faults ≡ fault = cc in
-    subst (IsLeast IsUpTo (standing (first ∷ faults))) e (record { stands = least_stands first faults; least = below_all first faults })
+    subst (IsLeast IsUpTo (all_broken (first ∷ faults))) e (record { broken = least_broken first faults; least = below_all first faults })
 
 faultless : (words all : List ℕ) (faults : List AsmFault) → words_or_least all faults ≡ Ok words → faults ≡ []
 faultless words all [] is = refl
@@ -387,6 +387,6 @@ answers_words text words is = faultless words (text_words text) (text_faults tex
 pub answers_least : {X : Type 0} (text : List ℕ) (result : Result X (Stop AsmFault)) → IfErr result (IsFaultOf (Assembled text)) → ((made : X) → result ≡ Ok made → text_faults text ≡ [])
     → AnswersLeast (text_faults text) result
 unfolding Assembled
-answers_least text (Ok made) told good = good made refl
-answers_least text (Err (Fault fault)) told good = least_of_all (text_words text) (text_faults text) fault told
-answers_least text (Err NoMemory) told good = tt
+answers_least text (Ok made) report good = good made refl
+answers_least text (Err (Fault fault)) report good = least_of_all (text_words text) (text_faults text) fault report
+answers_least text (Err NoMemory) report good = tt

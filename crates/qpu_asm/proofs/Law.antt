@@ -5,12 +5,12 @@ use Rattle.std.proofs.{lemmas.List.Sums.AllPass-from_list_all}
 use Rattle.std.proofs.{lemmas.List.Splits.slice_split_at, lemmas.List.Splits.slice_split_none, Math.Nat.div-eq_of_lt}
 use Rattle.std.specs.{List.list_all, List.slice_split}
 use Rattle.script.specs.{Lines.lines_of, Number.is_number}
-use Rattle.qpu_isa.specs.{Word.sig_of, Fields.joined, Fields.width_of, Fields.values_of}
+use Rattle.qpu_isa.specs.{Word.sig_of, Fields.fields_joined, Fields.width_of, Fields.values_of}
 use Rattle.qpu_isa.proofs.{Fields.joined-values_of, Words.above-sig}
 use Rattle.qpu_asm.specs.Table.{Named, Row, Kind, widths_of, nop_kind, alu_kind, load_imm_kind, branch_kind, alu_rows}
 use Rattle.qpu_asm.specs.Items.{has_value, Spots, find_named, or_number, read_number, read_plain, read_value, is_row, has_row, kind_named}
 use Rattle.qpu_asm.specs.Walk.{Partial, lacks, skip_to, read_named, read_item, read_items, closed_word, kind_code, code_of, option_code, lines_words, line_words, with_word, if_words}
-use Rattle.qpu_asm.specs.Printed.{name_of, or_decimal, value_text, item_text, item_texts, kind_of, spaced, kind_text, word_text, line_text, AsmText, PrintedReturns}
+use Rattle.qpu_asm.specs.Printed.{name_of, or_decimal, value_text, item_text, item_texts, kind_of, spaced_words, kind_text, word_text, line_text, AsmText, PrintedReturns}
 use Rattle.qpu_asm.specs.Lines.{Coded, is_full, words_of, read_line, line_of, is_comment, ends_label}
 use Rattle.qpu_asm.specs.Labels.{read_lines, spots_of}
 use Rattle.qpu_asm.proofs.{Bytes.bytes_itself, Bytes.bytes_same, Words.kept_full, Rows.kind_cases, Bytes.cut_name, Bytes.lacks_append, Bytes.digits_lack, Assembling.words_end}
@@ -157,7 +157,7 @@ default_read : (spots : Spots) (index : ℕ) (all rows later : List Row) (row : 
     → list_all (λ r. not (is_row r.name row) && has_row r.name rows) later ≡ true
     → closed_word (read_items spots index all (record { word = word; rows = row ∷ rows; fault = None }) (item_texts later values))
     ≡ closed_word (read_items spots index all (record { word = word * 2 ^ row.width + row.fallback; rows = rows; fault = None }) (item_texts later values))
-unfolding read_items item_texts closed_word joined
+unfolding read_items item_texts closed_word fields_joined
 default_read spots index all rows [] row word values test away = refl
 default_read spots index all rows (r ∷ later) row word [] test away = refl
 default_read spots index all rows (r ∷ later) row word (value ∷ values) test away =
@@ -171,8 +171,8 @@ default_read spots index all rows (r ∷ later) row word (value ∷ values) test
     ]
 
 reads : (spots : Spots) (index : ℕ) (all rows : List Row) (word : ℕ) (values : List ℕ) → list_all is_read rows ≡ true → AreBelow rows values → are_apart rows ≡ true
-    → closed_word (read_items spots index all (record { word = word; rows = rows; fault = None }) (item_texts rows values)) ≡ Ok (joined word (widths_of rows) values)
-unfolding read_items item_texts closed_word joined are_apart AreBelow
+    → closed_word (read_items spots index all (record { word = word; rows = rows; fault = None }) (item_texts rows values)) ≡ Ok (fields_joined word (widths_of rows) values)
+unfolding read_items item_texts closed_word fields_joined are_apart AreBelow
 reads spots index all [] word [] test under away = refl
 reads spots index all [] word (value ∷ values) test under away = absurd under
 reads spots index all (row ∷ rows) word [] test under away = absurd under
@@ -182,7 +182,7 @@ reads spots index all (row ∷ rows) word (value ∷ values) test under away =
     elim (cases_Bool (value == row.fallback)) [
       | inl same ↦ rw same (default_read spots index all rows rows row word values parts.1 names.0
           ∙ (reads spots index all rows (word * 2 ^ row.width + row.fallback) values parts.1 under.1 names.1
-          ∙ ap (λ v. Ok (joined (word * 2 ^ row.width + v) (widths_of rows) values)) (sym (eqb-true value row.fallback same))))
+          ∙ ap (λ v. Ok (fields_joined (word * 2 ^ row.width + v) (widths_of rows) values)) (sym (eqb-true value row.fallback same))))
       | inr other ↦ rw other (ap (λ p. closed_word (read_items spots index all p (item_texts rows values))) (item_read spots index all rows row word value (read_facts row parts.0) under.0)
           ∙ reads spots index all rows (word * 2 ^ row.width + value) values parts.1 under.1 names.1)
     ]
@@ -196,15 +196,15 @@ AreWords : List (List ℕ) → Type 0
 AreWords [] = Unit {0}
 AreWords (word ∷ words) = (is_word word ≡ true) × (is_full word ≡ true) × AreWords words
 
-words_spaced : (word : List ℕ) (items : List (List ℕ)) → is_word word ≡ true → is_full word ≡ true → AreWords items → words_of (word ++ spaced items) ≡ word ∷ items
-unfolding words_of spaced AreWords is_word
+words_spaced : (word : List ℕ) (items : List (List ℕ)) → is_word word ≡ true → is_full word ≡ true → AreWords items → words_of (word ++ spaced_words items) ≡ word ∷ items
+unfolding words_of spaced_words AreWords is_word
 words_spaced word [] plain full rest =
     let lone = parted 32 word (and_parts (lacks 32 word) (lacks 10 word) plain).0 in
     rw (append-nil word, slice_split_none (λ b. b == 32) word lone) (kept_full word [] full)
 words_spaced word (item ∷ items) plain full rest =
     let lone = parted 32 word (and_parts (lacks 32 word) (lacks 10 word) plain).0 in
-    ap (filter is_full) (slice_split_at (λ b. b == 32) word 32 (item ++ spaced items) lone refl)
-    ∙ (kept_full word (slice_split (λ b. b == 32) (item ++ spaced items)) full
+    ap (filter is_full) (slice_split_at (λ b. b == 32) word 32 (item ++ spaced_words items) lone refl)
+    ∙ (kept_full word (slice_split (λ b. b == 32) (item ++ spaced_words items)) full
     ∙ ap (λ words. word ∷ words) (words_spaced item items rest.0 rest.1 rest.2))
 
 line_first_of : (line text : List ℕ) → lacks 10 line ≡ true → lines_of (line ++ 10 ∷ text) ≡ line ∷ lines_of text
@@ -232,10 +232,10 @@ items_words (row ∷ rows) (value ∷ values) test under =
       | inr other ↦ rw other (word_append row.name (61 ∷ value_text row value) facts.word (value_back row value facts under.0).1, full_append row.name (value_text row value) 61, later)
     ]
 
-spaced_lineless : (items : List (List ℕ)) → AreWords items → lacks 10 (spaced items) ≡ true
-unfolding spaced AreWords lacks is_word
+spaced_lineless : (items : List (List ℕ)) → AreWords items → lacks 10 (spaced_words items) ≡ true
+unfolding spaced_words AreWords lacks is_word
 spaced_lineless [] rest = refl
-spaced_lineless (item ∷ items) rest = lacks_append 10 item (spaced items) (and_parts (lacks 32 item) (lacks 10 item) rest.0).1 (spaced_lineless items rest.2)
+spaced_lineless (item ∷ items) rest = lacks_append 10 item (spaced_words items) (and_parts (lacks 32 item) (lacks 10 item) rest.0).1 (spaced_lineless items rest.2)
 
 -- the fields of a word are below what the rows say
 below_widths : (rows : List Row) (word : ℕ) → list_all (λ row. row.below == 2 ^ row.width) rows ≡ true → AreBelow rows (values_of (widths_of rows) word)
@@ -288,7 +288,7 @@ word_below word = below_by word (word == nop_kind.above) (sig_of word == 14) (si
 
 -- and joined they give the word
 IsJoined : ℕ → Kind → Type 0
-IsJoined word kind = joined kind.above (widths_of kind.rows) (values_of (widths_of kind.rows) word) ≡ word
+IsJoined word kind = fields_joined kind.above (widths_of kind.rows) (values_of (widths_of kind.rows) word) ≡ word
 
 joined_below : (word : ℕ) (kind : Kind) → word / 2 ^ width_of (widths_of kind.rows) ≡ kind.above → IsJoined word kind
 unfolding IsJoined
@@ -296,7 +296,7 @@ joined_below word kind top = rw (← top) (joined-values_of (widths_of kind.rows
 
 joined_by : (word : ℕ) → word < 2 ^ 64 → (nop load branch : Bool) → (word == nop_kind.above) ≡ nop → (sig_of word == 14) ≡ load → (sig_of word == 15) ≡ branch
     → IsJoined word (if nop then nop_kind else (if load then load_imm_kind else (if branch then branch_kind else alu_kind)))
-unfolding IsJoined joined values_of width_of
+unfolding IsJoined fields_joined values_of width_of
 joined_by word small true load branch a b c = sym (eqb-true word nop_kind.above a)
 joined_by word small false true branch a b c = joined_below word load_imm_kind (above-sig word small ∙ eqb-true (sig_of word) 14 b)
 joined_by word small false false true a b c = joined_below word branch_kind (above-sig word small ∙ eqb-true (sig_of word) 15 c)
@@ -326,7 +326,7 @@ code_read spots index word kind r f j =
 kind_lacks : (word : ℕ) (kind : Kind) → IsReadable kind → IsBelow word kind → lacks 10 (kind_text word kind) ≡ true
 unfolding kind_text items_of is_word IsBelow
 kind_lacks word kind r f =
-    lacks_append 10 kind.opcode (spaced (items_of word kind)) (and_parts (lacks 32 kind.opcode) (lacks 10 kind.opcode) r.opcode).1
+    lacks_append 10 kind.opcode (spaced_words (items_of word kind)) (and_parts (lacks 32 kind.opcode) (lacks 10 kind.opcode) r.opcode).1
     (spaced_lineless (items_of word kind) (items_words kind.rows (values_of (widths_of kind.rows) word) r.read f))
 
 lines_step : (word : ℕ) (text : List ℕ) → read_lines (line_text word ++ text) ≡ Coded (kind_of word).opcode (items_of word (kind_of word)) ∷ read_lines text

@@ -76,13 +76,13 @@ pub place_here : (spots : Spots) (kind : ℕ) (opcode : Opcode) (all rows : List
     → found ≡ item_mistakes spots 0 all rows item.text → is_of kind found ≡ true
     → item_place spots kind opcode all rows words ≡ Some (record { column = item.column; wanted = wanted_item opcode all rows item.text })
 unfolding item_place
-place_here spots kind opcode all rows words more item found is told here = rw (is, sym told, here) refl
+place_here spots kind opcode all rows words more item found is report here = rw (is, sym report, here) refl
 
 pub place_later : (spots : Spots) (kind : ℕ) (opcode : Opcode) (all rows : List Row) (words more : List Word) (item : Word) (found : List Mistake) → words ≡ item ∷ more
     → found ≡ item_mistakes spots 0 all rows item.text → is_of kind found ≡ false
     → item_place spots kind opcode all (rows_after item.text rows) more ≡ item_place spots kind opcode all rows words
 unfolding item_place
-place_later spots kind opcode all rows words more item found is told other = rw (is, sym told, other) refl
+place_later spots kind opcode all rows words more item found is report other = rw (is, sym report, other) refl
 
 pub place_none : (spots : Spots) (kind : ℕ) (opcode : Opcode) (all rows : List Row) (words : List Word) → words ≡ [] → item_place spots kind opcode all rows words ≡ None
 unfolding item_place

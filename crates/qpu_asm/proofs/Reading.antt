@@ -2,7 +2,7 @@
 use Rattle.std.proofs.Common.{◌≡◌, ℕ, ◌+◌, ◌*◌, ◌^◌, ◌≤◌, ◌<◌, Bool, true, false, ◌==◌, ◌&&◌, ◌||◌, not, nat_lt, List, [], ◌∷◌, length, refl, sym, ◌∙◌, ap, subst, arith, Option, None, Some, Result, Ok, Err, IfOk, IfSome, lit≤, if◌then◌else◌, ltb-true, eqb-true, pow-add, pow_pos, mul-le-mul_right, mul_assoc, mul-le-mul_left, bytes_eq}
 use Rattle.std.proofs.lemmas.Bool.{and_parts, false≢true}
 use Rattle.std.specs.List.{list_all}
-use Rattle.qpu_isa.specs.Fields.{joined, width_of}
+use Rattle.qpu_isa.specs.Fields.{fields_joined, width_of}
 use Rattle.script.specs.Number.{number_of, is_number}
 use Rattle.qpu_asm.specs.Table.{Row, Named, widths_of, fallbacks_of, nop_kind, alu_kind, load_imm_kind, branch_kind}
 use Rattle.qpu_asm.specs.Items.{Spots, read_value, read_plain, or_number, read_number, find_named, read_target, distance, distance_to, is_row, kind_named}
@@ -107,14 +107,14 @@ default_open word rest later row is o =
     open_step word (row_seen row) (rows_seen later) row.fallback (open_first word rest later row is o) (default_small word rest later row is o)
 
 pub defaults_first : (word : ℕ) (rest later : List code.Row) (row : code.Row) → rest ≡ row ∷ later
-    → joined (word * 2 ^ row.width + row.fallback) (widths_of (rows_seen later)) (fallbacks_of (rows_seen later))
-    ≡ joined word (widths_of (rows_seen rest)) (fallbacks_of (rows_seen rest))
-unfolding joined
+    → fields_joined (word * 2 ^ row.width + row.fallback) (widths_of (rows_seen later)) (fallbacks_of (rows_seen later))
+    ≡ fields_joined word (widths_of (rows_seen rest)) (fallbacks_of (rows_seen rest))
+unfolding fields_joined
 defaults_first word rest later row is = rw is refl
 
 pub defaults_none : (word : ℕ) (rest : List code.Row) → length rest ≡ 0
-    → joined word (widths_of (rows_seen rest)) (fallbacks_of (rows_seen rest)) ≡ word
-unfolding joined
+    → fields_joined word (widths_of (rows_seen rest)) (fallbacks_of (rows_seen rest)) ≡ word
+unfolding fields_joined
 defaults_none word rest is = rw (none_left rest is) refl
 
 -- up to the row that is named

@@ -4,7 +4,7 @@ use Rattle.std.proofs.lemmas.{Bool.and_parts, List.take_more, List.flat_map_more
 use Rattle.std.specs.List.{list_all, flat_map}
 use Rattle.qpu_isa.specs.Fields.{width_of, values_of}
 use Rattle.qpu_asm.specs.{declared.table.Row.Row, Table.widths_of, Table.alu_kind, Table.load_imm_kind, Table.branch_kind, Table.nop_kind}
-use Rattle.qpu_asm.specs.{Walk.is_ready, Walk.are_ready, Walk.field_text, Printed.item_texts, Printed.spaced, Printed.rows_text, Printed.kind_of, Printed.line_text}
+use Rattle.qpu_asm.specs.{Walk.is_ready, Walk.are_ready, Walk.field_text, Printed.item_texts, Printed.spaced_words, Printed.rows_text, Printed.kind_of, Printed.line_text}
 use Rattle.qpu_asm.specs.Seen.{row_seen, rows_seen}
 use Rattle.qpu_asm.specs.Table as table
 
@@ -61,8 +61,8 @@ ready_first rest later row is ready =
     (row_facts (row_seen row) parts.0, parts.1)
 
 -- the text of the rows that are left
-text_by : (same : Bool) (item : List ℕ) (items : List (List ℕ)) → spaced (if same then items else item ∷ items) ≡ (if same then [] else 32 ∷ item) ++ spaced items
-unfolding spaced
+text_by : (same : Bool) (item : List ℕ) (items : List (List ℕ)) → spaced_words (if same then items else item ∷ items) ≡ (if same then [] else 32 ∷ item) ++ spaced_words items
+unfolding spaced_words
 text_by true item items = refl
 text_by false item items = refl
 
@@ -73,7 +73,7 @@ unfolding item_texts values_of
 text_first rest later row word low value is at field = rw (is, field, at) (text_by _ _ _)
 
 pub text_none : (rest : List Row) (word : ℕ) → length rest ≡ 0 → rows_text (rows_seen rest) word ≡ []
-unfolding item_texts spaced
+unfolding item_texts spaced_words
 text_none rest word is = ap (λ rows. rows_text (rows_seen rows) word) (none_left rest is)
 
 -- one more line

@@ -2,7 +2,7 @@
 use Rattle.std.specs.Prelude.{ℕ, ◌+◌, ◌==◌, ◌≡◌, Bool, ◌&&◌, ◌||◌, nat_lt, nat_le, List, [], ◌∷◌, ◌++◌, if◌then◌else◌, Option, None, Some, Result, Ok, Err}
 use Rattle.field_words.specs.declared.stop.Stop.{Stop}
 use Rattle.field_words.specs.declared.stop.Stop.TheVariants as stop
-use Rattle.qpu_isa.specs.Fields.{joined}
+use Rattle.qpu_isa.specs.Fields.{fields_joined}
 use Rattle.script.specs.Lines.{before, behind}
 use Rattle.qpu_asm.specs.{declared.fault.AsmFault.AsmFault, declared.fault.Mistake.Mistake, Table.Row, Table.Kind, Table.widths_of, Lines.Line, Lines.Coded, Faults.text_faults}
 use Rattle.qpu_asm.specs.{Items.Spots, Items.read_value, Items.is_row, Items.kind_named, Labels.size_of, Labels.read_lines, Labels.spots_of}
@@ -21,7 +21,7 @@ row_values spots index (row ∷ rows) (item ∷ items) =
     else row.fallback ∷ row_values spots index rows (item ∷ items)
 
 unfoldable pub kind_word : Spots → ℕ → List (List ℕ) → Kind → ℕ
-kind_word spots index items kind = joined kind.above (widths_of kind.rows) (row_values spots index kind.rows items)
+kind_word spots index items kind = fields_joined kind.above (widths_of kind.rows) (row_values spots index kind.rows items)
 
 abbrev pub code_word : Spots → ℕ → List (List ℕ) → Option Kind → ℕ
 code_word spots index items None = 0

@@ -69,12 +69,12 @@ text_faults text = lines_faults (spots_of text) 1 0 (read_lines text)
 abbrev pub IsUpTo : AsmFault → AsmFault → Type 0
 IsUpTo one other = NotAfter (one.line, one.kind) (other.line, other.kind)
 
--- the faults as rules that all stand
-abbrev pub standing : List AsmFault → List (Question AsmFault)
-standing faults = map (Ask true) faults
+-- the faults as rules that are all broken
+abbrev pub all_broken : List AsmFault → List (Question AsmFault)
+all_broken faults = map (Ask true) faults
 
 -- Ok comes only where a text has no fault, and a fault that is answered is the least of all.
 abbrev pub AnswersLeast : {X : Type 0} → List AsmFault → Result X (Stop AsmFault) → Type 0
 AnswersLeast faults (Ok made) = faults ≡ []
-AnswersLeast faults (Err (Fault fault)) = IsLeast IsUpTo (standing faults) fault
+AnswersLeast faults (Err (Fault fault)) = IsLeast IsUpTo (all_broken faults) fault
 AnswersLeast faults (Err NoMemory) = Unit {0}

@@ -30,12 +30,12 @@ kind_of word =
     if word == nop_kind.above then nop_kind
     else (if sig_of word == 14 then load_imm_kind else (if sig_of word == 15 then branch_kind else alu_kind))
 
-unfoldable pub spaced : List (List ℕ) → List ℕ
-spaced [] = []
-spaced (item ∷ items) = 32 ∷ (item ++ spaced items)
+unfoldable pub spaced_words : List (List ℕ) → List ℕ
+spaced_words [] = []
+spaced_words (item ∷ items) = 32 ∷ (item ++ spaced_words items)
 
 abbrev pub rows_text : List Row → ℕ → List ℕ
-rows_text rows word = spaced (item_texts rows (values_of (widths_of rows) word))
+rows_text rows word = spaced_words (item_texts rows (values_of (widths_of rows) word))
 
 -- the opcode, and each item after a space
 unfoldable pub kind_text : ℕ → Kind → List ℕ

@@ -1,7 +1,7 @@
 -- The kinds of instructions and their items. The items stand for the fields of a word from the highest bit down, without
 -- gaps, so that a row's width is all that tells its place.
 use Rattle.std.specs.Prelude.{ℕ, ◌+◌, ◌^◌, Bool, true, false, List, [], ◌∷◌, ◌++◌, map, codes}
-use Rattle.qpu_isa.specs.Fields.{joined}
+use Rattle.qpu_isa.specs.Fields.{fields_joined}
 
 -- a value's name
 pub record Named : Type 0 where
@@ -37,21 +37,21 @@ abbrev pub fallbacks_of : List Row → List ℕ
 fallbacks_of rows = map (λ row. row.fallback) rows
 
 -- names of values one after another, from a number on
-abbrev pub numbered : ℕ → List (List ℕ) → List Named
-numbered value [] = []
-numbered value (name ∷ names) = record { name = name; value = value } ∷ numbered (value + 1) names
+abbrev pub names_numbered : ℕ → List (List ℕ) → List Named
+names_numbered value [] = []
+names_numbered value (name ∷ names) = record { name = name; value = value } ∷ names_numbered (value + 1) names
 
 abbrev pub add_operations : List Named
 add_operations =
-    numbered 0 (codes "nop" ∷ codes "fadd" ∷ codes "fsub" ∷ codes "fmin" ∷ codes "fmax" ∷ codes "fminabs" ∷ codes "fmaxabs" ∷ codes "ftoi"
+    names_numbered 0 (codes "nop" ∷ codes "fadd" ∷ codes "fsub" ∷ codes "fmin" ∷ codes "fmax" ∷ codes "fminabs" ∷ codes "fmaxabs" ∷ codes "ftoi"
     ∷ codes "itof" ∷ [])
-    ++ (numbered 12 (codes "add" ∷ codes "sub" ∷ codes "shr" ∷ codes "asr" ∷ codes "ror" ∷ codes "shl" ∷ codes "min" ∷ codes "max" ∷ codes "and"
+    ++ (names_numbered 12 (codes "add" ∷ codes "sub" ∷ codes "shr" ∷ codes "asr" ∷ codes "ror" ∷ codes "shl" ∷ codes "min" ∷ codes "max" ∷ codes "and"
     ∷ codes "or" ∷ codes "xor" ∷ codes "not" ∷ codes "clz" ∷ [])
-    ++ numbered 30 (codes "v8adds" ∷ codes "v8subs" ∷ []))
+    ++ names_numbered 30 (codes "v8adds" ∷ codes "v8subs" ∷ []))
 
 abbrev pub multiply_operations : List Named
 multiply_operations =
-    numbered 0 (codes "nop" ∷ codes "fmul" ∷ codes "mul24" ∷ codes "v8muld" ∷ codes "v8min" ∷ codes "v8max" ∷ codes "v8adds" ∷ codes "v8subs" ∷ [])
+    names_numbered 0 (codes "nop" ∷ codes "fmul" ∷ codes "mul24" ∷ codes "v8muld" ∷ codes "v8min" ∷ codes "v8max" ∷ codes "v8adds" ∷ codes "v8subs" ∷ [])
 
 -- which registers are written
 abbrev pub address_rows : List Row
@@ -109,7 +109,7 @@ branch_kind = record { opcode = codes "br"; above = 15; rows = branch_rows }
 
 -- `nop` is `alu` without items, and takes none
 unfoldable pub nop_word : ℕ
-nop_word = joined 0 (widths_of alu_rows) (fallbacks_of alu_rows)
+nop_word = fields_joined 0 (widths_of alu_rows) (fallbacks_of alu_rows)
 
 abbrev pub nop_kind : Kind
 nop_kind = record { opcode = codes "nop"; above = 0x100009e7009e7000; rows = [] }

@@ -2,7 +2,7 @@
 -- crate claims.
 use Rattle.std.specs.Prelude.{ℕ, ◌+◌, ◌*◌, ◌^◌, ◌≤◌, ◌≡◌, ◌==◌, Bool, true, not, ◌&&◌, ◌||◌, nat_lt, nat_le, List, [], ◌∷◌, ◌++◌, length, if◌then◌else◌, Option, Result, None, Some, Ok, Err}
 use Rattle.std.specs.List.{list_all}
-use Rattle.qpu_isa.specs.Fields.{joined, width_of}
+use Rattle.qpu_isa.specs.Fields.{fields_joined, width_of}
 use Rattle.script.specs.Lines.{before, behind}
 use Rattle.qpu_asm.specs.declared.fault.Mistake.TheVariants.{UnknownWord, BadOperand, LabelTwice}
 use Rattle.qpu_asm.specs.Items.{Spots, mistake_number, read_value, is_row, has_row, has_value, kind_named}
@@ -82,7 +82,7 @@ word_or_fault word (Some mistake) = Err mistake
 
 -- the rows that are left have their defaults
 unfoldable pub closed_word : Partial → Result ℕ Mistake
-closed_word partial = word_or_fault (joined partial.word (widths_of partial.rows) (fallbacks_of partial.rows)) partial.fault
+closed_word partial = word_or_fault (fields_joined partial.word (widths_of partial.rows) (fallbacks_of partial.rows)) partial.fault
 
 unfoldable pub kind_code : Spots → ℕ → List (List ℕ) → Kind → Result ℕ Mistake
 kind_code spots index items kind =

@@ -1,6 +1,6 @@
 //! The items of an instruction, and their values.
 ghost use Rattle.std.specs.Prelude.{◌≡◌, ◌≤◌, ◌<◌, ◌*◌, ◌+◌, ◌^◌, ◌∷◌, true, map, MatchOption, IfOk, Some, None, if◌then◌else◌};
-ghost use Rattle.qpu_isa.specs.Fields.{joined};
+ghost use Rattle.qpu_isa.specs.Fields.{fields_joined};
 ghost use Rattle.qpu_asm.specs.Table.{widths_of, fallbacks_of};
 ghost use Rattle.qpu_asm.specs.Items.{find_named, read_number as number_read, read_plain as plain_read, distance as distance_by, read_target as target_read, is_row as row_test, has_row as row_among, kind_named as kind_by};
 ghost use Rattle.qpu_asm.specs.Walk.{least_of as least_by, with_fault as faulted, with_value as valued, skip_to as skipped, read_named as named_read, read_item as item_read, closed_word as word_by, kind_code, code_of, IsOpen};
@@ -61,7 +61,7 @@ impl Partial {
         self.rows
     }
 
-    /// The same as if the items had no mistake so far.
+    /// The items so far as if they had no mistake.
     pub fn without_fault(self) -> Partial
         ensures { result ≡ record { word = self.word; rows = self.rows; fault = None } }
     {
@@ -135,7 +135,7 @@ fn closed_word(partial: Partial) -> Result<u64, Mistake>
 #[tactic(auto, using(crate::proofs::Reading::default_narrow))]
 fn with_defaults(word: u64, rows: &[Row]) -> u64
     requires { IsOpen word (rows_seen rows.now) }
-    ensures { result ≡ joined word (widths_of (rows_seen rows.now))
+    ensures { result ≡ fields_joined word (widths_of (rows_seen rows.now))
         (fallbacks_of (rows_seen rows.now)) }
 {
     let mut rest = rows;

@@ -1,4 +1,4 @@
 pub mod Fields
 pub mod Words
-pub mod Told
+pub mod Report
 pub mod Opened

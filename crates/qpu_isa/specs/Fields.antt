@@ -13,10 +13,10 @@ values_of [] word = []
 values_of (width ∷ widths) word = word / 2 ^ width_of widths % 2 ^ width ∷ values_of widths word
 
 -- the word that has these fields below what stands above
-unfoldable pub joined : ℕ → List ℕ → List ℕ → ℕ
-joined above [] values = above
-joined above (width ∷ widths) [] = above
-joined above (width ∷ widths) (value ∷ values) = joined (above * 2 ^ width + value) widths values
+unfoldable pub fields_joined : ℕ → List ℕ → List ℕ → ℕ
+fields_joined above [] values = above
+fields_joined above (width ∷ widths) [] = above
+fields_joined above (width ∷ widths) (value ∷ values) = fields_joined (above * 2 ^ width + value) widths values
 
 -- an ALU instruction's fields from bit 63 down, and the others' from bit 59 down, below the signal
 abbrev pub alu_widths : List ℕ

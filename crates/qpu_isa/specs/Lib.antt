@@ -3,5 +3,5 @@ pub mod Inst
 pub mod Fields
 pub mod Shader
 pub mod Terms
-pub mod Told
+pub mod Report
 pub mod Setups

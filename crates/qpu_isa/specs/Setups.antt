@@ -31,5 +31,5 @@ unfoldable pub takes_with : ℕ → ℕ → ℕ → Bool
 takes_with word pending0 pending1 = reads_uniform_of word || has_setup word pending0 pending1
 
 -- What a TMU keeps after an instruction, where an item stands for it: nothing where it sends, and one more where it is written.
-unfoldable pub kept : ℕ → ℕ → ℕ → List ℕ → List ℕ
-kept word tmu item items = if writes_s word tmu then [] else (if writes_tmu word tmu then items ++ (item ∷ []) else items)
+unfoldable pub setups_kept : ℕ → ℕ → ℕ → List ℕ → List ℕ
+setups_kept word tmu item items = if writes_s word tmu then [] else (if writes_tmu word tmu then items ++ (item ∷ []) else items)

@@ -3,7 +3,7 @@
 
 ghost use Rattle.std.specs.Prelude.{◌≡◌, IfSome};
 ghost use Rattle.qpu_isa.specs.Terms.{is_plain, is_uniform_operand, operand_register, loaded_value, is_max_with_zero, first_register, is_min_with_uniform, is_add_with_uniform};
-ghost use Rattle.qpu_isa.specs.Told.{IsRegister};
+ghost use Rattle.qpu_isa.specs.Report.{IsRegister};
 
 use crate::inst::Reg;
 use crate::word::{

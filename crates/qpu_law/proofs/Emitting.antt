@@ -57,11 +57,11 @@ address_member code k (inr last) =
     (subst (λ b. Member k (if b then count_of code (length code) ∷ [] else [])) (sym last.opened) (inl last.is))
 
 pub streams_serve_law : StreamsServe
-streams_serve_law h buffers shader told emitted = record {
+streams_serve_law h buffers shader report emitted = record {
   addresses = λ k address.
-      (let found = stands_at shader.address_words 0 k (subst (λ xs. Member k xs) (sym told.address_words) (address_member h.code k address)) in
+      (let found = stands_at shader.address_words 0 k (subst (λ xs. Member k xs) (sym report.address_words) (address_member h.code k address)) in
       sym (ap (λ c. slice_index h.words c) found.is) ∙ emitted.addresses found.at found.below);
   samples = λ n sample.
-      (let found = stands_at shader.samples no_sample (sample_of h.code n) (subst (λ xs. Member (sample_of h.code n) xs) (sym told.samples) (sample_member h.code n sample)) in
+      (let found = stands_at shader.samples no_sample (sample_of h.code n) (subst (λ xs. Member (sample_of h.code n) xs) (sym report.samples) (sample_member h.code n sample)) in
       subst (λ s. IsSampleIn (IsOneOf buffers) (λ k. slice_index h.words k) s) found.is (emitted.samples found.at found.below));
 }

@@ -2,28 +2,28 @@
 use Rattle.std.proofs.Common.{◌≡◌, ◌<◌, ◌≤◌, ℕ, ◌+◌, false, List, length, arith, refl, inl, inr, ◌-◌, Bool, ◌&&◌, ◌||◌, sym, ap, ◌∙◌, ◌≢◌, ◌⊎◌, zero, suc, ◌*◌, ◌/◌, ◌%◌, ◌^◌, true, ◌==◌, not, [], ◌∷◌, Option, Some, None, subst, nat_lt, nat_le, if◌then◌else◌, rules}
 use Rattle.std.proofs.lemmas.Bool.{or_from, or_parts, le-leb, and_from, or_left, or_right, or_cases, cases_Bool, eqb-true, false_from_ne_true, true≢false, not-false, not_from_false, and_parts, lt-ltb, not_from_true}
 use Rattle.std.proofs.lemmas.{Grind.common_steps, Bool.Decides.nat_tests}
-use Rattle.field_words.specs.Questions.{each, answered}
-use Rattle.field_words.proofs.{Questions.none_stands, Nones.front_none, Nones.rest_none, Nones.each_none, Nones.none_answered}
+use Rattle.field_words.specs.Questions.{each, with_answers}
+use Rattle.field_words.proofs.{Questions.none_broken, Nones.front_none, Nones.rest_none, Nones.each_none, Nones.none_answered}
 use Rattle.shader_flow.specs.Flow.{end_of, checked_of, word, in_slots, after_switch, is_target, makes_target, is_sound_branch, leads_outside, is_threaded}
 use Rattle.shader_flow.specs.Rules.{s3, s4, s5, s6, s7, s8, s9, s10, s11, s12, s13, s27}
 use Rattle.shader_flow.specs.{Bounded.is_back, Bounded.some_below, Pending.takes}
 use Rattle.uniform_stream.specs.Rules.{s14, s15, s17, s18, s19, s20, s21, s22, s23, s25, after_address_write, is_full}
 use Rattle.shader_check.specs.Rules.{s2, s16, s24, s26, index_questions, questions_at, fault_at, whole_questions, shader_questions, uses_upper}
-use Rattle.qpu_law.specs.Home.{HasNoFault, readied, done, Home, IsQuiet, MarkIs, IsAt, IsExact, IsRoot, IsBlank, GoesTo, StaysInCode, ArePending, NeverWild}
+use Rattle.qpu_law.specs.Home.{HasNoFault, thread_readied, turn_done, Home, IsQuiet, MarkIs, IsAt, IsExact, IsRoot, IsBlank, GoesTo, StaysInCode, ArePending, NeverWild}
 use Rattle.std.specs.Prelude.{unwrap_or}
 use Rattle.qpu_isa.specs.Terms.{is_branch, is_switch, is_address_write, is_end, target_of, reads_upper, names_upper}
-use Rattle.qpu_isa.specs.{Setups.kept, Word.cond_add_of, Word.cond_mul_of, Word.imm_of, Word.cond_of}
-use Rattle.qpu_machine.specs.Writes.{awake, written_at, added, multiplied, written, stored, loaded, went_on, worked, led_to, fate_of, rested, asked, pointer_after, add_address, mul_address}
+use Rattle.qpu_isa.specs.{Setups.setups_kept, Word.cond_add_of, Word.cond_mul_of, Word.imm_of, Word.cond_of}
+use Rattle.qpu_machine.specs.Writes.{awake, written_at, after_add, after_multiply, after_writes, after_setup, after_load, went_on, after_work, led_to, fate_of, after_rest, ask_made, pointer_after, add_address, mul_address}
 use Rattle.qpu_machine.specs.declared.state.Fate.TheVariants.{Ends, Switches, GoesOn}
 use Rattle.qpu_machine.specs.declared.state.{Thread.Thread, Mark.Mark}
-use Rattle.qpu_machine.specs.{Operands.add_row, Operands.mul_row, Row.mask_of, Step.executed_with, Step.executed}
+use Rattle.qpu_machine.specs.{Operands.add_row, Operands.mul_row, Row.mask_of, Step.executed_with, Step.turn_executed}
 use Rattle.shader_flow.proofs.Bounded.{some_below_here, some_below_found, some_below_not}
 use Rattle.machine_plan.specs.Choice.{word_at}
 use Rattle.qpu_machine.specs.Wild as wild
 
--- What no rule's standing says of a checked instruction.
+-- Where no rule is broken, what follows of a checked instruction.
 
--- no rule stands at the instruction
+-- no rule is broken at the instruction
 pub record IsFineAt (code : List ℕ) (i : ℕ) : Type 0 where
   pub no3 : s3 code i ≡ false
   pub no4 : s4 code i ≡ false
@@ -53,9 +53,9 @@ pub record IsFineAt (code : List ℕ) (i : ℕ) : Type 0 where
 pub fine_at : (code : List ℕ) → HasNoFault code → (i : ℕ) → i < checked_of code → IsFineAt code i
 unfolding shader_questions questions_at index_questions
 fine_at code none i inside =
-    let all = front_none (each (questions_at code) 0 (checked_of code)) (answered (fault_at (length code)) (whole_questions code)) none in
+    let all = front_none (each (questions_at code) 0 (checked_of code)) (with_answers (fault_at (length code)) (whole_questions code)) none in
     let here = each_none (questions_at code) 0 (checked_of code) i all (omega arith) (omega (arith, inside)) in
-    let r3 = none_stands (index_questions code i) (none_answered (fault_at i) (index_questions code i) here) in
+    let r3 = none_broken (index_questions code i) (none_answered (fault_at i) (index_questions code i) here) in
     record {
       no3 = r3.0;
       no4 = r3.1.0;
@@ -83,14 +83,14 @@ fine_at code none i inside =
       no27 = r3.1.1.1.1.1.1.1.1.1.1.1.1.1.1.1.1.1.1.1.1.1.1.1.0;
     }
 
--- no rule on the whole shader stands
+-- no rule on the whole shader is broken
 pub record IsFineWhole (code : List ℕ) : Type 0 where
   pub no2 : s2 code ≡ false
   pub no26 : s26 code ≡ false
 
 pub fine_whole : (code : List ℕ) → HasNoFault code → IsFineWhole code
 unfolding shader_questions whole_questions
-fine_whole code none = search (rules, arith, rest_none, none_stands, none_answered)
+fine_whole code none = search (rules, arith, rest_none, none_broken, none_answered)
 
 -- so the code has the two instructions after the program end
 pub end_inside : (code : List ℕ) → HasNoFault code → end_of code + 2 < length code
@@ -115,37 +115,37 @@ pub record IsWent (word : ℕ) (words : List ℕ) (t next : Thread) : Type 0 whe
   pub last2 : next.last2 ≡ t.last1
   pub last3 : next.last3 ≡ t.last2
 
-pub is_went : (word uniform uniforms : ℕ) (words : List ℕ) (t : Thread) → IsWent word words t (done word uniform uniforms words t).thread
-unfolding awake executed executed_with rested worked went_on loaded stored written multiplied added written_at
+pub is_went : (word uniform uniforms : ℕ) (words : List ℕ) (t : Thread) → IsWent word words t (turn_done word uniform uniforms words t).thread
+unfolding awake turn_executed executed_with after_rest after_work went_on after_load after_setup after_writes after_multiply after_add written_at
 is_went word uniform uniforms words t = record { job = refl; threaded = refl; place = refl; last1 = refl; last2 = refl; last3 = refl }
 
 -- the setup words
-pub setups0_are : (word uniform uniforms : ℕ) (words : List ℕ) (t : Thread) → (done word uniform uniforms words t).thread.setups0.items ≡ kept word 0 uniform t.setups0.items
-unfolding awake executed executed_with rested worked went_on loaded stored written multiplied added written_at
+pub setups0_are : (word uniform uniforms : ℕ) (words : List ℕ) (t : Thread) → (turn_done word uniform uniforms words t).thread.setups0.items ≡ setups_kept word 0 uniform t.setups0.items
+unfolding awake turn_executed executed_with after_rest after_work went_on after_load after_setup after_writes after_multiply after_add written_at
 setups0_are word uniform uniforms words t = refl
 
-pub setups1_are : (word uniform uniforms : ℕ) (words : List ℕ) (t : Thread) → (done word uniform uniforms words t).thread.setups1.items ≡ kept word 1 uniform t.setups1.items
-unfolding awake executed executed_with rested worked went_on loaded stored written multiplied added written_at
+pub setups1_are : (word uniform uniforms : ℕ) (words : List ℕ) (t : Thread) → (turn_done word uniform uniforms words t).thread.setups1.items ≡ setups_kept word 1 uniform t.setups1.items
+unfolding awake turn_executed executed_with after_rest after_work went_on after_load after_setup after_writes after_multiply after_add written_at
 setups1_are word uniform uniforms words t = refl
 
 -- the fate is by the instruction two before
-pub fate_is : (word uniform uniforms : ℕ) (words : List ℕ) (t : Thread) → (done word uniform uniforms words t).leaves.fate ≡ fate_of t
-unfolding awake executed executed_with fate_of
+pub fate_is : (word uniform uniforms : ℕ) (words : List ℕ) (t : Thread) → (turn_done word uniform uniforms words t).leaves.fate ≡ fate_of t
+unfolding awake turn_executed executed_with fate_of
 fate_is word uniform uniforms words t = refl
 
 -- the request, by what the two units came to
 pub asked_is : (word uniform uniforms : ℕ) (words : List ℕ) (t : Thread)
-    → (done word uniform uniforms words t).leaves.asked
-    ≡ asked word uniform (add_row (readied uniforms words t) word uniform words) (mul_row (readied uniforms words t) word uniform words) (readied uniforms words t)
-unfolding executed executed_with
+    → (turn_done word uniform uniforms words t).leaves.asked
+    ≡ ask_made word uniform (add_row (thread_readied uniforms words t) word uniform words) (mul_row (thread_readied uniforms words t) word uniform words) (thread_readied uniforms words t)
+unfolding turn_executed executed_with
 asked_is word uniform uniforms words t = refl
 
 -- the uniform pointer
 pub uniforms_are : (word uniform uniforms : ℕ) (words : List ℕ) (t : Thread)
-    → (done word uniform uniforms words t).thread.uniforms
-    ≡ pointer_after (mul_address word) (mask_of (cond_mul_of word) words 16) (mul_row (readied uniforms words t) word uniform words)
-    (pointer_after (add_address word) (mask_of (cond_add_of word) words 0) (add_row (readied uniforms words t) word uniform words) uniforms)
-unfolding awake executed executed_with rested worked went_on loaded stored written multiplied added written_at
+    → (turn_done word uniform uniforms words t).thread.uniforms
+    ≡ pointer_after (mul_address word) (mask_of (cond_mul_of word) words 16) (mul_row (thread_readied uniforms words t) word uniform words)
+    (pointer_after (add_address word) (mask_of (cond_add_of word) words 0) (add_row (thread_readied uniforms words t) word uniform words) uniforms)
+unfolding awake turn_executed executed_with after_rest after_work went_on after_load after_setup after_writes after_multiply after_add written_at
 uniforms_are word uniform uniforms words t = refl
 
 -- What marks say.
@@ -360,8 +360,8 @@ jumps h n words t next p none low at led went =
     let exact = led_by h n t p at led in
     let code = h.code in
     let b = n - 3 in
-    let told = exact.leads p led in
-    let branch : is_branch (word code b) ≡ true = sym (ap is_branch exact.is) ∙ told.0 in
+    let report = exact.leads p led in
+    let branch : is_branch (word code b) ≡ true = sym (ap is_branch exact.is) ∙ report.0 in
     let b_in : b < checked_of code = omega (arith, in_checked code n none at.inside) in
     let fine = fine_at code none b b_in in
     let sound = sound_says code b (branch_sound code b fine branch) in
@@ -369,7 +369,7 @@ jumps h n words t next p none low at led went =
     let target : is_target code to ≡ true = makes_it code none b b_in branch in
     let room : b + 4 ≤ end_of code = branch_room code b fine branch in
     let leads : p ≡ h.place + 8 * to =
-    told.1 ∙ (ap (λ w. (h.place + 8 * b + 32 + imm_of w) % 2 ^ 32) exact.is
+    report.1 ∙ (ap (λ w. (h.place + 8 * b + 32 + imm_of w) % 2 ^ 32) exact.is
     ∙ place_of_target h.place b (imm_of (word code b)) to (end_of code) sound.whole refl sound.inside (omega (arith, low, end_inside code none))) in
     let quiet : (j : ℕ) → b < j → j ≤ b + 3 → IsQuiet (word code j) = λ j after near. slot_quiet code none b j b_in branch after near in
     let back = exact.back in
@@ -424,7 +424,7 @@ next_index h n words t next none low at lives went None stays =
 pub stays_in_code_law : StaysInCode
 stays_in_code_law h n uniform uniforms words t none low at lives = search (rules, arith, next_index, fate_is, is_went)
 
--- No instruction of a checked shader is wild.
+-- No instruction of a checked shader is undefined.
 
 -- the instruction is tame where its front test fails, or what stands behind it does
 front : (a b : Bool) → (a ≡ true → b ≡ false) → (a && b) ≡ false

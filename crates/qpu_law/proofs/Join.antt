@@ -10,7 +10,7 @@ use Rattle.qpu_isa.specs.Setups.{is_direct, adds_direct, muls_direct}
 use Rattle.shader_flow.specs.{Flow.word, Flow.checked_of, Flow.end_of, Pending.count_of, Pending.pending_of, Pending.takes}
 use Rattle.clamp_facts.specs.Facts.{is_clamped, is_immediate}
 use Rattle.clamp_facts.proofs.Clamps.{clamped_found, clamps_parts}
-use Rattle.shader_check.specs.Info.{held, asks, is_sample, sample_tmu, is_direct_sample, clamp_parts, sample_parts, sample_of}
+use Rattle.shader_check.specs.Info.{setups_held, asks, is_sample, sample_tmu, is_direct_sample, clamp_parts, sample_parts, sample_of}
 use Rattle.shader_check.specs.Rules.{s24, direct_by_add, direct_by_mul, is_clamped_write, is_exact_address_write}
 use Rattle.shader_check.proofs.{Clean.clean, Parts.directs, Positions.clamp_parts_one, Setups.sets_one, Setups.s_writes}
 use Rattle.shader_check.proofs.Roles.{direct_parts, reads_takes, sets_takes, sum_parts, passed}
@@ -23,12 +23,12 @@ use Rattle.texture_layouts.specs.Fits.{texture_questions}
 use Rattle.qpu_alu.specs.Operation.{add_result_of}
 use Rattle.qpu_machine.specs.declared.state.{Ask.TheVariants.Direct, Ask.TheVariants.Texture, Asked.Asked, Thread.Thread}
 use Rattle.qpu_machine.specs.Operands.{operand, sums, add_row, mul_row}
-use Rattle.qpu_machine.specs.{Row.lanes, Wild.takes_one, Wild.is_wild, Step.ThreadTurn, Step.executed, Step.word_plan, Step.thread_plan}
-use Rattle.qpu_machine.specs.Writes.{four, ask_of, asked, awake, past_uniform, switches}
+use Rattle.qpu_machine.specs.{Row.lanes, Wild.takes_one, Wild.is_wild, Step.ThreadTurn, Step.turn_executed, Step.word_plan, Step.thread_plan}
+use Rattle.qpu_machine.specs.Writes.{four, ask_of, ask_made, awake, past_uniform, switches}
 use Rattle.qpu_machine.specs.declared.state.Fate.TheVariants.{Ends, Switches}
 use Rattle.qpu_law.specs.{Asks.IsWordIn, Asks.IsFineAsk, Samples.AsksAreFine, Facts.FactsHold}
 use Rattle.promises.specs.Rights.{IsOneOf}
-use Rattle.qpu_law.specs.Home.{Home, readied, HasNoFault, IsAt, ArePending, Lands, done}
+use Rattle.qpu_law.specs.Home.{Home, thread_readied, HasNoFault, IsAt, ArePending, Lands, turn_done}
 use Rattle.qpu_law.specs.Stream.{uniform_at, held_words, AreSetups}
 use Rattle.qpu_law.specs.Thread.{IsHome, IsThread, HasSamples, Stands, Left, ThreadsKeep}
 use Rattle.qpu_law.proofs.Going.{asked_is, fine_at, in_checked, fate_is, is_went, ends, stays_in_code_law, checked_is, never_wild, takes_same}
@@ -107,7 +107,7 @@ direct_is code n = refl
 
 direct_fine : (h : Home) (buffers region : List Interval) (m : List ℕ) (n u p : ℕ) (words : List ℕ) (t : Thread) → IsHome m region h → HasSamples buffers h → IsThread h n t
     → (takes h.code n ≡ true → u ≡ uniform_at h n) → is_sample h.code n ≡ true → is_direct_sample h.code n ≡ true → is_clamped_write h.code n ≡ true
-    → IsFineAsk (IsOneOf buffers) (Direct (add_row (readied p words t) (word h.code n) u words))
+    → IsFineAsk (IsOneOf buffers) (Direct (add_row (thread_readied p words t) (word h.code n) u words))
 direct_fine h buffers region m n u p words t home has is taken sample direct clamp =
     let code = h.code in
     let w = word code n in
@@ -120,24 +120,24 @@ direct_fine h buffers region m n u p words t home has is taken sample direct cla
     let set = setups_are h n in
     let u_is : u ≡ s.source + s.place = taken (reads_takes code n inside (sum_parts w parts.sum).0) ∙ (sym positions.0 ∙ (sym set.first ∙ s.base)) in
     let room = s.direct (direct_is code n ∙ direct) in
-    let row = sum_row (readied p words t) w u words parts.plain (alu_loads_not w (sum_alu w parts.sum)) in
+    let row = sum_row (thread_readied p words t) w u words parts.plain (alu_loads_not w (sum_alu w parts.sum)) in
     let within : Interval = record { place = s.place; size = s.size } in
-    let each : (e : ℕ) → e < 16 → IsWordIn within (slice_index (add_row (readied p words t) w u words) e) =
+    let each : (e : ℕ) → e < 16 → IsWordIn within (slice_index (add_row (thread_readied p words t) w u words) e) =
     λ e below.
-    (let told = carried_operand h found.0 n u p words t (add_a_of w) parts.reg is.at is.facts carries.0 (first_is w parts.reg parts.first) e below in
-    address_in (slice_index (operand (readied p words t) w (add_a_of w) u words) e) u s.source s.place (uniform_at h found.0) s.size (told.clamped carries.1) u_is
+    (let report = carried_operand h found.0 n u p words t (add_a_of w) parts.reg is.at is.facts carries.0 (first_is w parts.reg parts.first) e below in
+    address_in (slice_index (operand (thread_readied p words t) w (add_a_of w) u words) e) u s.source s.place (uniform_at h found.0) s.size (report.clamped carries.1) u_is
     (omega (arith, room, set.second ∙ positions.1)) (has.low s.place s.size s.named) (has.page s.place s.size s.named)
-    (slice_index (add_row (readied p words t) w u words) e) (sum_lane (readied p words t) w u words e below parts.plain parts.sum)) in
+    (slice_index (add_row (thread_readied p words t) w u words) e) (sum_lane (thread_readied p words t) w u words e below parts.plain parts.sum)) in
     record {
       place = s.place;
       size = s.size;
       named = s.named;
       reads = subst (λ r. Every (IsWordIn within) r) (sym row)
-          (every_sum (IsWordIn within) (op_add_of w) (operand (readied p words t) w (add_a_of w) u words) (operand (readied p words t) w (add_b_of w) u words) words
+          (every_sum (IsWordIn within) (op_add_of w) (operand (thread_readied p words t) w (add_a_of w) u words) (operand (thread_readied p words t) w (add_b_of w) u words) words
           (λ e below. subst (λ r. IsWordIn within (slice_index r e)) row (each e below)));
     }
 
-parts_by : (code : List ℕ) (n tmu : ℕ) → is_direct_sample code n ≡ false → sample_tmu (word code n) ≡ tmu → sample_parts code n ≡ held code tmu n ++ (n ∷ [])
+parts_by : (code : List ℕ) (n tmu : ℕ) → is_direct_sample code n ≡ false → sample_tmu (word code n) ≡ tmu → sample_parts code n ≡ setups_held code tmu n ++ (n ∷ [])
 unfolding sample_parts
 parts_by code n tmu direct tmu_is = grind (arith, common_steps, nat_tests)
 
@@ -156,9 +156,9 @@ texture_fine h buffers n tmu u items has sample direct tmu_is items_are u_is =
     let code = h.code in
     let s = has.samples n sample in
     let set = setups_are h n in
-    let parts : sample_parts code n ≡ held code tmu n ++ (n ∷ []) = parts_by code n tmu direct tmu_is in
+    let parts : sample_parts code n ≡ setups_held code tmu n ++ (n ∷ []) = parts_by code n tmu direct tmu_is in
     let all : items ++ (u ∷ []) ≡ map (uniform_at h) (sample_parts code n) =
-    ap (λ xs. xs ++ (u ∷ [])) items_are ∙ (ap (λ v. held_words h tmu n ++ (v ∷ [])) u_is ∙ (sym (map-append (uniform_at h) (held code tmu n) (n ∷ [])) ∙ ap (map (uniform_at h)) (sym parts))) in
+    ap (λ xs. xs ++ (u ∷ [])) items_are ∙ (ap (λ v. held_words h tmu n ++ (v ∷ [])) u_is ∙ (sym (map-append (uniform_at h) (setups_held code tmu n) (n ∷ [])) ∙ ap (map (uniform_at h)) (sym parts))) in
     let slot : (k : ℕ) → slice_index (items ++ (u ∷ [])) k ≡ parts_word h n k = λ k. ap (λ xs. slice_index xs k) all ∙ slot_by h n k in
     let one_is = slot 1 ∙ sym set.second in
     let two_is = slot 2 ∙ sym set.third in
@@ -210,7 +210,7 @@ ask_by : (h : Home) (buffers region : List Interval) (m : List ℕ) (n u p tmu :
     → (takes h.code n ≡ true → u ≡ uniform_at h n) → is_sample h.code n ≡ true → tmu < 2 → writes_s (word h.code n) tmu ≡ true → sample_tmu (word h.code n) ≡ tmu
     → items ≡ held_words h tmu n → (pending_of h.code tmu n == 0) ≡ c
     → IsFineAsk (IsOneOf buffers)
-    (if c then Direct (if add_names (word h.code n) (s_address tmu) then add_row (readied p words t) (word h.code n) u words else product) else Texture (four (items ++ (u ∷ []))))
+    (if c then Direct (if add_names (word h.code n) (s_address tmu) then add_row (thread_readied p words t) (word h.code n) u words else product) else Texture (four (items ++ (u ∷ []))))
 ask_by h buffers region m n u p tmu words product items t true home has is taken sample small writes tmu_is items_are none =
     let w = word h.code n in
     let inside : n < checked_of h.code = in_checked h.code n home.sound is.at.inside in
@@ -218,7 +218,7 @@ ask_by h buffers region m n u p tmu words product items t true home has is taken
     let clamp = (direct_parts h.code n (clean h.code home.sound n inside) (directs h.code n tmu small direct)).1 in
     let muls = no_mul_at h.code n tmu small (no_mul h.code n (fine_at h.code home.sound n inside).no24) in
     let adds : add_names w (s_address tmu) ≡ true = add_writes w tmu (pending_of h.code tmu n) writes none muls in
-    subst (λ b. IsFineAsk (IsOneOf buffers) (Direct (if b then add_row (readied p words t) w u words else product))) (sym adds)
+    subst (λ b. IsFineAsk (IsOneOf buffers) (Direct (if b then add_row (thread_readied p words t) w u words else product))) (sym adds)
     (direct_fine h buffers region m n u p words t home has is taken sample (direct_sample_is h.code n tmu tmu_is ∙ direct) clamp)
 ask_by h buffers region m n u p tmu words product items t false home has is taken sample small writes tmu_is items_are some =
     let w = word h.code n in
@@ -230,7 +230,7 @@ ask_by h buffers region m n u p tmu words product items t false home has is take
 ask_fine : (h : Home) (buffers region : List Interval) (m : List ℕ) (n u p tmu : ℕ) (words product items : List ℕ) (t : Thread) → IsHome m region h → HasSamples buffers h → IsThread h n t
     → (takes h.code n ≡ true → u ≡ uniform_at h n) → is_sample h.code n ≡ true → tmu < 2 → writes_s (word h.code n) tmu ≡ true → sample_tmu (word h.code n) ≡ tmu
     → items ≡ held_words h tmu n → length items ≡ pending_of h.code tmu n
-    → IsFineAsk (IsOneOf buffers) (ask_of (word h.code n) tmu u (add_row (readied p words t) (word h.code n) u words) product items)
+    → IsFineAsk (IsOneOf buffers) (ask_of (word h.code n) tmu u (add_row (thread_readied p words t) (word h.code n) u words) product items)
 unfolding ask_of
 ask_fine h buffers region m n u p tmu words product items t home has is taken sample small writes tmu_is items_are size =
     ask_by h buffers region m n u p tmu words product items t (length items == 0) home has is taken sample small writes tmu_is items_are (ap (λ k. k == 0) (sym size))
@@ -253,27 +253,27 @@ same_ask x y is = cc
 asked_by : (h : Home) (buffers region : List Interval) (m : List ℕ) (n u p : ℕ) (words : List ℕ) (t : Thread) (a b : Bool) → IsHome m region h → HasSamples buffers h → IsThread h n t
     → (takes h.code n ≡ true → u ≡ uniform_at h n) → writes_s (word h.code n) 0 ≡ a → writes_s (word h.code n) 1 ≡ b
     → (ask : Asked)
-    → (if a then Some (record { tmu = 0; ask = ask_of (word h.code n) 0 u (add_row (readied p words t) (word h.code n) u words) (mul_row (readied p words t) (word h.code n) u words) t.setups0.items })
-    else (if b then Some (record { tmu = 1; ask = ask_of (word h.code n) 1 u (add_row (readied p words t) (word h.code n) u words) (mul_row (readied p words t) (word h.code n) u words) t.setups1.items }) else None)) ≡ Some ask
+    → (if a then Some (record { tmu = 0; ask = ask_of (word h.code n) 0 u (add_row (thread_readied p words t) (word h.code n) u words) (mul_row (thread_readied p words t) (word h.code n) u words) t.setups0.items })
+    else (if b then Some (record { tmu = 1; ask = ask_of (word h.code n) 1 u (add_row (thread_readied p words t) (word h.code n) u words) (mul_row (thread_readied p words t) (word h.code n) u words) t.setups1.items }) else None)) ≡ Some ask
     → IsFineAsk (IsOneOf buffers) ask.ask
 asked_by h buffers region m n u p words t true b home has is taken first second ask asks_it =
     let inside : n < checked_of h.code = in_checked h.code n home.sound is.at.inside in
     let size = are_pending h n t home.sound (omega (arith, inside)) is.setups in
-    let one : Asked = record { tmu = 0; ask = ask_of (word h.code n) 0 u (add_row (readied p words t) (word h.code n) u words) (mul_row (readied p words t) (word h.code n) u words) t.setups0.items } in
+    let one : Asked = record { tmu = 0; ask = ask_of (word h.code n) 0 u (add_row (thread_readied p words t) (word h.code n) u words) (mul_row (thread_readied p words t) (word h.code n) u words) t.setups0.items } in
     subst (λ (x : Asked). IsFineAsk (IsOneOf buffers) x.ask) (same_ask one ask asks_it)
-    (ask_fine h buffers region m n u p 0 words (mul_row (readied p words t) (word h.code n) u words) t.setups0.items t home has is taken
+    (ask_fine h buffers region m n u p 0 words (mul_row (thread_readied p words t) (word h.code n) u words) t.setups0.items t home has is taken
     (sample_now h.code n 0 inside (or_left (writes_s (word h.code n) 0) (writes_s (word h.code n) 1) first)) (omega arith) first (sample_zero (word h.code n) first) is.setups.tmu0 size.tmu0)
 asked_by h buffers region m n u p words t false true home has is taken first second ask asks_it =
     let inside : n < checked_of h.code = in_checked h.code n home.sound is.at.inside in
     let size = are_pending h n t home.sound (omega (arith, inside)) is.setups in
-    let one : Asked = record { tmu = 1; ask = ask_of (word h.code n) 1 u (add_row (readied p words t) (word h.code n) u words) (mul_row (readied p words t) (word h.code n) u words) t.setups1.items } in
+    let one : Asked = record { tmu = 1; ask = ask_of (word h.code n) 1 u (add_row (thread_readied p words t) (word h.code n) u words) (mul_row (thread_readied p words t) (word h.code n) u words) t.setups1.items } in
     subst (λ (x : Asked). IsFineAsk (IsOneOf buffers) x.ask) (same_ask one ask asks_it)
-    (ask_fine h buffers region m n u p 1 words (mul_row (readied p words t) (word h.code n) u words) t.setups1.items t home has is taken
+    (ask_fine h buffers region m n u p 1 words (mul_row (thread_readied p words t) (word h.code n) u words) t.setups1.items t home has is taken
     (sample_now h.code n 1 inside (or_right (writes_s (word h.code n) 0) (writes_s (word h.code n) 1) second)) (omega arith) second (sample_one (word h.code n) first) is.setups.tmu1 size.tmu1)
 asked_by h buffers region m n u p words t false false home has is taken first second ask asks_it = absurd cc
 
 pub asks_are_fine_law : AsksAreFine
-unfolding asked awake
+unfolding ask_made awake
 asks_are_fine_law h buffers region m n u p words t home has is taken ask asks_it =
     asked_by h buffers region m n u p words t (writes_s (word h.code n) 0) (writes_s (word h.code n) 1) home has is taken refl refl ask
     (sym (asked_is (word h.code n) u p words t) ∙ asks_it)
@@ -299,7 +299,7 @@ write_at code n inside is = and_from (nat_lt n (checked_of code)) (is_address_wr
 -- A write of the address leads to the word after the one that it takes.
 address_sum : (h : Home) (m : List ℕ) (rights : Rights) (n u p : ℕ) (words : List ℕ) (t : Thread) → IsHome m rights.region h → IsThread h n t
     → (takes h.code n ≡ true → u ≡ uniform_at h n) → is_address_write (word h.code n) ≡ true
-    → slice_index (add_row (readied p words t) (word h.code n) u words) 0 % 2 ^ 32 ≡ h.stream + 4 * (count_of h.code n + 1)
+    → slice_index (add_row (thread_readied p words t) (word h.code n) u words) 0 % 2 ^ 32 ≡ h.stream + 4 * (count_of h.code n + 1)
 address_sum h m rights n u p words t home is taken writes =
     let code = h.code in
     let w = word code n in
@@ -308,14 +308,14 @@ address_sum h m rights n u p words t home is taken writes =
     let exact = exact_sum code n (exact_at code n home.sound inside writes) in
     let added = added_at code n home.sound inside writes in
     let found = immediate_found code n exact.0 (4 * (count_of code n + 1)) exact.1.value in
-    let told = carried_operand h found.0 n u p words t (add_a_of w) exact.0 is.at is.facts found.1 exact.1.first 0 (omega arith) in
-    let v_is : slice_index (operand (readied p words t) w (add_a_of w) u words) 0 ≡ 4 * (count_of code n + 1) = told.loaded (4 * (count_of code n + 1)) found.2 in
+    let report = carried_operand h found.0 n u p words t (add_a_of w) exact.0 is.at is.facts found.1 exact.1.first 0 (omega arith) in
+    let v_is : slice_index (operand (thread_readied p words t) w (add_a_of w) u words) 0 ≡ 4 * (count_of code n + 1) = report.loaded (4 * (count_of code n + 1)) found.2 in
     let here : writes_address code n ≡ true = write_at code n inside writes in
     let u_is : u ≡ h.stream = taken takes_it ∙ home.addresses (count_of code n) (inl (record { by = n; writes = here; is = refl })) in
     let less = count_total code n inside takes_it in
     let most = total_le code in
-    ap (λ v. v % 2 ^ 32) (sum_lane (readied p words t) w u words 0 (omega arith) added.plain exact.1.sum)
-    ∙ whole_sum (slice_index (operand (readied p words t) w (add_a_of w) u words) 0) u h.stream (count_of code n) (uniforms_of code) v_is u_is (omega (arith, less, most)) home.stream_low
+    ap (λ v. v % 2 ^ 32) (sum_lane (thread_readied p words t) w u words 0 (omega arith) added.plain exact.1.sum)
+    ∙ whole_sum (slice_index (operand (thread_readied p words t) w (add_a_of w) u words) 0) u h.stream (count_of code n) (uniforms_of code) v_is u_is (omega (arith, less, most)) home.stream_low
 
 setups_goes : (h : Home) (n to : ℕ) (t next : Thread) → IsThread h n t → IsAt h to next → HasNoFault h.code → n + 1 < checked_of h.code
     → (to ≡ n + 1) ⊎ Lands h.code n to t next → AreSetups h (n + 1) next → AreSetups h to next
@@ -327,9 +327,9 @@ facts_goes h n to t next h5 facts = search (rules, arith, facts_jump)
 
 -- after the instruction, where the thread lives on
 stands_after : (h : Home) (m : List ℕ) (rights : Rights) (n u p : ℕ) (words : List ℕ) (t : Thread) → IsHome m rights.region h → IsThread h n t
-    → (takes h.code n ≡ true → u ≡ uniform_at h n) → IsPast h n p t → (done (word h.code n) u p words t).leaves.fate ≢ Ends → Stands h (done (word h.code n) u p words t).thread
+    → (takes h.code n ≡ true → u ≡ uniform_at h n) → IsPast h n p t → (turn_done (word h.code n) u p words t).leaves.fate ≢ Ends → Stands h (turn_done (word h.code n) u p words t).thread
 stands_after h m rights n u p words t home is taken past lives =
-    let next = (done (word h.code n) u p words t).thread in
+    let next = (turn_done (word h.code n) u p words t).thread in
     let inside : n < checked_of h.code = in_checked h.code n home.sound is.at.inside in
     let more : n ≢ end_of h.code + 2 = λ last. lives (fate_is (word h.code n) u p words t ∙ ends h n t home.sound is.at last) in
     let on_in : n + 1 < checked_of h.code = omega (arith, checked_is h.code home.sound, is.at.inside, more) in
@@ -346,11 +346,11 @@ stands_after h m rights n u p words t home is taken past lives =
       };
     }
 
-fresh_by : (w u p : ℕ) (words : List ℕ) (t : Thread) → (done w u p words t).leaves.fate ≡ Switches → (done w u p words t).thread.fresh ≡ true
+fresh_by : (w u p : ℕ) (words : List ℕ) (t : Thread) → (turn_done w u p words t).leaves.fate ≡ Switches → (turn_done w u p words t).thread.fresh ≡ true
 fresh_by w u p words t is = fresh_is w u p words t ∙ ap (λ f. switches f || false) (sym (fate_is w u p words t) ∙ is)
 
 left : (h : Home) (buffers : List Interval) (m : List ℕ) (rights : Rights) (n u p : ℕ) (words : List ℕ) (t : Thread) → IsHome m rights.region h → HasSamples buffers h → IsThread h n t
-    → (takes h.code n ≡ true → u ≡ uniform_at h n) → IsPast h n p t → Left h buffers t m m (done (word h.code n) u p words t)
+    → (takes h.code n ≡ true → u ≡ uniform_at h n) → IsPast h n p t → Left h buffers t m m (turn_done (word h.code n) u p words t)
 left h buffers m rights n u p words t home has is taken past =
     let went = is_went (word h.code n) u p words t in
     record {
@@ -364,7 +364,7 @@ left h buffers m rights n u p words t home has is taken past =
 
 -- the two ways to go on
 taken_keeps : (h : Home) (buffers : List Interval) (m : List ℕ) (rights : Rights) (n : ℕ) (words : List ℕ) (t : Thread) (who : Who) → IsHome m rights.region h → HasSamples buffers h → IsThread h n t → takes h.code n ≡ true
-    → Keeps who (Inside rights.region) (IsSafeIn rights) (λ k turn. Left h buffers t m k turn) (Reads t.uniforms 4 (λ bytes. Done (executed (word h.code n) (u32_at bytes 0) words (awake words (past_uniform t))))) m
+    → Keeps who (Inside rights.region) (IsSafeIn rights) (λ k turn. Left h buffers t m k turn) (Reads t.uniforms 4 (λ bytes. Done (turn_executed (word h.code n) (u32_at bytes 0) words (awake words (past_uniform t))))) m
 unfolding past_uniform
 taken_keeps h buffers m rights n words t who home has is takes_it =
     let fetch = uniform_is h n t home.sound home.addresses is.pointer takes_it in
@@ -376,14 +376,14 @@ taken_keeps h buffers m rights n words t who home has is takes_it =
     )
 
 untaken_keeps : (h : Home) (buffers : List Interval) (m : List ℕ) (rights : Rights) (n : ℕ) (words : List ℕ) (t : Thread) (who : Who) → IsHome m rights.region h → HasSamples buffers h → IsThread h n t → takes h.code n ≡ false
-    → Keeps who (Inside rights.region) (IsSafeIn rights) (λ k turn. Left h buffers t m k turn) (Done (executed (word h.code n) 0 words (awake words t))) m
+    → Keeps who (Inside rights.region) (IsSafeIn rights) (λ k turn. Left h buffers t m k turn) (Done (turn_executed (word h.code n) 0 words (awake words t))) m
 untaken_keeps h buffers m rights n words t who home has is untaken =
     left h buffers m rights n 0 t.uniforms words t home has is (λ again. absurd (true≢false (sym again ∙ untaken)))
     (record { taken = λ again. absurd (true≢false (sym again ∙ untaken)); untaken = λ none. refl })
 
 choice_keeps : (h : Home) (buffers : List Interval) (m : List ℕ) (rights : Rights) (n : ℕ) (words : List ℕ) (t : Thread) (who : Who) (b : Bool) → IsHome m rights.region h → HasSamples buffers h → IsThread h n t → takes h.code n ≡ b
     → Keeps who (Inside rights.region) (IsSafeIn rights) (λ k turn. Left h buffers t m k turn)
-    (if b then Reads t.uniforms 4 (λ bytes. Done (executed (word h.code n) (u32_at bytes 0) words (awake words (past_uniform t)))) else Done (executed (word h.code n) 0 words (awake words t))) m
+    (if b then Reads t.uniforms 4 (λ bytes. Done (turn_executed (word h.code n) (u32_at bytes 0) words (awake words (past_uniform t)))) else Done (turn_executed (word h.code n) 0 words (awake words t))) m
 choice_keeps h buffers m rights n words t who true home has is taken = taken_keeps h buffers m rights n words t who home has is taken
 choice_keeps h buffers m rights n words t who false home has is untaken = untaken_keeps h buffers m rights n words t who home has is untaken
 
@@ -396,7 +396,7 @@ word_keeps h buffers m rights n words t who home has is =
     let pending : ArePending h.code n t = are_pending h n t home.sound (omega (arith, inside)) is.setups in
     let tame : is_wild t w ≡ false = never_wild h n t home.sound is.at pending in
     let on : Plan ThreadTurn =
-    if takes_one t w then Reads t.uniforms 4 (λ bytes. Done (executed w (u32_at bytes 0) words (awake words (past_uniform t)))) else Done (executed w 0 words (awake words t)) in
+    if takes_one t w then Reads t.uniforms 4 (λ bytes. Done (turn_executed w (u32_at bytes 0) words (awake words (past_uniform t)))) else Done (turn_executed w 0 words (awake words t)) in
     subst (λ b. Keeps who (Inside rights.region) (IsSafeIn rights) (λ k turn. Left h buffers t m k turn) (if b then Wilds else on) m) (sym tame)
     (choice_keeps h buffers m rights n words t who (takes_one t w) home has is (sym (takes_same h.code n t inside pending)))
 

@@ -3,7 +3,7 @@ use Rattle.std.proofs.Common.{◌≡◌, ◌<◌, ◌≤◌, inl, inr, ◌⊎◌
 use Rattle.std.proofs.lemmas.Bool.{cases_Bool, cases_eq, and_from, and_right, lt-ltb, false_from_ne_true, true≢false, or_from, leb-true, and_parts, not_from_false, or_parts, eqb-true, leb-false, not-true, not-false}
 use Rattle.std.proofs.lemmas.{List.map-append, List.length-map, Grind.common_steps, Bool.Decides.nat_tests}
 use Rattle.qpu_isa.specs.Terms.{is_backward, is_address_write, writes_s, writes_tmu, is_branch, target_of, add_names, mul_names, names_on_a, names_on_b, is_relative_address_write, is_add_packed}
-use Rattle.qpu_isa.specs.Setups.{takes_with, kept}
+use Rattle.qpu_isa.specs.Setups.{takes_with, setups_kept}
 use Rattle.qpu_isa.specs.Word.{ws_of, waddr_add_of, waddr_mul_of, cond_add_of}
 use Rattle.shader_flow.specs.{Bounded.some_in, Bounded.is_back, Flow.word, Flow.checked_of, Flow.is_target}
 use Rattle.shader_flow.specs.Pending.{count_of, takes, pending_of}
@@ -15,9 +15,9 @@ use Rattle.uniform_stream.proofs.Restarts.{known_not, known_on}
 use Rattle.shader_check.proofs.SoundInfo.{address_takes, address_write_at, IsAddressWord, Written, Open, address_below, count_total, total_le}
 use Rattle.shader_check.proofs.{Clean.clean, Held.held_is, Setups.sets_one, Setups.not_sent, Positions.held_next, Roles.sets_takes}
 use Rattle.qpu_law.specs.Stream.{IsAddressCount, TakesNone, GoesForward, uniform_at, held_words, AreSetups, HoldsAddresses, IsStreamLow, IsRight, IsLost, IsOver, PointerIs}
-use Rattle.qpu_law.specs.Home.{HasNoFault, Home, ArePending, Jumps, done, Lands, readied}
+use Rattle.qpu_law.specs.Home.{HasNoFault, Home, ArePending, Jumps, turn_done, Lands, thread_readied}
 use Rattle.qpu_law.proofs.Going.{fine_at, behind, makes_on, setups0_are, setups1_are, is_went, uniforms_are}
-use Rattle.shader_check.specs.{Info.held, Rules.s16, Rules.is_exact_address_write, Rules.adds_address}
+use Rattle.shader_check.specs.{Info.setups_held, Rules.s16, Rules.is_exact_address_write, Rules.adds_address}
 use Rattle.qpu_machine.specs.declared.state.{Thread.Thread}
 use Rattle.qpu_machine.specs.{Operands.add_row, Row.has_lane, Row.mask_of}
 use Rattle.qpu_machine.specs.Writes.{pointer_after, add_address, mul_address}
@@ -116,8 +116,8 @@ next_word code n none inside target =
 
 pub are_pending : (h : Home) (n : ℕ) (t : Thread) → HasNoFault h.code → n ≤ checked_of h.code → AreSetups h n t → ArePending h.code n t
 are_pending h n t none inside are = record {
-  tmu0 = ap length are.tmu0 ∙ (length-map (held h.code 0 n) (uniform_at h) ∙ (held_is h.code 0 (omega arith) (clean h.code none) n inside).size);
-  tmu1 = ap length are.tmu1 ∙ (length-map (held h.code 1 n) (uniform_at h) ∙ (held_is h.code 1 (omega arith) (clean h.code none) n inside).size);
+  tmu0 = ap length are.tmu0 ∙ (length-map (setups_held h.code 0 n) (uniform_at h) ∙ (held_is h.code 0 (omega arith) (clean h.code none) n inside).size);
+  tmu1 = ap length are.tmu1 ∙ (length-map (setups_held h.code 1 n) (uniform_at h) ∙ (held_is h.code 1 (omega arith) (clean h.code none) n inside).size);
 }
 
 -- A setup write takes a uniform.
@@ -128,16 +128,16 @@ kept_map_by : (f : ℕ → ℕ) (sends writes : Bool) (n u : ℕ) (xs : List ℕ
     → (if sends then [] else (if writes then map f xs ++ (u ∷ []) else map f xs)) ≡ map f (if sends then [] else (if writes then xs ++ (n ∷ []) else xs))
 kept_map_by f sends writes n u xs is = search (rules, arith, map-append)
 
-kept_map : (f : ℕ → ℕ) (w tmu n u : ℕ) (xs : List ℕ) → (writes_s w tmu ≡ false → writes_tmu w tmu ≡ true → u ≡ f n) → kept w tmu u (map f xs) ≡ map f (kept w tmu n xs)
-unfolding kept
+kept_map : (f : ℕ → ℕ) (w tmu n u : ℕ) (xs : List ℕ) → (writes_s w tmu ≡ false → writes_tmu w tmu ≡ true → u ≡ f n) → setups_kept w tmu u (map f xs) ≡ map f (setups_kept w tmu n xs)
+unfolding setups_kept
 kept_map f w tmu n u xs is = kept_map_by f (writes_s w tmu) (writes_tmu w tmu) n u xs is
 
 one_kept : (h : Home) (n u tmu : ℕ) (items : List ℕ) → tmu < 2 → n < checked_of h.code → (takes h.code n ≡ true → u ≡ uniform_at h n)
-    → items ≡ held_words h tmu n → kept (word h.code n) tmu u items ≡ held_words h tmu (n + 1)
+    → items ≡ held_words h tmu n → setups_kept (word h.code n) tmu u items ≡ held_words h tmu (n + 1)
 one_kept h n u tmu items small inside taken are = grind (arith, common_steps, nat_tests, kept_map, setup_takes, held_next)
 
 pub setups_on : (h : Home) (n u uniforms : ℕ) (words : List ℕ) (t : Thread) → n < checked_of h.code → (takes h.code n ≡ true → u ≡ uniform_at h n)
-    → AreSetups h n t → AreSetups h (n + 1) (done (word h.code n) u uniforms words t).thread
+    → AreSetups h n t → AreSetups h (n + 1) (turn_done (word h.code n) u uniforms words t).thread
 setups_on h n u uniforms words t inside taken are = search (rules, arith, setups0_are, one_kept, setups1_are)
 
 -- At a target no setup words are kept.
@@ -148,15 +148,15 @@ empty_by (x ∷ xs) none = absurd (omega (arith, none))
 none_by : (code : List ℕ) (tmu i : ℕ) → tmu < 2 → pending_of code 0 i ≡ 0 → pending_of code 1 i ≡ 0 → pending_of code tmu i ≡ 0
 none_by code tmu i small zero0 zero1 = search (rules, arith)
 
-held_none : (code : List ℕ) (tmu i : ℕ) → HasNoFault code → tmu < 2 → i < checked_of code → is_target code i ≡ true → held code tmu i ≡ []
+held_none : (code : List ℕ) (tmu i : ℕ) → HasNoFault code → tmu < 2 → i < checked_of code → is_target code i ≡ true → setups_held code tmu i ≡ []
 unfolding s25
 held_none code tmu i none small inside target =
     let pending = or_parts (nat_lt 0 (pending_of code 0 i)) (nat_lt 0 (pending_of code 1 i))
     (behind (is_target code i) (nat_lt 0 (pending_of code 0 i) || nat_lt 0 (pending_of code 1 i)) target (fine_at code none i inside).no25) in
     let zero0 : pending_of code 0 i ≡ 0 = (let p : nat_lt 0 (pending_of code 0 i) ≡ false = pending.0 in grind (arith, p)) in
     let zero1 : pending_of code 1 i ≡ 0 = (let p : nat_lt 0 (pending_of code 1 i) ≡ false = pending.1 in grind (arith, p)) in
-    let size : length (held code tmu i) ≡ pending_of code tmu i = (held_is code tmu small (clean code none) i (omega (arith, inside))).size in
-    empty_by (held code tmu i) (size ∙ none_by code tmu i small zero0 zero1)
+    let size : length (setups_held code tmu i) ≡ pending_of code tmu i = (held_is code tmu small (clean code none) i (omega (arith, inside))).size in
+    empty_by (setups_held code tmu i) (size ∙ none_by code tmu i small zero0 zero1)
 
 pub setups_jump : (h : Home) (n to : ℕ) (next : Thread) → HasNoFault h.code → n < checked_of h.code → to < checked_of h.code → n + 1 < checked_of h.code
     → Jumps h.code n to → AreSetups h (n + 1) next → AreSetups h to next
@@ -217,7 +217,7 @@ unfolding s15
 not_relative code n none inside = (fine_at code none n inside).no15
 
 pub pointer_stays : (code : List ℕ) (n u p : ℕ) (words : List ℕ) (t : Thread) → HasNoFault code → n < checked_of code → is_address_write (word code n) ≡ false
-    → (done (word code n) u p words t).thread.uniforms ≡ p
+    → (turn_done (word code n) u p words t).thread.uniforms ≡ p
 pointer_stays code n u p words t none inside other = search (rules, arith, unit_names, not_relative, uniforms_are, pointer_kept, mul_other, add_other)
 
 -- A write of the address is the add unit's, to all elements.
@@ -263,7 +263,7 @@ unfolding is_relative_address_write names_on_b
 mul_none w side none = mul_aside (ws_of w) (add_names w 40) (mul_names w 40) side none
 
 pub pointer_sets : (code : List ℕ) (n u p : ℕ) (words : List ℕ) (t : Thread) → HasNoFault code → n < checked_of code → IsAdded (word code n)
-    → (done (word code n) u p words t).thread.uniforms ≡ slice_index (add_row (readied p words t) (word code n) u words) 0 % 2 ^ 32
+    → (turn_done (word code n) u p words t).thread.uniforms ≡ slice_index (add_row (thread_readied p words t) (word code n) u words) 0 % 2 ^ 32
 pointer_sets code n u p words t none inside added = search (rules, arith, uniforms_are, pointer_kept, mul_other, mul_none, not_relative, set_by, add_forty, full_mask, first_lane)
 
 pub added_at : (code : List ℕ) (n : ℕ) → HasNoFault code → n < checked_of code → is_address_write (word code n) ≡ true → IsAdded (word code n)
@@ -276,7 +276,7 @@ pub record IsPast (h : Home) (n p : ℕ) (t : Thread) : Type 0 where
   pub untaken : takes h.code n ≡ false → p ≡ t.uniforms
 
 -- over stays over
-over_on : (h : Home) (n u p : ℕ) (words : List ℕ) (t : Thread) → IsOver h n t → IsOver h (n + 1) (done (word h.code n) u p words t).thread
+over_on : (h : Home) (n u p : ℕ) (words : List ℕ) (t : Thread) → IsOver h n t → IsOver h (n + 1) (turn_done (word h.code n) u p words t).thread
 over_on h n u p words t over = search (rules, arith, is_went)
 
 no_write : (code : List ℕ) (n : ℕ) → is_address_write (word code n) ≡ false → writes_address code n ≡ false
@@ -288,7 +288,7 @@ abbrev pub IsSettled : Home → ℕ → ℕ → Type 0
 IsSettled h n p = IsRight h n p ⊎ IsLost h n p
 
 on_by : (h : Home) (n u p : ℕ) (words : List ℕ) (t : Thread) → HasNoFault h.code → n < checked_of h.code → IsStreamLow h
-    → is_address_write (word h.code n) ≡ false → IsPast h n p t → IsSettled h n t.uniforms → IsSettled h (n + 1) (done (word h.code n) u p words t).thread.uniforms
+    → is_address_write (word h.code n) ≡ false → IsPast h n p t → IsSettled h n t.uniforms → IsSettled h (n + 1) (turn_done (word h.code n) u p words t).thread.uniforms
 on_by h n u p words t none inside low other past (inl right) = search (rules, arith, pointer_stays, cases_Bool, count_taken, count_total, total_le, count_same)
 on_by h n u p words t none inside low other past (inr lost) =
     let writes : writes_address h.code n ≡ false = no_write h.code n other in
@@ -302,8 +302,8 @@ on_by h n u p words t none inside low other past (inr lost) =
 
 -- After the instruction, as it comes to the next one.
 settled_on : (h : Home) (n u p : ℕ) (words : List ℕ) (t : Thread) → HasNoFault h.code → n < checked_of h.code → IsStreamLow h
-    → (is_address_write (word h.code n) ≡ true → slice_index (add_row (readied p words t) (word h.code n) u words) 0 % 2 ^ 32 ≡ h.stream + 4 * (count_of h.code n + 1))
-    → IsPast h n p t → IsSettled h n t.uniforms → IsSettled h (n + 1) (done (word h.code n) u p words t).thread.uniforms
+    → (is_address_write (word h.code n) ≡ true → slice_index (add_row (thread_readied p words t) (word h.code n) u words) 0 % 2 ^ 32 ≡ h.stream + 4 * (count_of h.code n + 1))
+    → IsPast h n p t → IsSettled h n t.uniforms → IsSettled h (n + 1) (turn_done (word h.code n) u p words t).thread.uniforms
 settled_on h n u p words t none inside low sum past at = search (rules, arith, cases_Bool, address_takes, clean, pointer_sets, added_at, count_taken, on_by)
 
 -- A branch that doesn't lead backward leads past its slots.
@@ -347,15 +347,15 @@ settled_goes : (h : Home) (n to : ℕ) (t next : Thread) → HasNoFault h.code �
 settled_goes h n to t next none few inside h8 settled = search (rules, arith, settled_jump)
 
 over_goes : (h : Home) (n to u p : ℕ) (words : List ℕ) (t : Thread) → length h.code ≤ most_words → n + 1 < checked_of h.code
-    → (to ≡ n + 1) ⊎ Lands h.code n to t (done (word h.code n) u p words t).thread → IsOver h n t → PointerIs h to (done (word h.code n) u p words t).thread
+    → (to ≡ n + 1) ⊎ Lands h.code n to t (turn_done (word h.code n) u p words t).thread → IsOver h n t → PointerIs h to (turn_done (word h.code n) u p words t).thread
 over_goes h n to u p words t few inside h9 over = search (rules, arith, over_on, over_jump)
 
 -- Where the thread comes to, its pointer stands as it should.
 pub pointer_goes : (h : Home) (n to u p : ℕ) (words : List ℕ) (t : Thread) → HasNoFault h.code → length h.code ≤ most_words → IsStreamLow h → n + 1 < checked_of h.code
-    → (is_address_write (word h.code n) ≡ true → slice_index (add_row (readied p words t) (word h.code n) u words) 0 % 2 ^ 32 ≡ h.stream + 4 * (count_of h.code n + 1))
-    → IsPast h n p t → (to ≡ n + 1) ⊎ Lands h.code n to t (done (word h.code n) u p words t).thread
-    → PointerIs h n t → PointerIs h to (done (word h.code n) u p words t).thread
+    → (is_address_write (word h.code n) ≡ true → slice_index (add_row (thread_readied p words t) (word h.code n) u words) 0 % 2 ^ 32 ≡ h.stream + 4 * (count_of h.code n + 1))
+    → IsPast h n p t → (to ≡ n + 1) ⊎ Lands h.code n to t (turn_done (word h.code n) u p words t).thread
+    → PointerIs h n t → PointerIs h to (turn_done (word h.code n) u p words t).thread
 pointer_goes h n to u p words t none few low inside sum past way (inl right) = search (rules, arith, settled_goes, settled_on)
 pointer_goes h n to u p words t none few low inside sum past way (inr (inl lost)) =
-    settled_goes h n to t (done (word h.code n) u p words t).thread none few inside way (settled_on h n u p words t none (omega (arith, inside)) low sum past (inr lost))
+    settled_goes h n to t (turn_done (word h.code n) u p words t).thread none few inside way (settled_on h n u p words t none (omega (arith, inside)) low sum past (inr lost))
 pointer_goes h n to u p words t none few low inside sum past way (inr (inr over)) = over_goes h n to u p words t few inside way over

@@ -3,7 +3,7 @@ use Rattle.std.proofs.Common.{◌≡◌, ◌≤◌, ◌<◌, ℕ, zero, suc, ◌
 use Rattle.std.proofs.lemmas.{Bool.or_from, Grind.common_steps}
 use Rattle.field_words.specs.{Questions.first_of, Words.u32_at, Words.bits_of}
 use Rattle.field_words.specs.declared.access.{Access.Access, Way.TheVariants.Read}
-use Rattle.field_words.proofs.Questions.{none_stands}
+use Rattle.field_words.proofs.Questions.{none_broken}
 use Rattle.texture_layouts.specs.Setup.{TextureModel, texture_of, is_cube_word, kind_of, cube_stride_of, type_of, pixels_of, side_of, faces_of, level_width_of, level_height_of, tiling_at, size_at, size_below}
 use Rattle.texture_layouts.specs.{Level.level_side_of, Fits.has_two_strides, Fits.lacks_stride, Fits.is_unlisted, Fits.texture_questions}
 use Rattle.texture_layouts.specs.Fetch.{fetch_size_of, fetch_reach, place_from, fetch_place_of, AreFetchesIn}
@@ -109,7 +109,7 @@ cube_moves : (source place : ℕ) → place % 4096 ≡ 0 → is_cube_word (sourc
 unfolding is_cube_word
 cube_moves source place page = ap (λ b. b == 1) (omega (arith, page))
 
--- No rule of textures stands, so nothing of the four words is undefined.
+-- No rule of textures is broken, so nothing of the four words is undefined.
 unlisted_moves : (t : TextureModel) (place : ℕ) → is_unlisted (record t { base = t.base + place }) ≡ is_unlisted t
 unfolding is_unlisted
 unlisted_moves t place = refl
@@ -125,7 +125,7 @@ lacks_moves source place p2 p3 page = ap (λ c. c && cube_stride_of p2 p3 == 0) 
 defined : (source place p1 p2 p3 size : ℕ) → place % 4096 ≡ 0 → source + place < 2 ^ 32 → first_of (texture_questions source p1 p2 p3 size) ≡ None
     → is_undefined (source + place) p1 p2 p3 ≡ false
 unfolding is_undefined texture_questions
-defined source place p1 p2 p3 size page word none = search (rules, arith, none_stands, strides_move, lacks_moves, texture_moved, unlisted_moves, or_from)
+defined source place p1 p2 p3 size page word none = search (rules, arith, none_broken, strides_move, lacks_moves, texture_moved, unlisted_moves, or_from)
 
 texture_keeps : (within : Interval) (p0 p1 p2 p3 : ℕ) → IsTextureIn within p0 p1 p2 p3
     → (who : Who) (words m : List ℕ) (L : ℕ → ℕ → Type 0) (G : Access → Type 0)

@@ -7,20 +7,20 @@ use Rattle.std.specs.Prelude.{slice_index, slice_index_or, slice_set, unwrap_or}
 use Rattle.qpu_isa.specs.declared.inst.Reg.{Reg, TheVariants.A, TheVariants.B, TheVariants.Acc}
 use Rattle.qpu_isa.specs.Word.{ws_of, waddr_add_of, waddr_mul_of, cond_add_of, cond_mul_of, raddr_a_of, raddr_b_of, add_a_of, add_b_of, op_add_of}
 use Rattle.qpu_isa.specs.Terms.{is_branch, add_names, mul_names, add_names_reg, mul_names_reg, names, sets_alone, is_add_packed, is_alu, is_load_imm, has_small, is_plain, is_uniform_operand, loaded_value, is_max_with_zero, is_min_with_uniform, is_add_with_uniform, operand_register, is_accumulator, is_switch, first_register}
-use Rattle.qpu_isa.specs.Told.{IsRegister}
+use Rattle.qpu_isa.specs.Report.{IsRegister}
 use Rattle.qpu_machine.specs.declared.state.{Thread.Thread, Fate.TheVariants.GoesOn, Fate.TheVariants.Switches, Fate.TheVariants.Ends}
 use Rattle.qpu_machine.specs.Operands.{add_row, mul_row, read_a, read_b, small_row, operand, immediate_row, sums}
-use Rattle.qpu_machine.specs.Writes.{awake, file_after, acc_after, add_address, mul_address, written_at, added, multiplied, written, stored, loaded, r4_after, went_on, worked, rested, fate_of, switches}
-use Rattle.qpu_machine.specs.Row.{lanes, has_lane, merged, mask_of, chosen_row, chosen_rows, filled}
-use Rattle.qpu_machine.specs.Step.{executed, executed_with}
-use Rattle.qpu_law.specs.{Home.readied, Home.done, Home.Home, Home.IsAt, Stream.uniform_at}
+use Rattle.qpu_machine.specs.Writes.{awake, file_after, acc_after, add_address, mul_address, written_at, after_add, after_multiply, after_writes, after_setup, after_load, r4_after, went_on, after_work, after_rest, fate_of, switches}
+use Rattle.qpu_machine.specs.Row.{lanes, has_lane, rows_merged, mask_of, chosen_row, chosen_rows, row_of_word}
+use Rattle.qpu_machine.specs.Step.{turn_executed, executed_with}
+use Rattle.qpu_law.specs.{Home.thread_readied, Home.turn_done, Home.Home, Home.IsAt, Stream.uniform_at}
 use Rattle.qpu_law.specs.Facts.{row_of, HasRows, IsMade, Tells, FactsHold}
 use Rattle.qpu_alu.specs.Operation.{add_result_of, signed_min, signed_max}
 use Rattle.qpu_alu.proofs.Order.{signed_max_zero, signed_max_zero_first, signed_min-upto}
 use Rattle.machine_plan.specs.Choice.{word_at}
 use Rattle.shader_flow.specs.{Flow.word, Flow.is_target, Flow.checked_of, Bounded.some_in, Pending.takes}
 use Rattle.shader_flow.proofs.Bounded.{some_in_not, some_in_none, some_below_here, some_below_none, some_below_not}
-use Rattle.clamp_facts.specs.Facts.{stays, switches_between, is_delayed, carrier_of, is_max_at, is_not_negative, makes_clamp, made, fact_by, fact_at, is_immediate}
+use Rattle.clamp_facts.specs.Facts.{stays, switches_between, is_delayed, carrier_of, is_max_at, is_not_negative, makes_clamp, fact_of_write, fact_by, fact_at, is_immediate}
 use Rattle.clamp_facts.specs.{declared.fact.Fact.Fact, Upkeep.IsCarrier, Readings.is_value, Readings.value_in}
 use Rattle.clamp_facts.proofs.Carriers.{stays_quiet, sets_parts, carried_parts, carrier_found, value_of_made}
 use Rattle.shader_check.proofs.Roles.{reads_takes, min_parts, passed}
@@ -32,13 +32,13 @@ full_lane : (e : ℕ) → e < 16 → has_lane 65535 e ≡ true
 unfolding has_lane
 full_lane e below = agree_below_at (has_lane 65535) (λ k. true) 16 e refl below
 
-pub merged_full : (old new : List ℕ) (e : ℕ) → e < 16 → slice_index (merged 65535 old new) e ≡ slice_index new e
-unfolding merged
+pub merged_full : (old new : List ℕ) (e : ℕ) → e < 16 → slice_index (rows_merged 65535 old new) e ≡ slice_index new e
+unfolding rows_merged
 merged_full old new e below = search (rules, arith, lane_at, full_lane)
 
 -- a file
 file_other_by : (on : Bool) (address reg mask : ℕ) (value : List ℕ) (file : List (List ℕ)) → (on && address == reg) ≡ false
-    → slice_index_or (if on && nat_lt address 32 then slice_set file address (merged mask (slice_index_or file address []) value) else file) reg [] ≡ slice_index_or file reg []
+    → slice_index_or (if on && nat_lt address 32 then slice_set file address (rows_merged mask (slice_index_or file address []) value) else file) reg [] ≡ slice_index_or file reg []
 file_other_by on address reg mask value file other = search (rules, arith, eqb-false, cases_Bool, get_or-set_other)
 
 file_other : (on : Bool) (address reg mask : ℕ) (value : List ℕ) (file : List (List ℕ)) → (on && address == reg) ≡ false
@@ -47,7 +47,7 @@ unfolding file_after
 file_other on address reg mask value file other = file_other_by on address reg mask value file other
 
 file_set : (on : Bool) (address reg mask : ℕ) (value : List ℕ) (file : List (List ℕ)) → on ≡ true → address ≡ reg → reg < 32 → length file ≡ 32
-    → slice_index_or (file_after on address mask value file) reg [] ≡ merged mask (slice_index_or file reg []) value
+    → slice_index_or (file_after on address mask value file) reg [] ≡ rows_merged mask (slice_index_or file reg []) value
 unfolding file_after
 file_set on address reg mask value file is same low size = grind (arith, common_steps, nat_tests, lt-ltb, get_or-set_same)
 
@@ -62,7 +62,7 @@ unfolding acc_after
 acc_other address reg mask value words acc other low = grind (arith, nat_tests, get_or-set_other, low, eqb-false address (32 + reg) other)
 
 acc_set : (address reg mask : ℕ) (value words : List ℕ) (acc : List (List ℕ)) → address ≡ 32 + reg → reg < 4 → length acc ≡ 6
-    → slice_index_or (acc_after address mask value words acc) reg [] ≡ merged mask (slice_index_or acc reg []) value
+    → slice_index_or (acc_after address mask value words acc) reg [] ≡ rows_merged mask (slice_index_or acc reg []) value
 unfolding acc_after
 acc_set address reg mask value words acc is low size = grind (arith, common_steps, nat_tests, and_from, le-leb, lt-ltb, get_or-set_same)
 
@@ -97,24 +97,24 @@ below_apart k low is = omega (arith, low, is)
 
 -- after the add unit's write, and after both
 abbrev summed : ℕ → ℕ → ℕ → List ℕ → Thread → Thread
-summed w u p words t = added w (add_row (readied p words t) w u words) words (readied p words t)
+summed w u p words t = after_add w (add_row (thread_readied p words t) w u words) words (thread_readied p words t)
 
 written_row : (w u p : ℕ) (words : List ℕ) (t : Thread) (reg : Reg) → IsRegister reg
-    → row_of (done w u p words t).thread reg ≡ row_of (multiplied w (mul_row (readied p words t) w u words) words (summed w u p words t)) reg
-unfolding executed executed_with rested worked went_on loaded stored written multiplied written_at added awake
+    → row_of (turn_done w u p words t).thread reg ≡ row_of (after_multiply w (mul_row (thread_readied p words t) w u words) words (summed w u p words t)) reg
+unfolding turn_executed executed_with after_rest after_work went_on after_load after_setup after_writes after_multiply written_at after_add awake
 written_row w u p words t reg known = search (rules, arith, r4_other)
 
-add_leaves : (w : ℕ) (value words : List ℕ) (t : Thread) (reg : Reg) → IsRegister reg → add_names_reg w reg ≡ false → row_of (added w value words t) reg ≡ row_of t reg
-unfolding added written_at add_names_reg
+add_leaves : (w : ℕ) (value words : List ℕ) (t : Thread) (reg : Reg) → IsRegister reg → add_names_reg w reg ≡ false → row_of (after_add w value words t) reg ≡ row_of t reg
+unfolding after_add written_at add_names_reg
 add_leaves w value words t reg low none = search (rules, arith, file_other, add_same, below_apart, not-not, acc_other)
 
-mul_leaves : (w : ℕ) (value words : List ℕ) (t : Thread) (reg : Reg) → IsRegister reg → mul_names_reg w reg ≡ false → row_of (multiplied w value words t) reg ≡ row_of t reg
-unfolding multiplied written_at mul_names_reg
+mul_leaves : (w : ℕ) (value words : List ℕ) (t : Thread) (reg : Reg) → IsRegister reg → mul_names_reg w reg ≡ false → row_of (after_multiply w value words t) reg ≡ row_of t reg
+unfolding after_multiply written_at mul_names_reg
 mul_leaves w value words t reg low none = search (rules, arith, file_other, mul_same, below_apart, acc_other)
 
 -- An instruction that doesn't name a register leaves it as the thread began.
 pub register_same : (w u p : ℕ) (words : List ℕ) (t : Thread) (reg : Reg) → IsRegister reg → names w reg ≡ false
-    → row_of (done w u p words t).thread reg ≡ row_of (readied p words t) reg
+    → row_of (turn_done w u p words t).thread reg ≡ row_of (thread_readied p words t) reg
 unfolding names
 register_same w u p words t reg known none = grind (arith, common_steps, nat_tests, or_parts, written_row, mul_leaves, add_leaves)
 
@@ -126,8 +126,8 @@ address_is : (w k : ℕ) → k ≢ 39 → add_names w k ≡ true → add_address
 address_is w k other named = eqb-true (add_address w) k (add_same w k other ∙ named)
 
 add_sets : (w : ℕ) (value words : List ℕ) (t : Thread) (reg : Reg) → IsRegister reg → HasRows t → add_names_reg w reg ≡ true
-    → row_of (added w value words t) reg ≡ merged (mask_of (cond_add_of w) words 0) (row_of t reg) value
-unfolding added written_at add_names_reg
+    → row_of (after_add w value words t) reg ≡ rows_merged (mask_of (cond_add_of w) words 0) (row_of t reg) value
+unfolding after_add written_at add_names_reg
 add_sets w value words t reg low rows named = search (rules, arith, and_parts, file_set, address_is, below_apart, not-not, acc_set)
 
 chosen_size : (words : List ℕ) → length (chosen_rows words) ≡ 6
@@ -137,21 +137,21 @@ chosen_size words = refl
 ready_size : (fresh : Bool) (words : List ℕ) (acc : List (List ℕ)) → length acc ≡ 6 → length (if fresh then chosen_rows words else acc) ≡ 6
 ready_size fresh words acc size = search (rules, arith, chosen_size)
 
-pub ready_rows : (p : ℕ) (words : List ℕ) (t : Thread) → HasRows t → HasRows (readied p words t)
+pub ready_rows : (p : ℕ) (words : List ℕ) (t : Thread) → HasRows t → HasRows (thread_readied p words t)
 unfolding awake
 ready_rows p words t rows = record { a = rows.a; b = rows.b; acc = ready_size t.fresh words t.acc rows.acc }
 
 -- One that alone sets a register leaves in each element what its add unit came to.
 pub register_set : (w u p : ℕ) (words : List ℕ) (t : Thread) (reg : Reg) → IsRegister reg → HasRows t → sets_alone w reg ≡ true
-    → (e : ℕ) → e < 16 → slice_index (row_of (done w u p words t).thread reg) e ≡ slice_index (add_row (readied p words t) w u words) e
+    → (e : ℕ) → e < 16 → slice_index (row_of (turn_done w u p words t).thread reg) e ≡ slice_index (add_row (thread_readied p words t) w u words) e
 unfolding sets_alone
 register_set w u p words t reg known rows alone e below = search (rules, arith, and_parts, written_row, mul_leaves, not-true, add_sets, ready_rows, full_mask, eqb-true, merged_full)
 
-pub rows_on : (w u p : ℕ) (words : List ℕ) (t : Thread) → HasRows t → HasRows (done w u p words t).thread
-unfolding executed executed_with rested worked went_on loaded stored written multiplied added written_at awake
+pub rows_on : (w u p : ℕ) (words : List ℕ) (t : Thread) → HasRows t → HasRows (turn_done w u p words t).thread
+unfolding turn_executed executed_with after_rest after_work went_on after_load after_setup after_writes after_multiply after_add written_at awake
 rows_on w u p words t rows =
     let ready = ready_rows p words t rows in
-    let t0 = readied p words t in
+    let t0 = thread_readied p words t in
     let sum = add_row t0 w u words in
     let product = mul_row t0 w u words in
     let m0 = mask_of (cond_add_of w) words 0 in
@@ -164,25 +164,25 @@ rows_on w u p words t rows =
     }
 
 -- fresh after the instruction exactly where it switches
-pub fresh_is : (w u p : ℕ) (words : List ℕ) (t : Thread) → (done w u p words t).thread.fresh ≡ (switches (fate_of t) || false)
-unfolding awake executed executed_with rested worked went_on loaded stored written multiplied added written_at fate_of
+pub fresh_is : (w u p : ℕ) (words : List ℕ) (t : Thread) → (turn_done w u p words t).thread.fresh ≡ (switches (fate_of t) || false)
+unfolding awake turn_executed executed_with after_rest after_work went_on after_load after_setup after_writes after_multiply after_add written_at fate_of
 fresh_is w u p words t = refl
 
 -- What the add unit comes to, where a rule looks at it.
 
-pub filled_at : (x e : ℕ) → e < 16 → slice_index (filled x) e ≡ x
+pub filled_at : (x e : ℕ) → e < 16 → slice_index (row_of_word x) e ≡ x
 filled_at x e below = get_or-replicate 16 e x 0 below
 
 -- a uniform operand is the uniform in each element
 uniform_a : (plain : Bool) (address : ℕ) (u : ℕ) (free later : List ℕ) → plain ≡ true → (address == 32) ≡ true
-    → (if not plain then free else (if address == 32 then filled u else later)) ≡ filled u
+    → (if not plain then free else (if address == 32 then row_of_word u else later)) ≡ row_of_word u
 uniform_a plain address u free later h5 is = search (rules, arith, true≢false)
 
 uniform_b : (small : Bool) (address : ℕ) (u : ℕ) (other later : List ℕ) → (address == 32 && not small) ≡ true
-    → (if small then other else (if address == 32 then filled u else later)) ≡ filled u
+    → (if small then other else (if address == 32 then row_of_word u else later)) ≡ row_of_word u
 uniform_b small address u other later is = search (rules, arith, and_parts, true≢false)
 
-pub uniform_operand : (t : Thread) (w sel u : ℕ) (words : List ℕ) → is_uniform_operand w sel ≡ true → operand t w sel u words ≡ filled u
+pub uniform_operand : (t : Thread) (w sel u : ℕ) (words : List ℕ) → is_uniform_operand w sel ≡ true → operand t w sel u words ≡ row_of_word u
 unfolding is_uniform_operand operand read_a read_b
 uniform_operand t w sel u words is = grind (arith, common_steps, nat_tests, and_parts, or_cases, eqb-true, uniform_a, uniform_b)
 
@@ -229,11 +229,11 @@ unfolding is_min_with_uniform
 min_lane t w u words e below plain is low = search (rules, arith, and_parts, add_lane, alu_loads_not, eqb-true, min_of, signed_min-upto, uniform_operand, filled_at)
 
 -- the maximum with the value 0
-zero_by : (small : Bool) (v : ℕ) (words other : List ℕ) → small ≡ true → v ≡ 0 → (if small then small_row v words else other) ≡ filled 0
+zero_by : (small : Bool) (v : ℕ) (words other : List ℕ) → small ≡ true → v ≡ 0 → (if small then small_row v words else other) ≡ row_of_word 0
 unfolding small_row
 zero_by small v words other is none = search (rules, arith, true≢false)
 
-zero_operand : (t : Thread) (w u : ℕ) (words : List ℕ) → has_small w ≡ true → raddr_b_of w ≡ 0 → operand t w 7 u words ≡ filled 0
+zero_operand : (t : Thread) (w u : ℕ) (words : List ℕ) → has_small w ≡ true → raddr_b_of w ≡ 0 → operand t w 7 u words ≡ row_of_word 0
 unfolding operand read_b small_row
 zero_operand t w u words small zero_is = zero_by (has_small w) (raddr_b_of w) words _ small zero_is
 
@@ -275,11 +275,11 @@ pub record IsRead (t : Thread) (reg : Reg) : Type 0 where
   pub awake : is_accumulator reg ≡ true → t.fresh ≡ false
 
 read_a_by : (plain : Bool) (address : ℕ) (named : Bool) (u : ℕ) (own free : List ℕ) → plain ≡ true → address < 32 → named ≡ false
-    → (if not plain then free else (if address == 32 then filled u else (if address == 39 then filled 0 else (if nat_lt address 32 && not named then own else free)))) ≡ own
+    → (if not plain then free else (if address == 32 then row_of_word u else (if address == 39 then row_of_word 0 else (if nat_lt address 32 && not named then own else free)))) ≡ own
 read_a_by plain address named u own free h6 low none = search (rules, arith, true≢false)
 
 read_b_by : (small : Bool) (address : ℕ) (named : Bool) (u : ℕ) (own free other : List ℕ) → small ≡ false → address < 32 → named ≡ false
-    → (if small then other else (if address == 32 then filled u else (if address == 39 then filled 0 else (if nat_lt address 32 && not named then own else free)))) ≡ own
+    → (if small then other else (if address == 32 then row_of_word u else (if address == 39 then row_of_word 0 else (if nat_lt address 32 && not named then own else free)))) ≡ own
 read_b_by small address named u own free other plain low none = search (rules, arith, true≢false)
 
 -- what the selector names
@@ -324,19 +324,19 @@ ready_acc : (fresh : Bool) (chosen acc : List (List ℕ)) (k : ℕ) → fresh �
 ready_acc fresh chosen acc k is = search (rules, arith, true≢false)
 
 -- the thread begins to work with the registers that it has
-pub ready_row : (p : ℕ) (words : List ℕ) (t : Thread) (reg : Reg) → (is_accumulator reg ≡ true → t.fresh ≡ false) → row_of (readied p words t) reg ≡ row_of t reg
+pub ready_row : (p : ℕ) (words : List ℕ) (t : Thread) (reg : Reg) → (is_accumulator reg ≡ true → t.fresh ≡ false) → row_of (thread_readied p words t) reg ≡ row_of t reg
 unfolding awake is_accumulator
 ready_row p words t reg woken = search (rules, arith, ready_acc)
 
 operand_of : (w sel u p : ℕ) (words : List ℕ) (t : Thread) (reg : Reg) → is_plain w sel ≡ true → Selects w sel reg → (is_accumulator reg ≡ false → names t.last1.word reg ≡ false)
-    → operand (readied p words t) w sel u words ≡ row_of (readied p words t) reg
+    → operand (thread_readied p words t) w sel u words ≡ row_of (thread_readied p words t) reg
 unfolding operand read_a read_b is_accumulator awake
 operand_of w sel u p words t reg plain (OfAcc low) unnamed = grind (arith, nat_tests, low, plain)
 operand_of w sel u p words t reg plain (OfA is low) unnamed = grind (arith, common_steps, nat_tests, read_a_by)
 operand_of w sel u p words t reg plain (OfB is low big) unnamed = grind (arith, common_steps, nat_tests, read_b_by)
 
 pub operand_is : (w sel u p : ℕ) (words : List ℕ) (t : Thread) (reg : Reg) → operand_register w sel ≡ Some reg → (is_accumulator reg ≡ false → names t.last1.word reg ≡ false)
-    → (is_accumulator reg ≡ true → t.fresh ≡ false) → operand (readied p words t) w sel u words ≡ row_of t reg
+    → (is_accumulator reg ≡ true → t.fresh ≡ false) → operand (thread_readied p words t) w sel u words ≡ row_of t reg
 operand_is w sel u p words t reg is unnamed woken =
     let parts = selects w sel reg is in
     operand_of w sel u p words t reg parts.0 parts.1 unnamed ∙ ready_row p words t reg woken
@@ -352,15 +352,15 @@ not_next j n reg ready file is = grind (arith, common_steps, nat_tests, and_from
 
 -- What carries to an operand says what is read.
 pub carried_operand : (h : Home) (j n u p : ℕ) (words : List ℕ) (t : Thread) (sel : ℕ) (reg : Reg) → IsAt h n t → FactsHold h n t → IsCarrier h.code j n reg
-    → operand_register (word h.code n) sel ≡ Some reg → (e : ℕ) → e < 16 → Tells h j (slice_index (operand (readied p words t) (word h.code n) sel u words) e)
+    → operand_register (word h.code n) sel ≡ Some reg → (e : ℕ) → e < 16 → Tells h j (slice_index (operand (thread_readied p words t) (word h.code n) sel u words) e)
 carried_operand h j n u p words t sel reg at facts one is e below =
     let made_there = made_of h.code j n reg one in
     let known = known_by (word h.code n) sel reg (selects (word h.code n) sel reg is).1 in
-    let row : operand (readied p words t) (word h.code n) sel u words ≡ row_of t reg =
+    let row : operand (thread_readied p words t) (word h.code n) sel u words ≡ row_of t reg =
     operand_is (word h.code n) sel u p words t reg is
     (λ file. last_unnamed h j n reg t at made_there (not_next j n reg ((carried_parts h.code j n reg one.carried).2) file))
     (λ acc. facts.kept j reg known made_there acc) in
-    subst (λ r. Tells h j (slice_index r e)) (sym row) (facts.told j reg known made_there e below)
+    subst (λ r. Tells h j (slice_index r e)) (sym row) (facts.report j reg known made_there e below)
 
 is_max_found : (code : List ℕ) (n : ℕ) (reg : Reg) (o : Option ℕ) → carrier_of code n reg ≡ o → is_max_at code o ≡ true → (j : ℕ) × IsCarrier code j n reg × (is_max_with_zero (word code j) ≡ true)
 is_max_found code n reg None is max = absurd (true≢false (sym max))
@@ -385,20 +385,20 @@ first_is w reg is = is
 
 -- What an instruction makes is as it says.
 made_tells : (h : Home) (n u p : ℕ) (words : List ℕ) (t : Thread) → n < checked_of h.code → IsAt h n t → FactsHold h n t → (takes h.code n ≡ true → u ≡ uniform_at h n)
-    → is_add_packed (word h.code n) ≡ false → (e : ℕ) → e < 16 → Tells h n (slice_index (add_row (readied p words t) (word h.code n) u words) e)
+    → is_add_packed (word h.code n) ≡ false → (e : ℕ) → e < 16 → Tells h n (slice_index (add_row (thread_readied p words t) (word h.code n) u words) e)
 made_tells h n u p words t inside at facts taken plain e below =
     let w = word h.code n in
     record {
-      loaded = λ v is. load_lane (readied p words t) w u words e v below plain is;
-      not_negative = λ is. max_lane (readied p words t) w u words e below plain is;
+      loaded = λ v is. load_lane (thread_readied p words t) w u words e v below plain is;
+      not_negative = λ is. max_lane (thread_readied p words t) w u words e below plain is;
       clamped = λ is.
           (let parts = clamp_parts h.code n is in
           let found = not_negative_by h.code n parts.1.0 parts.1.2 in
-          let told : Tells h found.0 (slice_index (operand (readied p words t) w (add_a_of w) u words) e) =
+          let report : Tells h found.0 (slice_index (operand (thread_readied p words t) w (add_a_of w) u words) e) =
           carried_operand h found.0 n u p words t (add_a_of w) parts.1.0 at facts found.1 (first_is w parts.1.0 parts.1.1) e below in
-          let upto = min_lane (readied p words t) w u words e below plain parts.0 (told.not_negative found.2) in
+          let upto = min_lane (thread_readied p words t) w u words e below plain parts.0 (report.not_negative found.2) in
           let is_taken : u ≡ uniform_at h n = taken (reads_takes h.code n inside (min_parts w parts.0).0) in
-          subst (λ v. slice_index (add_row (readied p words t) w u words) e ≤ v) is_taken upto);
+          subst (λ v. slice_index (add_row (thread_readied p words t) w u words) e ≤ v) is_taken upto);
     }
 
 -- What is made at n + 1 was made at n, or by the instruction at n.
@@ -454,28 +454,28 @@ fate_by : (end switch : Bool) → switch ≡ false → (switches (if end then En
 fate_by end switch none = search (rules, arith, true≢false)
 
 stays_awake : (h : Home) (j n u p : ℕ) (words : List ℕ) (reg : Reg) (t : Thread) → IsAt h n t → j ≤ n → stays h.code j (n + 1) reg ≡ true → is_accumulator reg ≡ true
-    → (done (word h.code n) u p words t).thread.fresh ≡ false
+    → (turn_done (word h.code n) u p words t).thread.fresh ≡ false
 unfolding fate_of
 stays_awake h j n u p words reg t at upto still acc = search (rules, arith, fresh_is, fate_by, no_switch_here)
 
 pub facts_on : (h : Home) (n u p : ℕ) (words : List ℕ) (t : Thread) → n < checked_of h.code → IsAt h n t → HasRows t → FactsHold h n t → (takes h.code n ≡ true → u ≡ uniform_at h n)
-    → FactsHold h (n + 1) (done (word h.code n) u p words t).thread
+    → FactsHold h (n + 1) (turn_done (word h.code n) u p words t).thread
 facts_on h n u p words t inside at rows facts taken =
     let w = word h.code n in
     record {
-      told = λ j reg known here e below.
+      report = λ j reg known here e below.
           elim (cases_eq j n) [
             | inl same ↦
                 (let alone : sets_alone w reg ≡ true = subst (λ i. sets_alone (word h.code i) reg ≡ true) same (sets_parts h.code j reg here.set_there).1 in
                 let value = register_set w u p words t reg known rows alone e below in
-                subst (λ i. Tells h i (slice_index (row_of (done w u p words t).thread reg) e)) (sym same)
+                subst (λ i. Tells h i (slice_index (row_of (turn_done w u p words t).thread reg) e)) (sym same)
                 (subst (λ v. Tells h n v) (sym value) (made_tells h n u p words t inside at facts taken (alone_plain w reg alone) e below)))
             | inr other ↦
                 (let before = here.before in
                 let less : j < n = omega (arith, before, other) in
                 let earlier : IsMade h.code j n reg = record { before = less; set_there = here.set_there; still = stays_less h.code j n reg here.still } in
                 let row = register_same w u p words t reg known (stays_quiet h.code j (n + 1) n reg here.still less (omega arith)) ∙ ready_row p words t reg (λ acc. facts.kept j reg known earlier acc) in
-                subst (λ r. Tells h j (slice_index r e)) (sym row) (facts.told j reg known earlier e below))
+                subst (λ r. Tells h j (slice_index r e)) (sym row) (facts.report j reg known earlier e below))
           ];
       kept = λ j reg known here acc. (let before = here.before in stays_awake h j n u p words reg t at (omega (arith, before)) here.still acc);
     }
@@ -490,7 +490,7 @@ value_is fact v is = search (rules, arith, true≢false, eqb-true)
 immediate_by : (code : List ℕ) (n : ℕ) (reg : Reg) (v : ℕ) (o : Option ℕ) → carrier_of code n reg ≡ o → is_value (fact_by code o) v ≡ true
     → (j : ℕ) × IsCarrier code j n reg × (loaded_value (word code j) ≡ Some v)
 immediate_by code n reg v None is value = absurd (true≢false (sym value))
-immediate_by code n reg v (Some j) is value = (j, carrier_found code j n reg is, sym (value_of_made code j) ∙ value_is (made code j) v value)
+immediate_by code n reg v (Some j) is value = (j, carrier_found code j n reg is, sym (value_of_made code j) ∙ value_is (fact_of_write code j) v value)
 
 pub immediate_found : (code : List ℕ) (n : ℕ) (reg : Reg) (v : ℕ) → is_immediate code n reg v ≡ true → (j : ℕ) × IsCarrier code j n reg × (loaded_value (word code j) ≡ Some v)
 unfolding is_immediate fact_at

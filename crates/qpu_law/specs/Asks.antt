@@ -35,7 +35,7 @@ pub record IsFineAsk (IsNamed : ℕ → ℕ → Type 0) (ask : Ask) : Type 0 whe
   pub named : IsNamed place size
   pub reads : IsAskIn (record { place = place; size = size }) ask
 
--- The law: whatever the choice words and the memory, serving such a request reads inside that one interval, is never wild, looks
+-- The law: whatever the choice words and the memory, serving such a request reads inside that one interval, is never undefined, looks
 -- nowhere, and changes no byte.
 abbrev pub AsksStayIn : Type 0
 AsksStayIn =

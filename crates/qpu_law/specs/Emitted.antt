@@ -8,8 +8,8 @@ use Rattle.shader_check.specs.Info.{is_sample, sample_of, samples_of}
 use Rattle.qpu_law.specs.{Home.Home, Stream.HoldsAddresses}
 use Rattle.promises.specs.Rights.{IsOneOf}
 
--- what the checker told of the shader
-pub record IsTold (code : List ℕ) (shader : ShaderModel) : Type 0 where
+-- what the checker reported of the shader
+pub record IsReported (code : List ℕ) (shader : ShaderModel) : Type 0 where
   pub samples : shader.samples ≡ samples_of code
   pub address_words : shader.address_words ≡ address_words_of code
 
@@ -20,5 +20,5 @@ pub record Emits (buffers : List Interval) (h : Home) : Type 0 where
 -- The law that an emitted stream's address words and samples are as a thread needs them.
 abbrev pub StreamsServe : Type 0
 StreamsServe =
-    (h : Home) (buffers : List Interval) (shader : ShaderModel) → IsTold h.code shader
+    (h : Home) (buffers : List Interval) (shader : ShaderModel) → IsReported h.code shader
     → IsStream (IsOneOf buffers) shader h.stream (λ k. slice_index h.words k) → Emits buffers h

@@ -1,6 +1,6 @@
 -- What is known of a thread's registers.
 use Rattle.std.specs.Prelude.{◌≡◌, ◌≤◌, ◌<◌, ℕ, ◌^◌, true, false, length, Some, slice_index, slice_index_or, List, []}
-use Rattle.qpu_isa.specs.{declared.inst.Reg.Reg, Terms.is_accumulator, Terms.loaded_value, Terms.is_max_with_zero, Told.IsRegister}
+use Rattle.qpu_isa.specs.{declared.inst.Reg.Reg, Terms.is_accumulator, Terms.loaded_value, Terms.is_max_with_zero, Report.IsRegister}
 use Rattle.qpu_isa.specs.declared.inst.Reg.TheVariants.{A, B, Acc}
 use Rattle.shader_flow.specs.Flow.{word}
 use Rattle.clamp_facts.specs.Facts.{sets, stays, makes_clamp}
@@ -33,5 +33,5 @@ pub record Tells (h : Home) (j value : ℕ) : Type 0 where
 
 -- Each such fact is true of all elements, and where an accumulator has one, its thread isn't fresh.
 pub record FactsHold (h : Home) (n : ℕ) (t : Thread) : Type 0 where
-  pub told : (j : ℕ) (reg : Reg) → IsRegister reg → IsMade h.code j n reg → (e : ℕ) → e < 16 → Tells h j (slice_index (row_of t reg) e)
+  pub report : (j : ℕ) (reg : Reg) → IsRegister reg → IsMade h.code j n reg → (e : ℕ) → e < 16 → Tells h j (slice_index (row_of t reg) e)
   pub kept : (j : ℕ) (reg : Reg) → IsRegister reg → IsMade h.code j n reg → is_accumulator reg ≡ true → t.fresh ≡ false

@@ -5,7 +5,7 @@ use Rattle.qpu_isa.specs.{Word.imm_of, Terms.is_branch, Terms.is_switch, Terms.i
 use Rattle.shader_flow.specs.{Flow.word, Flow.end_of, Flow.is_target, Flow.is_threaded, Pending.pending_of}
 use Rattle.shader_check.specs.Rules.{shader_questions}
 use Rattle.qpu_machine.specs.{declared.state.Mark.Mark, declared.state.Thread.Thread, declared.state.Fate.TheVariants.Ends, Wild.is_wild}
-use Rattle.qpu_machine.specs.{Step.ThreadTurn, Step.executed, Writes.awake}
+use Rattle.qpu_machine.specs.{Step.ThreadTurn, Step.turn_executed, Writes.awake}
 
 -- A shader, where its words stand in memory, its stream of uniforms, and where that stands.
 pub record Home : Type 0 where
@@ -14,7 +14,7 @@ pub record Home : Type 0 where
   pub words : List ℕ
   pub stream : ℕ
 
--- no rule of shaders stands in it
+-- no rule of shaders is broken in it
 abbrev pub HasNoFault : List ℕ → Type 0
 HasNoFault code = first_of (shader_questions code) ≡ None
 
@@ -88,13 +88,13 @@ abbrev pub IsLow : Home → Type 0
 IsLow h = h.place + 8 * length h.code ≤ 2 ^ 32
 
 -- the thread as it begins to work, with its uniform pointer there, and after the instruction, which took this uniform
-abbrev pub readied : ℕ → List ℕ → Thread → Thread
-readied uniforms words t = awake words (record t { uniforms = uniforms })
+abbrev pub thread_readied : ℕ → List ℕ → Thread → Thread
+thread_readied uniforms words t = awake words (record t { uniforms = uniforms })
 
-abbrev pub done : ℕ → ℕ → ℕ → List ℕ → Thread → ThreadTurn
-done word uniform uniforms words t = executed word uniform words (readied uniforms words t)
+abbrev pub turn_done : ℕ → ℕ → ℕ → List ℕ → Thread → ThreadTurn
+turn_done word uniform uniforms words t = turn_executed word uniform words (thread_readied uniforms words t)
 
--- The law that no instruction is wild.
+-- The law that no instruction is undefined.
 abbrev pub NeverWild : Type 0
 NeverWild = (h : Home) (n : ℕ) (t : Thread) → HasNoFault h.code → IsAt h n t → ArePending h.code n t → is_wild t (word h.code n) ≡ false
 
@@ -102,5 +102,5 @@ NeverWild = (h : Home) (n : ℕ) (t : Thread) → HasNoFault h.code → IsAt h n
 abbrev pub StaysInCode : Type 0
 StaysInCode =
     (h : Home) (n uniform uniforms : ℕ) (words : List ℕ) (t : Thread) → HasNoFault h.code → IsLow h → IsAt h n t
-    → (done (word h.code n) uniform uniforms words t).leaves.fate ≢ Ends
-    → GoesTo h n t (done (word h.code n) uniform uniforms words t).thread
+    → (turn_done (word h.code n) uniform uniforms words t).leaves.fate ≢ Ends
+    → GoesTo h n t (turn_done (word h.code n) uniform uniforms words t).thread

@@ -3,7 +3,7 @@ use Rattle.std.specs.Prelude.{◌≡◌, ℕ, List, Some, true}
 use Rattle.machine_plan.specs.{declared.launch.Launch.Launch, Regions.Interval}
 use Rattle.shader_flow.specs.{Flow.word, Flow.is_threaded, Pending.takes}
 use Rattle.qpu_machine.specs.{declared.state.Asked.Asked, declared.state.Thread.Thread, Start.thread_of}
-use Rattle.qpu_law.specs.{Asks.IsFineAsk, Home.Home, Home.done, Stream.uniform_at}
+use Rattle.qpu_law.specs.{Asks.IsFineAsk, Home.Home, Home.turn_done, Stream.uniform_at}
 use Rattle.promises.specs.Rights.{IsOneOf}
 use Rattle.qpu_law.specs.Thread.{IsHome, IsThread, HasSamples}
 
@@ -12,7 +12,7 @@ abbrev pub AsksAreFine : Type 0
 AsksAreFine =
     (h : Home) (buffers region : List Interval) (m : List ℕ) (n u p : ℕ) (words : List ℕ) (t : Thread) → IsHome m region h → HasSamples buffers h → IsThread h n t
     → (takes h.code n ≡ true → u ≡ uniform_at h n)
-    → (asked : Asked) → (done (word h.code n) u p words t).leaves.asked ≡ Some asked → IsFineAsk (IsOneOf buffers) asked.ask
+    → (asked : Asked) → (turn_done (word h.code n) u p words t).leaves.asked ≡ Some asked → IsFineAsk (IsOneOf buffers) asked.ask
 
 -- The law that a program begins as such a thread.
 abbrev pub StartsStand : Type 0

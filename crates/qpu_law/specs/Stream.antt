@@ -3,7 +3,7 @@ use Rattle.std.specs.Prelude.{◌≡◌, ◌≤◌, ◌<◌, ◌⊎◌, ℕ, ◌
 use Rattle.qpu_isa.specs.Terms.{is_backward}
 use Rattle.shader_flow.specs.{Flow.word, Flow.checked_of, Pending.count_of, Pending.takes}
 use Rattle.uniform_stream.specs.Stream.{writes_address, is_known, is_open, uniforms_of}
-use Rattle.shader_check.specs.Info.{held}
+use Rattle.shader_check.specs.Info.{setups_held}
 use Rattle.qpu_machine.specs.declared.state.Thread.{Thread}
 use Rattle.qpu_law.specs.Home.{Home}
 
@@ -13,7 +13,7 @@ uniform_at h n = slice_index h.words (count_of h.code n)
 
 -- the stream's words at the setup writes of the sample in work
 abbrev pub held_words : Home → ℕ → ℕ → List ℕ
-held_words h tmu n = map (uniform_at h) (held h.code tmu n)
+held_words h tmu n = map (uniform_at h) (setups_held h.code tmu n)
 
 pub record AreSetups (h : Home) (n : ℕ) (t : Thread) : Type 0 where
   pub tmu0 : t.setups0.items ≡ held_words h 0 n

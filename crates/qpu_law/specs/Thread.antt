@@ -15,7 +15,7 @@ use Rattle.qpu_law.specs.{Asks.IsFineAsk, Facts.HasRows, Facts.FactsHold}
 use Rattle.promises.specs.Rights.{IsOneOf}
 use Rattle.qpu_law.specs.Stream.{AreSetups, HoldsAddresses, IsStreamLow, PointerIs}
 
--- A shader in which no rule stands, of at most 8,192 words, and a stream whose address words are its own place, stand in this
+-- A shader in which no rule is broken, of at most 8,192 words, and a stream whose address words are its own place, stand in this
 -- memory and in this region.
 pub record IsHome (m : List ℕ) (region : List Interval) (h : Home) : Type 0 where
   pub sound : HasNoFault h.code
@@ -58,7 +58,7 @@ pub record Left (h : Home) (buffers : List Interval) (t : Thread) (m k : List �
   pub threaded : turn.thread.threaded ≡ t.threaded
   pub rests : turn.leaves.fate ≡ Switches → turn.thread.fresh ≡ true
 
--- The law: a step of such a thread is never wild, reads its instruction and its uniform in the job's region, changes no byte, and
+-- The law: a step of such a thread is never undefined, reads its instruction and its uniform in the job's region, changes no byte, and
 -- leaves such a thread, or none, and a fine request, or none.
 abbrev pub ThreadsKeep : Type 0
 ThreadsKeep =

@@ -4,7 +4,7 @@ ghost use Rattle.qpu_law.specs.Home.{NeverWild, StaysInCode};
 ghost use Rattle.qpu_law.specs.Samples.{AsksAreFine, StartsStand};
 ghost use Rattle.qpu_law.specs.Thread.{ResultsKeep, ThreadsKeep};
 
-/// No instruction of a checked shader is wild, where the thread's marks say what it executed and its setup words are as many as
+/// No instruction of a checked shader is undefined, where the thread's marks say what it executed and its setup words are as many as
 /// the rules count.
 #[tactic(auto, using(crate::proofs::Going::never_wild_law))]
 pub fn never_wild()
@@ -18,9 +18,9 @@ pub fn stays_in_code()
     ensures { StaysInCode }
 {}
 
-/// A step of a thread of a job, whose checked shader and stream stand in memory, is never wild, reads its instruction and its
-/// uniform in the job's region and nothing else, changes no byte, and leaves such a thread or none, and a fine request or none. The thread stands at a checked
-/// instruction, its marks say what it executed, its pointer is where the stream's count says or no uniform is taken where it isn't
+/// A step of a thread of a job, whose checked shader and stream stand in memory, is never undefined, reads its instruction and its
+/// uniform in the job's region and nothing else, changes no byte, and leaves such a thread or none, and a fine request or none. The thread stands at
+/// a checked instruction, its marks say what it executed, its pointer is where the stream's count says or no uniform is taken where it isn't
 /// known, its setup words are the stream's, and each fact of the rules is true of its registers.
 #[tactic(auto, using(crate::proofs::Join::threads_keep_law))]
 pub fn threads_keep()

@@ -1,4 +1,4 @@
--- A thread outside the memory is wild: an instruction there reads as zero.
+-- A thread outside the memory is undefined: an instruction there reads as zero.
 use Rattle.std.proofs.Common.{◌≡◌, ◌≤◌, ◌<◌, ℕ, zero, suc, ◌+◌, List, length, ◌^◌, Option, None, Some, IfSome, replicate, true, false, slice_index, refl, ◌∙◌, ap, arith}
 use Rattle.std.proofs.lemmas.Grind.{common_steps}
 use Rattle.std.specs.Int.{from_le_bytes, w64}
@@ -29,7 +29,7 @@ not_over t m word tame word_is over =
     let wild : is_wild t word ≡ true = ap (is_wild t) (word_is ∙ zero_word m t.place over) ∙ zero_is_wild t in
     cc
 
--- so a thread that isn't wild stands in the memory
+-- so a thread that isn't undefined stands in the memory
 pub stands_inside : (t : Thread) (m : List ℕ) (word : ℕ) → is_wild t word ≡ false → word ≡ from_le_bytes w64 (bytes_at m t.place 8) → t.place < length m
 stands_inside t m word tame word_is = grind (arith, not_over t m word tame word_is)
 

@@ -2,7 +2,7 @@
 use Rattle.std.proofs.Common.{◌≡◌, ◌≢◌, ◌≤◌, ◌<◌, ℕ, suc, ◌+◌, ◌-◌, ◌==◌, ◌&&◌, eqb, Bool, true, false, if◌then◌else◌, ◌⊎◌, inl, inr, List, [], ◌∷◌, length, slice_index_or, slice_set, Option, None, Some, refl, sym, ◌∙◌, ap, subst, arith, ◌^◌}
 use Rattle.std.proofs.{lemmas.Grind.common_steps, lemmas.List.get_or-set_same, lemmas.List.get_or-set_other, lemmas.List.length-set}
 use Rattle.std.proofs.{lemmas.Bool.and_parts, lemmas.Bool.Decides.eqb_tells}
-use Rattle.qpu_machine.specs.Qpu.{queued, has_none, takes_first, takes_other, in_first, in_other, in_slot, started_in, launched, slot_from, idle_qpu}
+use Rattle.qpu_machine.specs.Qpu.{queue_count, has_none, takes_first, takes_other, in_first, in_other, in_slot, started_in, after_launch, slot_from, idle_qpu}
 use Rattle.qpu_machine.specs.{State.Launch, State.Qpu, State.Slot, State.Thread, Start.thread_of}
 use Rattle.qpu_machine.specs.Bounds.{IsNear, IsFew, IsBounded, AreBounded}
 
@@ -66,7 +66,7 @@ none_queued a b e = let h = and_parts (a == 0) (b == 0) e in (grind (arith, comm
 started_few : (second : Bool) (q : Qpu) (job : ℕ) (launch : Launch) → has_none second q ≡ true → IsFew second (Some (thread_of job launch)) q.queue0.items q.queue1.items
 unfolding thread_of
 started_few second q job launch none =
-    let h = none_queued (queued second q.queue0.items) (queued second q.queue1.items) none in
+    let h = none_queued (queue_count second q.queue0.items) (queue_count second q.queue1.items) none in
     record { tmu0 = omega (arith, h.0); tmu1 = omega (arith, h.1) }
 
 started_near : (job : ℕ) (launch : Launch) → launch.code < 2 ^ 32 → IsNear (Some (thread_of job launch))
@@ -109,7 +109,7 @@ found_in threaded qpus slot is =
     let same : slot.qpu - 0 ≡ slot.qpu = omega arith in
     subst (λ k. Found threaded qpus k slot.second) same h.1
 
-pub started_none : (job : ℕ) (launch : Launch) (qpus : List Qpu) → slot_from launch.threaded 0 qpus ≡ None → qpus ≡ launched job launch qpus
+pub started_none : (job : ℕ) (launch : Launch) (qpus : List Qpu) → slot_from launch.threaded 0 qpus ≡ None → qpus ≡ after_launch job launch qpus
 started_none job launch qpus is =
     let h : Finds launch.threaded qpus 0 None = subst (λ s. Finds launch.threaded qpus 0 s) is (finds launch.threaded 0 qpus) in
     sym (h (thread_of job launch))
@@ -119,7 +119,7 @@ unfolding thread_of
 code_near job launch near = near
 
 pub started_at : (job : ℕ) (launch : Launch) (qpus : List Qpu) (slot : Slot) (old new : Qpu) (t : Thread) → slot_from launch.threaded 0 qpus ≡ Some slot → old ≡ slice_index_or qpus slot.qpu idle_qpu → t ≡ thread_of job launch → new ≡ in_slot slot.second old t
-    → slice_set qpus slot.qpu new ≡ launched job launch qpus
+    → slice_set qpus slot.qpu new ≡ after_launch job launch qpus
 started_at job launch qpus slot old new t is old_is t_is new_is =
     let found = found_in launch.threaded qpus slot is in
     ap (slice_set qpus slot.qpu) (new_is ∙ (ap (λ q. in_slot slot.second q t) old_is ∙ ap (in_slot slot.second (slice_index_or qpus slot.qpu idle_qpu)) t_is)) ∙ sym (found.starts (thread_of job launch))

@@ -1,4 +1,4 @@
--- What an instruction that isn't wild may rely on.
+-- What an instruction that isn't undefined may rely on.
 use Rattle.std.proofs.Common.{◌≡◌, ◌<◌, ℕ, ◌&&◌, ◌||◌, Bool, nat_le, true, false, length, arith}
 use Rattle.std.proofs.lemmas.Grind.{common_steps}
 use Rattle.qpu_isa.specs.Terms.{writes_tmu}

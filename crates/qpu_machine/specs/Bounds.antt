@@ -2,7 +2,7 @@
 use Rattle.std.specs.Prelude.{◌≡◌, ◌≤◌, ◌<◌, ℕ, ◌+◌, ◌^◌, Bool, false, true, List, length, slice_index_or, Option, None, Some, IfSome}
 use Rattle.arrayvec.specs.ArrayVec.{ArrayVec}
 use Rattle.machine_plan.specs.Turn.{CarriesOver}
-use Rattle.qpu_machine.specs.{State.Access, State.Leaves, State.Qpu, State.Request, State.Thread, State.Who, Qpu.queued, Qpu.idle_qpu, Step.thread_plan, Step.turned}
+use Rattle.qpu_machine.specs.{State.Access, State.Leaves, State.Qpu, State.Request, State.Thread, State.Who, Qpu.queue_count, Qpu.idle_qpu, Step.thread_plan, Step.turn_taken}
 
 -- a thread's next instruction is no further than this
 abbrev pub IsNear : Option Thread → Type 0
@@ -19,8 +19,8 @@ finished1 (Some t) = length t.results1.items
 
 -- a thread has at most eight requests and results in each TMU
 pub record IsFew (second : Bool) (slot : Option Thread) (queue0 queue1 : List Request) : Type 0 where
-  pub tmu0 : queued second queue0 + finished0 slot ≤ 8
-  pub tmu1 : queued second queue1 + finished1 slot ≤ 8
+  pub tmu0 : queue_count second queue0 + finished0 slot ≤ 8
+  pub tmu1 : queue_count second queue1 + finished1 slot ≤ 8
 
 pub record IsBounded (q : Qpu) : Type 0 where
   pub first_near : IsNear q.first
@@ -35,5 +35,5 @@ AreBounded qpus = (k : ℕ) → k < length qpus → IsBounded (slice_index_or qp
 pub record SlotSteps (who : Who) (words m : List ℕ) (before listed : ArrayVec Access) (slot : Option Thread) (result : Option Leaves) (t : Thread) : Type 0 where
   pub next : Thread
   pub is : slot ≡ Some next
-  pub shows : CarriesOver who (thread_plan t words) m before listed (turned next result)
+  pub shows : CarriesOver who (thread_plan t words) m before listed (turn_taken next result)
   pub near : IfSome result (λ leaves. next.place ≤ 2 ^ 34)

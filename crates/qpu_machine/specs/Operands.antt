@@ -4,7 +4,7 @@ use Rattle.qpu_isa.specs.Word.{raddr_a_of, raddr_b_of, add_a_of, add_b_of, mul_a
 use Rattle.qpu_isa.specs.{declared.inst.Reg.TheVariants.A, declared.inst.Reg.TheVariants.B, Terms.is_plain, Terms.has_small, Terms.is_load_imm, Terms.is_add_packed, Terms.is_mul_packed, Terms.names}
 use Rattle.qpu_alu.specs.Operation.{add_result_of, mul_result_of}
 use Rattle.machine_plan.specs.Choice.{word_at}
-use Rattle.qpu_machine.specs.{State.Thread, Row.lanes, Row.filled, Row.chosen_row}
+use Rattle.qpu_machine.specs.{State.Thread, Row.lanes, Row.row_of_word, Row.chosen_row}
 
 -- The read of file A: a register, unless the thread's instruction directly before named it; the
 -- uniform by address 32; zeros by 39. Else it is free, and so where it is unpacked on its way.
@@ -12,23 +12,23 @@ unfoldable pub read_a : Thread → ℕ → ℕ → List ℕ → List ℕ
 read_a t word uniform words =
     let address = raddr_a_of word in
     if not (is_plain word 6) then chosen_row words 33
-    else (if address == 32 then filled uniform
-    else (if address == 39 then filled 0
+    else (if address == 32 then row_of_word uniform
+    else (if address == 39 then row_of_word 0
     else (if nat_lt address 32 && not (names t.last1.word (A address)) then slice_index_or t.a address []
     else chosen_row words 33)))
 
 -- a small immediate is 0 to 15, or -16 to -1 as a word; those above 31 are free
 unfoldable pub small_row : ℕ → List ℕ → List ℕ
 small_row value words =
-    if nat_lt value 16 then filled value else (if nat_lt value 32 then filled (2 ^ 32 - 32 + value) else chosen_row words 49)
+    if nat_lt value 16 then row_of_word value else (if nat_lt value 32 then row_of_word (2 ^ 32 - 32 + value) else chosen_row words 49)
 
 -- the read of file B, likewise; with signal 13 it is a small immediate
 unfoldable pub read_b : Thread → ℕ → ℕ → List ℕ → List ℕ
 read_b t word uniform words =
     let address = raddr_b_of word in
     if has_small word then small_row address words
-    else (if address == 32 then filled uniform
-    else (if address == 39 then filled 0
+    else (if address == 32 then row_of_word uniform
+    else (if address == 39 then row_of_word 0
     else (if nat_lt address 32 && not (names t.last1.word (B address)) then slice_index_or t.b address []
     else chosen_row words 49)))
 
@@ -42,7 +42,7 @@ operand t word selector uniform words =
 
 -- the value of a load immediate; in modes 1 and 3 each element is free
 unfoldable pub immediate_row : ℕ → List ℕ → ℕ → List ℕ
-immediate_row word words from = if mode_of word == 0 then filled (imm_of word) else chosen_row words from
+immediate_row word words from = if mode_of word == 0 then row_of_word (imm_of word) else chosen_row words from
 
 -- The add unit's results by element, of words below 2^32. Where the operation's result is free it is
 -- a choice word, and a packed result is free whatever the operation.

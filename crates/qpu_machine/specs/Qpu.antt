@@ -1,7 +1,7 @@
 -- A shader processor with its two threads and the queues of its two TMUs: its own step, that of a TMU,
 -- and where a program can start.
 use Rattle.std.specs.Prelude.{ℕ, ◌+◌, ◌==◌, ◌&&◌, ◌||◌, not, Bool, true, false, if◌then◌else◌, List, [], ◌∷◌, ◌++◌, drop, length, Option, None, Some, is_some, is_none, option_map, count_by}
-use Rattle.machine_plan.specs.{Glance.Glance, Glance.Now, Plan.Plan, Plan.Done, World.mapped}
+use Rattle.machine_plan.specs.{Glance.Glance, Glance.Now, Plan.Plan, Plan.Done, World.plan_mapped}
 use Rattle.qpu_machine.specs.State.{Asked, Ends, Fate, Free, GoesOn, Launch, Leaves, Qpu, Request, Slot, Thread}
 use Rattle.qpu_machine.specs.{Request.ask_plan, Start.thread_of, Step.ThreadTurn, Step.thread_plan, Step.thread_ready}
 
@@ -21,12 +21,12 @@ abbrev pub is_of : Bool → Request → Bool
 is_of second request = if second then request.second else not request.second
 
 -- how many requests of one of the two threads a queue has
-abbrev pub queued : Bool → List Request → ℕ
-queued second requests = count_by (λ r. is_of second r) requests
+abbrev pub queue_count : Bool → List Request → ℕ
+queue_count second requests = count_by (λ r. is_of second r) requests
 
 abbrev pub ready_by : Option Thread → Qpu → Glance Bool
 ready_by None q = Now false
-ready_by (Some t) q = thread_ready t (queued q.second q.queue0.items) (queued q.second q.queue1.items)
+ready_by (Some t) q = thread_ready t (queue_count q.second q.queue0.items) (queue_count q.second q.queue1.items)
 
 -- a processor may step where its active thread runs and isn't held up
 abbrev pub qpu_ready : Qpu → Glance Bool
@@ -46,11 +46,11 @@ gives_way GoesOn = false
 gives_way other = true
 
 -- a thread that becomes active is fresh
-abbrev pub refreshed : Thread → Thread
-refreshed t = record t { fresh = true }
+abbrev pub fresh_thread : Thread → Thread
+fresh_thread t = record t { fresh = true }
 
 abbrev pub woken_slot : Bool → Option Thread → Option Thread
-woken_slot over slot = if over then option_map refreshed slot else slot
+woken_slot over slot = if over then option_map fresh_thread slot else slot
 
 -- a TMU's queue with what was asked of it
 abbrev pub queue_with : ℕ → Bool → ℕ → Option Asked → List Request → List Request
@@ -60,8 +60,8 @@ queue_with tmu second job (Some asked) requests =
 
 -- The processor after a step of its active thread for this job, which left this of the thread. Where
 -- the thread gives way, the other one becomes active if it runs.
-unfoldable pub settled : Qpu → ℕ → Option Thread → Bool → Option Asked → Qpu
-settled q job own over asked = record q {
+unfoldable pub after_turn : Qpu → ℕ → Option Thread → Bool → Option Asked → Qpu
+after_turn q job own over asked = record q {
   second = if over && is_some (resting_of q) then not q.second else q.second;
   first = if q.second then woken_slot over q.first else own;
   other = if q.second then own else woken_slot over q.other;
@@ -73,7 +73,7 @@ settled q job own over asked = record q {
 abbrev pub with_active : Qpu → Option Thread → Qpu
 with_active q slot = record q { first = if q.second then q.first else slot; other = if q.second then slot else q.other }
 
--- The processor after a step whose thread stands in its slot already; a wild one leaves nothing.
+-- The processor after a step whose thread stands in its slot already; an undefined one leaves nothing.
 abbrev pub left_slot : Option Leaves → Option Thread → Option Thread
 left_slot None slot = None
 left_slot (Some leaves) slot = kept_by leaves.fate slot
@@ -87,26 +87,26 @@ asked_by None = None
 asked_by (Some leaves) = leaves.asked
 
 unfoldable pub settled_by : Qpu → ℕ → Option Leaves → Qpu
-settled_by q job left = settled q job (left_slot left (active_of q)) (gives_way_by left) (asked_by left)
+settled_by q job left = after_turn q job (left_slot left (active_of q)) (gives_way_by left) (asked_by left)
 
 abbrev pub went : Qpu → Thread → ThreadTurn → Qpu
-went q t turn = settled q t.job (left_by turn.leaves.fate turn.thread) (gives_way turn.leaves.fate) turn.leaves.asked
+went q t turn = after_turn q t.job (left_by turn.leaves.fate turn.thread) (gives_way turn.leaves.fate) turn.leaves.asked
 
--- a wild instruction ends its thread
-abbrev pub stopped : Qpu → Thread → Qpu
-stopped q t = settled q t.job None true None
+-- an undefined instruction ends its thread
+abbrev pub after_stop : Qpu → Thread → Qpu
+after_stop q t = after_turn q t.job None true None
 
 abbrev pub plan_by : Option Thread → Qpu → List ℕ → Plan Qpu
 plan_by None q words = Done q
-plan_by (Some t) q words = mapped (went q t) (thread_plan t words)
+plan_by (Some t) q words = plan_mapped (went q t) (thread_plan t words)
 
--- the step of a processor, and what it keeps after a wild one
+-- the step of a processor, and what it keeps after an undefined one
 abbrev pub qpu_plan : Qpu → List ℕ → Plan Qpu
 qpu_plan q words = plan_by (active_of q) q words
 
 abbrev pub stopped_by : Option Thread → Qpu → Qpu
 stopped_by None q = q
-stopped_by (Some t) q = stopped q t
+stopped_by (Some t) q = after_stop q t
 
 abbrev pub qpu_stopped : Qpu → Qpu
 qpu_stopped q = stopped_by (active_of q) q
@@ -135,8 +135,8 @@ with_result tmu row t = record t {
 }
 
 -- The oldest request is gone.
-unfoldable pub dropped : Qpu → ℕ → Qpu
-dropped q tmu = record q {
+unfoldable pub after_drop : Qpu → ℕ → Qpu
+after_drop q tmu = record q {
   queue0 = record { items = if tmu == 0 then drop 1 q.queue0.items else q.queue0.items };
   queue1 = record { items = if tmu == 0 then q.queue1.items else drop 1 q.queue1.items };
 }
@@ -145,27 +145,27 @@ abbrev pub slot_of : Qpu → Bool → Option Thread
 slot_of q second = if second then q.other else q.first
 
 -- The thread has the result, unless it is idle.
-unfoldable pub given : Qpu → ℕ → Bool → Option (List ℕ) → Qpu
-given q tmu second row = record q {
+unfoldable pub result_given : Qpu → ℕ → Bool → Option (List ℕ) → Qpu
+result_given q tmu second row = record q {
   first = if second then q.first else option_map (with_result tmu row) q.first;
   other = if second then option_map (with_result tmu row) q.other else q.other;
 }
 
 -- The oldest request is gone, and its thread has the result, unless that is idle by now.
-abbrev pub served : Qpu → ℕ → Request → Option (List ℕ) → Qpu
-served q tmu request row = given (dropped q tmu) tmu request.second row
+abbrev pub after_service : Qpu → ℕ → Request → Option (List ℕ) → Qpu
+after_service q tmu request row = result_given (after_drop q tmu) tmu request.second row
 
 abbrev pub serving : Option Request → Qpu → ℕ → List ℕ → Plan Qpu
 serving None q tmu words = Done q
-serving (Some request) q tmu words = mapped (served q tmu request) (ask_plan request.ask words)
+serving (Some request) q tmu words = plan_mapped (after_service q tmu request) (ask_plan request.ask words)
 
--- the step of a TMU; after a wild one its request is dropped without a result
+-- the step of a TMU; after an undefined one its request is dropped without a result
 abbrev pub tmu_plan : Qpu → ℕ → List ℕ → Plan Qpu
 tmu_plan q tmu words = serving (oldest (queue_of q tmu)) q tmu words
 
 -- a thread's own queues are empty
 abbrev pub has_none : Bool → Qpu → Bool
-has_none second q = queued second q.queue0.items == 0 && queued second q.queue1.items == 0
+has_none second q = queue_count second q.queue0.items == 0 && queue_count second q.queue1.items == 0
 
 -- beside a thread that is idle, or runs a threaded program
 abbrev pub is_beside : Option Thread → Bool
@@ -199,8 +199,8 @@ started_in threaded t (q ∷ qpus) =
     if takes_first threaded q then in_first q t ∷ qpus
     else (if takes_other threaded q then in_other q t ∷ qpus else q ∷ started_in threaded t qpus)
 
-abbrev pub launched : ℕ → Launch → List Qpu → List Qpu
-launched job launch qpus = started_in launch.threaded (thread_of job launch) qpus
+abbrev pub after_launch : ℕ → Launch → List Qpu → List Qpu
+after_launch job launch qpus = started_in launch.threaded (thread_of job launch) qpus
 
 -- where it would start, from processor n on
 abbrev pub slot_from : Bool → ℕ → List Qpu → Option Slot

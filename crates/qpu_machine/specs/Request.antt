@@ -3,7 +3,7 @@ use Rattle.std.specs.Prelude.{ℕ, zero, suc, ◌+◌, ◌-◌, ◌*◌, ◌%◌
 use Rattle.field_words.specs.Words.{u32_at}
 use Rattle.texture_layouts.specs.{Setup.TextureModel, Setup.texture_of, Setup.faces_of, Setup.level_width_of, Setup.level_height_of, Setup.tiling_at, Fetch.fetch_place_of, Fetch.fetch_size_of}
 use Rattle.texture_layouts.specs.Fits.{has_two_strides, lacks_stride, is_unlisted, has_child_image}
-use Rattle.machine_plan.specs.{Choice.word_at, Plan.Plan, Plan.Done, Plan.Wilds, Plan.Reads, World.mapped}
+use Rattle.machine_plan.specs.{Choice.word_at, Plan.Plan, Plan.Done, Plan.Wilds, Plan.Reads, World.plan_mapped}
 use Rattle.qpu_machine.specs.State.{Ask, Direct, Texture}
 
 -- A direct request reads for each element the word at its address without the low two bits, and they
@@ -51,5 +51,5 @@ texture_plan p0 p1 p2 p3 words = if is_undefined p0 p1 p2 p3 then Wilds else tex
 
 -- What serving a request comes to: the words of a direct one, or None, a result whose words are free.
 abbrev pub ask_plan : Ask → List ℕ → Plan (Option (List ℕ))
-ask_plan (Direct row) words = mapped Some (direct_plan row [])
+ask_plan (Direct row) words = plan_mapped Some (direct_plan row [])
 ask_plan (Texture four) words = texture_plan (slice_index four 0) (slice_index four 1) (slice_index four 2) (slice_index four 3) words

@@ -7,9 +7,9 @@ use Rattle.machine_plan.specs.Choice.{word_at}
 abbrev pub lanes : (ℕ → ℕ) → List ℕ
 lanes f = map f (range_with_len 0 16)
 
--- the same word in each element
-abbrev pub filled : ℕ → List ℕ
-filled word = replicate 16 word
+-- the row with one word in each element
+abbrev pub row_of_word : ℕ → List ℕ
+row_of_word word = replicate 16 word
 
 -- 16 choice words, from this one on
 unfoldable pub chosen_row : List ℕ → ℕ → List ℕ
@@ -24,8 +24,8 @@ unfoldable pub has_lane : ℕ → ℕ → Bool
 has_lane mask e = mask / 2 ^ e % 2 == 1
 
 -- the new words in the elements of the mask, the old ones in the others
-unfoldable pub merged : ℕ → List ℕ → List ℕ → List ℕ
-merged mask old new = lanes (λ e. if has_lane mask e then slice_index new e else slice_index old e)
+unfoldable pub rows_merged : ℕ → List ℕ → List ℕ → List ℕ
+rows_merged mask old new = lanes (λ e. if has_lane mask e then slice_index new e else slice_index old e)
 
 -- The elements that a unit writes. Condition 1 is always and 0 never; any other is a test of flags,
 -- and a half of choice word 0 says what it finds, from this bit on.

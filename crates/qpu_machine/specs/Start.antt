@@ -1,6 +1,6 @@
 -- A thread that has just been started.
 use Rattle.std.specs.Prelude.{ℕ, ◌+◌, ◌*◌, ◌^◌, true, [], None, replicate}
-use Rattle.qpu_machine.specs.{State.Launch, State.Mark, State.Thread, Row.filled}
+use Rattle.qpu_machine.specs.{State.Launch, State.Mark, State.Thread, Row.row_of_word}
 
 -- Before a program's first instruction stand instructions that do nothing: signal 1, and both units
 -- write to 39.
@@ -17,10 +17,10 @@ thread_of job launch = record {
   uniforms = launch.uniforms;
   setups0 = record { items = [] };
   setups1 = record { items = [] };
-  a = replicate 32 (filled 0);
-  b = replicate 32 (filled 0);
+  a = replicate 32 (row_of_word 0);
+  b = replicate 32 (row_of_word 0);
   fresh = true;
-  acc = replicate 6 (filled 0);
+  acc = replicate 6 (row_of_word 0);
   last1 = idle;
   last2 = idle;
   last3 = idle;

@@ -5,7 +5,7 @@ use Rattle.field_words.specs.Words.{u32_at}
 use Rattle.qpu_isa.specs.Terms.{writes_s}
 use Rattle.machine_plan.specs.{Plan.Plan, Plan.Done, Plan.Wilds, Plan.Reads, Glance.Glance, Glance.Now, Glance.At}
 use Rattle.qpu_machine.specs.{State.Leaves, State.Thread, Operands.add_row, Operands.mul_row, Wild.takes_one, Wild.is_wild}
-use Rattle.qpu_machine.specs.Writes.{awake, past_uniform, worked, fate_of, rested, asked, loads}
+use Rattle.qpu_machine.specs.Writes.{awake, past_uniform, after_work, fate_of, after_rest, ask_made, loads}
 
 -- what an instruction comes to: the thread after it, a request that it made, and the thread's fate
 pub record ThreadTurn : Type 0 where
@@ -15,28 +15,28 @@ pub record ThreadTurn : Type 0 where
 abbrev pub turn_of : Thread → Leaves → ThreadTurn
 turn_of thread leaves = record { thread = thread; leaves = leaves }
 
--- the same of an instruction that may be wild
-abbrev pub turned : Thread → Option Leaves → Option ThreadTurn
-turned thread leaves = option_map (turn_of thread) leaves
+-- what an instruction comes to that may be undefined
+abbrev pub turn_taken : Thread → Option Leaves → Option ThreadTurn
+turn_taken thread leaves = option_map (turn_of thread) leaves
 
 -- The instruction executed, by what the two units came to. Both computed with what the registers held
 -- before.
 unfoldable pub executed_with : ℕ → ℕ → List ℕ → List ℕ → List ℕ → Thread → ThreadTurn
 executed_with word uniform sum product words t = record {
-  thread = rested (fate_of t) (worked word uniform sum product words t);
-  leaves = record { asked = asked word uniform sum product t; fate = fate_of t };
+  thread = after_rest (fate_of t) (after_work word uniform sum product words t);
+  leaves = record { asked = ask_made word uniform sum product t; fate = fate_of t };
 }
 
 -- the instruction executed, with the uniform that it took; one that takes none is handed 0
-unfoldable pub executed : ℕ → ℕ → List ℕ → Thread → ThreadTurn
-executed word uniform words t = executed_with word uniform (add_row t word uniform words) (mul_row t word uniform words) words t
+unfoldable pub turn_executed : ℕ → ℕ → List ℕ → Thread → ThreadTurn
+turn_executed word uniform words t = executed_with word uniform (add_row t word uniform words) (mul_row t word uniform words) words t
 
--- A wild instruction does nothing more. Else the thread takes its uniform, and then works.
+-- An undefined instruction does nothing more. Else the thread takes its uniform, and then works.
 unfoldable pub word_plan : Thread → ℕ → List ℕ → Plan ThreadTurn
 word_plan t word words =
     if is_wild t word then Wilds
-    else (if takes_one t word then Reads t.uniforms 4 (λ bytes. Done (executed word (u32_at bytes 0) words (awake words (past_uniform t))))
-    else Done (executed word 0 words (awake words t)))
+    else (if takes_one t word then Reads t.uniforms 4 (λ bytes. Done (turn_executed word (u32_at bytes 0) words (awake words (past_uniform t))))
+    else Done (turn_executed word 0 words (awake words t)))
 
 -- The thread reads the instruction at its place.
 unfoldable pub thread_plan : Thread → List ℕ → Plan ThreadTurn

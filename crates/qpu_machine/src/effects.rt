@@ -1,9 +1,9 @@
 //! What an instruction writes.
 ghost use Rattle.std.specs.Prelude.{◌≡◌, ◌<◌, ◌≤◌, ◌+◌, ◌++◌, ◌∷◌, [], ◌^◌, true, slice_index};
 ghost use Rattle.arrayvec.specs.ArrayVec.{array_vec_len};
-ghost use Rattle.qpu_isa.specs.Setups.{kept};
+ghost use Rattle.qpu_isa.specs.Setups.{setups_kept};
 ghost use Rattle.qpu_isa.specs.Terms.{writes_tmu};
-ghost use Rattle.qpu_machine.specs.Writes.{awake, file_after, acc_after, written_at, added, multiplied, loads, loaded_row, r4_after, results_after, loaded, went_on, worked, fate_of, ask_of, asked};
+ghost use Rattle.qpu_machine.specs.Writes.{awake, file_after, acc_after, written_at, after_add, after_multiply, loads, loaded_row, r4_after, results_after, after_load, went_on, after_work, fate_of, ask_of, ask_made};
 
 use crate::lanes::{chosen_row, chosen_rows, has_lane, mask_of, merged};
 use crate::state::{Ask, Asked, Fate, Mark, Row, Thread};
@@ -74,9 +74,9 @@ fn write_at<C: Choices>(
 }
 
 // The add unit writes; a branch writes to 39, which is nothing.
-#[tactic(auto, unfolding(crate::specs::Writes::added, crate::specs::Writes::add_address))]
+#[tactic(auto, unfolding(crate::specs::Writes::after_add, crate::specs::Writes::add_address))]
 fn add<C: Choices>(word: u64, value: &Row, words: &C, thread: &mut Thread)
-    ensures { thread.new ≡ added word value.now (C.listed words.now) thread.old }
+    ensures { thread.new ≡ after_add word value.now (C.listed words.now) thread.old }
 {
     let mask = mask_of(cond_add(word), words, 0);
     let address = if is_branch(word) { 39 } else { waddr_add(word) };
@@ -84,9 +84,9 @@ fn add<C: Choices>(word: u64, value: &Row, words: &C, thread: &mut Thread)
 }
 
 // The multiply unit writes.
-#[tactic(auto, unfolding(crate::specs::Writes::multiplied, crate::specs::Writes::mul_address))]
+#[tactic(auto, unfolding(crate::specs::Writes::after_multiply, crate::specs::Writes::mul_address))]
 fn multiply<C: Choices>(word: u64, value: &Row, words: &C, thread: &mut Thread)
-    ensures { thread.new ≡ multiplied word value.now (C.listed words.now) thread.old }
+    ensures { thread.new ≡ after_multiply word value.now (C.listed words.now) thread.old }
 {
     let mask = mask_of(cond_mul(word), words, 16);
     let address = if is_branch(word) { 39 } else { waddr_mul(word) };
@@ -94,11 +94,11 @@ fn multiply<C: Choices>(word: u64, value: &Row, words: &C, thread: &mut Thread)
 }
 
 // The setup words that a TMU keeps.
-#[tactic(auto, unfolding(qpu_isa::specs::Setups::kept))]
+#[tactic(auto, unfolding(qpu_isa::specs::Setups::setups_kept))]
 fn keep(word: u64, tmu: u8, uniform: u32, setups: &mut ArrayVec<u32, 4>)
     requires known { tmu < 2 }
     requires room { writes_tmu word tmu ≡ true → array_vec_len setups.old < 4 }
-    ensures { setups.new.items ≡ kept word tmu uniform setups.old.items }
+    ensures { setups.new.items ≡ setups_kept word tmu uniform setups.old.items }
 {
     if writes_s(word, tmu) {
         setups.clear();
@@ -161,9 +161,9 @@ fn take(taken: bool, results: &mut ArrayVec<Option<Row>, 8>)
 }
 
 // A load signal takes the oldest result into r4.
-#[tactic(auto, unfolding(crate::specs::Writes::loaded))]
+#[tactic(auto, unfolding(crate::specs::Writes::after_load))]
 fn load<C: Choices>(word: u64, words: &C, thread: &mut Thread)
-    ensures { thread.new ≡ loaded word (C.listed words.now) thread.old }
+    ensures { thread.new ≡ after_load word (C.listed words.now) thread.old }
 {
     load_r4(
         word,
@@ -199,7 +199,7 @@ fn go_on<C: Choices>(word: u64, words: &C, thread: &mut Thread)
 }
 
 /// What the thread keeps after the instruction, by what the two units came to.
-#[tactic(auto, using(crate::proofs::Frames::written_keeps, crate::proofs::Frames::loaded_place), unfolding(crate::specs::Writes::worked, crate::specs::Writes::written, crate::specs::Writes::stored))]
+#[tactic(auto, using(crate::proofs::Frames::written_keeps, crate::proofs::Frames::loaded_place), unfolding(crate::specs::Writes::after_work, crate::specs::Writes::after_writes, crate::specs::Writes::after_setup))]
 pub(crate) fn work<C: Choices>(
     word: u64,
     uniform: u32,
@@ -212,7 +212,7 @@ pub(crate) fn work<C: Choices>(
     requires room0 { writes_tmu word 0 ≡ true → array_vec_len thread.old.setups0 < 4 }
     requires room1 { writes_tmu word 1 ≡ true → array_vec_len thread.old.setups1 < 4 }
     ensures near { thread.new.place ≤ thread.old.place + 2 ^ 33 }
-    ensures value { thread.new ≡ worked word uniform sum.now product.now (C.listed words.now)
+    ensures value { thread.new ≡ after_work word uniform sum.now product.now (C.listed words.now)
         thread.old }
 {
     add(word, sum, words, thread);
@@ -276,7 +276,7 @@ fn ask_of(
 }
 
 /// The request that the instruction makes.
-#[tactic(auto, unfolding(crate::specs::Writes::asked))]
+#[tactic(auto, unfolding(crate::specs::Writes::ask_made))]
 pub(crate) fn asked(
     word: u64,
     uniform: u32,
@@ -284,7 +284,7 @@ pub(crate) fn asked(
     product: &Row,
     thread: &Thread,
 ) -> Option<Asked>
-    ensures { result ≡ asked word uniform sum.now product.now thread.now }
+    ensures { result ≡ ask_made word uniform sum.now product.now thread.now }
 {
     if writes_s(word, 0) {
         let ask = ask_of(word, 0, uniform, sum, product, &thread.setups0);

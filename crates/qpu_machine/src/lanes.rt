@@ -1,7 +1,7 @@
 //! Rows of 16 elements, and masks of elements.
 ghost use Rattle.std.specs.Prelude.{◌≡◌, ◌+◌, ◌≤◌, ◌<◌, ◌^◌, if◌then◌else◌, slice_index};
 ghost use Rattle.machine_plan.specs.Choice.{word_at};
-ghost use Rattle.qpu_machine.specs.Row.{chosen_row, chosen_rows, has_lane, merged, mask_of};
+ghost use Rattle.qpu_machine.specs.Row.{chosen_row, chosen_rows, has_lane, rows_merged, mask_of};
 
 use crate::state::Row;
 use machine_plan::Choices;
@@ -44,9 +44,9 @@ pub(crate) fn has_lane(mask: u32, e: u32) -> bool
 }
 
 /// The new words in the elements of the mask, the old ones in the others.
-#[tactic(auto, using(crate::proofs::Fronts::front_more), unfolding(crate::specs::Row::merged))]
+#[tactic(auto, using(crate::proofs::Fronts::front_more), unfolding(crate::specs::Row::rows_merged))]
 pub(crate) fn merged(mask: u32, old: &Row, new: &Row) -> Row
-    ensures { result ≡ merged mask old.now new.now }
+    ensures { result ≡ rows_merged mask old.now new.now }
 {
     let mut row = [0; 16];
     for e in 0..16 {

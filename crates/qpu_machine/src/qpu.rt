@@ -1,8 +1,8 @@
 //! When a processor may step, and where a program can start.
 ghost use Rattle.std.specs.Prelude.{◌≡◌, ◌<◌, ◌≤◌, ◌^◌, IfSome};
-ghost use Rattle.machine_plan.specs.Glance.{glanced};
+ghost use Rattle.machine_plan.specs.Glance.{glance_result};
 ghost use Rattle.qpu_machine.specs.Bounds.{IsBounded};
-ghost use Rattle.qpu_machine.specs.Qpu.{active_of, queued, qpu_ready, has_none, is_beside, takes_first, takes_other, is_idle};
+ghost use Rattle.qpu_machine.specs.Qpu.{active_of, queue_count, qpu_ready, has_none, is_beside, takes_first, takes_other, is_idle};
 
 use crate::state::{Qpu, Request, Thread};
 use crate::step::is_ready;
@@ -11,7 +11,7 @@ use phys_mem::PhysMem;
 
 // How many requests of the second or of the first thread a queue has.
 fn queued(second: bool, requests: &ArrayVec<Request, 16>) -> usize
-    ensures value { result ≡ queued second requests.now.items }
+    ensures value { result ≡ queue_count second requests.now.items }
     ensures limit { result ≤ 16 }
 {
     let mut count = 0;
@@ -26,7 +26,7 @@ fn queued(second: bool, requests: &ArrayVec<Request, 16>) -> usize
 /// Whether the processor may step: its active thread runs, and isn't held up by a TMU.
 pub fn is_qpu_ready(qpu: &Qpu, memory: &PhysMem) -> bool
     requires { IsBounded qpu.now }
-    ensures { result ≡ glanced (qpu_ready qpu.now) memory.now }
+    ensures { result ≡ glance_result (qpu_ready qpu.now) memory.now }
 {
     let active = if qpu.second { &qpu.other } else { &qpu.first };
     match active {

@@ -94,7 +94,7 @@ fn is_undefined(four: &[u32; 4], texture: &Texture) -> bool
         || (texture.is_unlisted() || has_child_image(four))
 }
 
-// Serves a request for a texture. False comes exactly where it is wild.
+// Serves a request for a texture. False comes exactly where it is undefined.
 fn serve_texture<C: Choices>(
     four: &[u32; 4],
     words: &C,
@@ -116,7 +116,7 @@ fn serve_texture<C: Choices>(
 
 /// Serves a request, with the accesses of `who`. What the hardware leaves open is answered by the words; a missing word is
 /// zero. It comes to the words of a direct request, and for a texture to `Some(None)`, a result whose words are free. `None`
-/// comes exactly where the request is wild; then a Wild access is listed behind the reads before it.
+/// comes exactly where the request is undefined; then a Wild access is listed behind the reads before it.
 pub fn serve<C: Choices>(
     ask: &Ask,
     words: &C,

@@ -2,7 +2,7 @@
 ghost use Rattle.std.specs.Prelude.{◌≡◌, ◌≢◌, ◌<◌, ◌≤◌, IsTrue, false, Some, is_some, option_map, drop};
 ghost use Rattle.arrayvec.specs.ArrayVec.{array_vec_len};
 ghost use Rattle.machine_plan.specs.Turn.{CarriesOver, if_tame};
-ghost use Rattle.qpu_machine.specs.Qpu.{queue_of, oldest, job_of_request, slot_of, tmu_plan, dropped, with_result, given};
+ghost use Rattle.qpu_machine.specs.Qpu.{queue_of, oldest, job_of_request, slot_of, tmu_plan, after_drop, with_result, result_given};
 ghost use Rattle.qpu_machine.specs.Bounds.{IsBounded, finished0, finished1};
 
 use crate::request::serve;
@@ -45,11 +45,11 @@ pub fn tmu_job(qpu: &Qpu, tmu: u8) -> u8
 }
 
 // Takes the oldest request of a TMU.
-#[tactic(auto, unfolding(crate::specs::Qpu::dropped))]
+#[tactic(auto, unfolding(crate::specs::Qpu::after_drop))]
 fn drop_oldest(tmu: u8, qpu: &mut Qpu) -> Request
     requires { IsTrue (is_some (oldest (queue_of qpu.old tmu))) }
     ensures value { oldest (queue_of qpu.old tmu) ≡ Some result }
-    ensures qpu { qpu.new ≡ dropped qpu.old tmu }
+    ensures qpu { qpu.new ≡ after_drop qpu.old tmu }
 {
     if tmu == 0 {
         qpu.queue0.remove(0)
@@ -74,11 +74,11 @@ fn give_slot(tmu: u8, row: Option<Row>, slot: &mut Option<Thread>)
 }
 
 // The thread that made the request gets its result.
-#[tactic(auto, unfolding(crate::specs::Qpu::given))]
+#[tactic(auto, unfolding(crate::specs::Qpu::result_given))]
 fn give(tmu: u8, second: bool, row: Option<Row>, qpu: &mut Qpu)
     requires room0 { tmu ≡ 0 → finished0 (slot_of qpu.old second) < 8 }
     requires room1 { tmu ≢ 0 → finished1 (slot_of qpu.old second) < 8 }
-    ensures { qpu.new ≡ given qpu.old tmu second row }
+    ensures { qpu.new ≡ result_given qpu.old tmu second row }
 {
     if second {
         give_slot(tmu, row, &mut qpu.other);
@@ -90,7 +90,7 @@ fn give(tmu: u8, second: bool, row: Option<Row>, qpu: &mut Qpu)
 /// One step of TMU `tmu`, which has a request: it serves the oldest one, with the accesses of `who`, listed behind those
 /// already listed. What the hardware leaves open is answered by the words; a missing word is zero.
 ///
-/// False comes exactly where the request is wild: then a Wild access is listed behind the reads before it, and the request is
+/// False comes exactly where the request is undefined: then a Wild access is listed behind the reads before it, and the request is
 /// gone without a result.
 pub fn step_tmu<C: Choices>(
     qpu: &mut Qpu,
@@ -106,7 +106,7 @@ pub fn step_tmu<C: Choices>(
     ensures bounded { IsBounded qpu.new }
     ensures shows { CarriesOver who (tmu_plan qpu.old tmu (C.listed words.now)) memory.now
         accesses.old accesses.new (if_tame result qpu.new) }
-    ensures wild { result ≡ false → qpu.new ≡ dropped qpu.old tmu }
+    ensures wild { result ≡ false → qpu.new ≡ after_drop qpu.old tmu }
 {
     let request = drop_oldest(tmu, qpu);
     match serve(&request.ask, words, who, memory, accesses) {

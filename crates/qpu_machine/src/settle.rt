@@ -1,9 +1,9 @@
 //! The step of a processor.
 ghost use Rattle.std.specs.Prelude.{◌≡◌, ◌<◌, ◌≤◌, ◌^◌, IsTrue, true, false, IfSome, is_some};
 ghost use Rattle.arrayvec.specs.ArrayVec.{array_vec_len};
-ghost use Rattle.machine_plan.specs.Glance.{glanced};
+ghost use Rattle.machine_plan.specs.Glance.{glance_result};
 ghost use Rattle.machine_plan.specs.Turn.{CarriesOver, if_tame};
-ghost use Rattle.qpu_machine.specs.Qpu.{active_of, job_of_thread, resting_of, qpu_ready, qpu_plan, qpu_stopped, woken_slot, queue_with, with_active, left_slot, gives_way_by, asked_by, settled, settled_by};
+ghost use Rattle.qpu_machine.specs.Qpu.{active_of, job_of_thread, resting_of, qpu_ready, qpu_plan, qpu_stopped, woken_slot, queue_with, with_active, left_slot, gives_way_by, asked_by, after_turn, settled_by};
 ghost use Rattle.qpu_machine.specs.Bounds.{IsNear, IsBounded, SlotSteps};
 
 use crate::state::{Asked, Fate, Leaves, Qpu, Request, Thread};
@@ -12,7 +12,7 @@ use arrayvec::ArrayVec;
 use machine_plan::{Accesses, Choices, Who};
 use phys_mem::PhysMem;
 
-// One instruction of the thread in this slot. `None` comes where it is wild, or where no thread is there.
+// One instruction of the thread in this slot. `None` comes where it is undefined, or where no thread is there.
 fn step_slot<C: Choices>(
     slot: &mut Option<Thread>,
     words: &C,
@@ -89,7 +89,7 @@ fn asked_by(left: &Option<Leaves>) -> Option<Asked>
 }
 
 // The processor after a step whose thread stands in its slot already.
-#[tactic(auto, unfolding(crate::specs::Qpu::settled, crate::specs::Qpu::settled_by))]
+#[tactic(auto, unfolding(crate::specs::Qpu::after_turn, crate::specs::Qpu::settled_by))]
 fn settle(job: u8, left: &Option<Leaves>, qpu: &mut Qpu)
     requires room0 { IfSome (asked_by left.now)
         (λ one. one.tmu ≡ 0 → array_vec_len qpu.old.queue0 < 16) }
@@ -154,7 +154,7 @@ pub fn qpu_job(qpu: &Qpu) -> u8
 /// One step of a processor that may step, with the accesses of `who`, listed behind those already listed. What the hardware
 /// leaves open is answered by the words; a missing word is zero.
 ///
-/// False comes exactly where its instruction is wild: then a Wild access is listed behind the instruction's read, and the
+/// False comes exactly where its instruction is undefined: then a Wild access is listed behind the instruction's read, and the
 /// thread has ended.
 pub fn step_qpu<C: Choices>(
     qpu: &mut Qpu,
@@ -163,7 +163,7 @@ pub fn step_qpu<C: Choices>(
     memory: &PhysMem,
     accesses: &mut Accesses,
 ) -> bool
-    requires ready { IsTrue (glanced (qpu_ready qpu.old) memory.now) }
+    requires ready { IsTrue (glance_result (qpu_ready qpu.old) memory.now) }
     requires bounded { IsBounded qpu.old }
     requires room { array_vec_len accesses.old ≤ 260 }
     ensures bounded { IsBounded qpu.new }

@@ -1,7 +1,7 @@
 //! Where a program starts among the processors.
 ghost use Rattle.std.specs.Prelude.{◌≡◌, ◌<◌, ◌≤◌, length, IfSome, is_some, is_none};
 ghost use Rattle.qpu_machine.specs.Bounds.{AreBounded};
-ghost use Rattle.qpu_machine.specs.Qpu.{slot_from, free_in, launched, in_first, in_other, in_slot, idle_qpu};
+ghost use Rattle.qpu_machine.specs.Qpu.{slot_from, free_in, after_launch, in_first, in_other, in_slot, idle_qpu};
 
 use crate::qpu::{takes_first, takes_other};
 use crate::start::start_thread;
@@ -73,7 +73,7 @@ fn start_at(second: bool, thread: Thread, qpu: &mut Qpu)
 pub fn start_in(job: u8, launch: Launch, qpus: &mut [Qpu])
     requires few { length qpus.old ≤ 12 }
     requires bounded { AreBounded qpus.old }
-    ensures value { qpus.new ≡ launched job launch qpus.old }
+    ensures value { qpus.new ≡ after_launch job launch qpus.old }
     ensures bounded { AreBounded qpus.new }
 {
     if let Some(slot) = slot_for(launch.threaded, qpus) {

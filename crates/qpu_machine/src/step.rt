@@ -6,11 +6,11 @@ ghost use Rattle.qpu_machine.specs.State.{Read};
 ghost use Rattle.machine_plan.specs.Memory.{bytes_at};
 ghost use Rattle.arrayvec.specs.ArrayVec.{array_vec_len};
 ghost use Rattle.machine_plan.specs.Plan.{access};
-ghost use Rattle.machine_plan.specs.Glance.{glanced};
+ghost use Rattle.machine_plan.specs.Glance.{glance_result};
 ghost use Rattle.qpu_isa.specs.Terms.{writes_tmu};
 ghost use Rattle.qpu_machine.specs.Wild.{is_wild, takes_one};
 ghost use Rattle.qpu_machine.specs.Writes.{past_uniform};
-ghost use Rattle.qpu_machine.specs.Step.{executed, word_plan, thread_plan, is_held_by, is_held, thread_ready, turned};
+ghost use Rattle.qpu_machine.specs.Step.{turn_executed, word_plan, thread_plan, is_held_by, is_held, thread_ready, turn_taken};
 
 use crate::effects::{asked, fate_of, loads, wake, work};
 use crate::operands::{add_row, mul_row};
@@ -23,12 +23,12 @@ use phys_mem::PhysMem;
 use qpu_isa::writes::writes_s;
 
 // Executes an instruction, with the uniform that it took.
-#[tactic(auto, unfolding(crate::specs::Step::executed, crate::specs::Step::executed_with, crate::specs::Writes::rested))]
+#[tactic(auto, unfolding(crate::specs::Step::turn_executed, crate::specs::Step::executed_with, crate::specs::Writes::after_rest))]
 fn execute<C: Choices>(word: u64, uniform: u32, words: &C, thread: &mut Thread) -> Leaves
     requires place { thread.old.place < 2 ^ 62 }
     requires room0 { writes_tmu word 0 ≡ true → array_vec_len thread.old.setups0 < 4 }
     requires room1 { writes_tmu word 1 ≡ true → array_vec_len thread.old.setups1 < 4 }
-    ensures turn { executed word uniform (C.listed words.now) thread.old
+    ensures turn { turn_executed word uniform (C.listed words.now) thread.old
         ≡ record { thread = thread.new; leaves = result } }
     ensures near { thread.new.place ≤ thread.old.place + 2 ^ 33 }
 {
@@ -67,7 +67,7 @@ fn uniform_for(
     uniform
 }
 
-// Does what an instruction says. `None` comes exactly where it is wild; then the thread is as it was.
+// Does what an instruction says. `None` comes exactly where it is undefined; then the thread is as it was.
 #[tactic(auto, using(crate::proofs::Tame::room0, crate::proofs::Tame::room1, crate::proofs::Frames::awake_keeps, crate::proofs::Frames::fed_keeps))]
 fn obey<C: Choices>(
     thread: &mut Thread,
@@ -82,7 +82,7 @@ fn obey<C: Choices>(
     ensures near { IfSome result (λ leaves. (is_wild thread.old word ≡ false)
         × (thread.new.place ≤ thread.old.place + 2 ^ 33)) }
     ensures shows { CarriesOver who (word_plan thread.old word (C.listed words.now)) memory.now
-        accesses.old accesses.new (turned thread.new result) }
+        accesses.old accesses.new (turn_taken thread.new result) }
     ensures same { result ≡ None → thread.new ≡ thread.old }
 {
     if is_wild(thread, word) {
@@ -96,7 +96,7 @@ fn obey<C: Choices>(
 
 /// One instruction of a thread, whose accesses are those of `who`. What the hardware leaves open is answered by the words; a
 /// missing word is zero. It lists its accesses behind those already listed: the read of the instruction, and of the uniform
-/// where it takes one. `None` comes exactly where the instruction is wild; then a Wild access is listed too, and the thread is
+/// where it takes one. `None` comes exactly where the instruction is undefined; then a Wild access is listed too, and the thread is
 /// as it was.
 pub fn step_thread<C: Choices>(
     thread: &mut Thread,
@@ -109,7 +109,7 @@ pub fn step_thread<C: Choices>(
     requires room { array_vec_len accesses.old ≤ 260 }
     ensures near { IfSome result (λ leaves. thread.new.place ≤ 2 ^ 34) }
     ensures shows { CarriesOver who (thread_plan thread.old (C.listed words.now)) memory.now
-        accesses.old accesses.new (turned thread.new result) }
+        accesses.old accesses.new (turn_taken thread.new result) }
     ensures same { result ≡ None → thread.new ≡ thread.old }
 {
     let _size = memory.len();
@@ -147,7 +147,7 @@ pub fn is_ready(thread: &Thread, queued0: usize, queued1: usize, memory: &PhysMe
     requires place { thread.now.place < 2 ^ 62 }
     requires few0 { queued0 ≤ 1000 }
     requires few1 { queued1 ≤ 1000 }
-    ensures { result ≡ glanced (thread_ready thread.now queued0 queued1) memory.now }
+    ensures { result ≡ glance_result (thread_ready thread.now queued0 queued1) memory.now }
 {
     let word = instruction_at(thread.place, memory);
     !is_held(thread, word, queued0, queued1)

@@ -72,7 +72,7 @@ fn is_use_wild(thread: &Thread, word: u64) -> bool
     by_setup || (by_register || by_uniform)
 }
 
-/// Whether the instruction is wild for this thread.
+/// Whether the instruction is undefined for this thread.
 #[tactic(auto, unfolding(crate::specs::Wild::is_wild))]
 pub(crate) fn is_wild(thread: &Thread, word: u64) -> bool
     ensures { result ≡ is_wild thread.now word }

@@ -3,8 +3,8 @@ use Rattle.std.specs.Prelude.{ℕ, Bool, List, [], map, get_or, if◌then◌else
 use Rattle.std.specs.{List.flat_map, Borrow.Bor}
 
 -- some texts, one behind the other
-abbrev pub joined : List (Bor (List ℕ)) → List ℕ
-joined pieces = flat_map (λ piece. piece.now) pieces
+abbrev pub pieces_joined : List (Bor (List ℕ)) → List ℕ
+pieces_joined pieces = flat_map (λ piece. piece.now) pieces
 
 abbrev pub texts_in : List (Bor (List ℕ)) → List (List ℕ)
 texts_in rows = map (λ row. row.now) rows

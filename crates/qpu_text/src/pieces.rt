@@ -1,6 +1,6 @@
 //! Texts put one behind the other.
 ghost use Rattle.std.specs.Prelude.{◌≡◌, ◌++◌, OnOk};
-ghost use Rattle.qpu_text.specs.Pieces.{joined, texts_in, named_in, if_so};
+ghost use Rattle.qpu_text.specs.Pieces.{pieces_joined, texts_in, named_in, if_so};
 
 use std::alloc::AllocError;
 
@@ -9,7 +9,7 @@ use std::alloc::AllocError;
 /// # Errors
 /// Want of memory is the only one.
 pub fn put_all(out: &mut Vec<u8>, pieces: &[&str]) -> Result<(), AllocError>
-    ensures { OnOk result (out.new.items ≡ out.old.items ++ joined pieces.now) }
+    ensures { OnOk result (out.new.items ≡ out.old.items ++ pieces_joined pieces.now) }
 {
     for piece in pieces {
         out.extend_from_slice(piece.as_bytes())?;

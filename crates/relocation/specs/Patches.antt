@@ -9,6 +9,6 @@ AllInside size [] = Unit {0}
 AllInside size (patch ∷ patches) = (patch.at + 4 ≤ size) × AllInside size patches
 
 -- the window after each word has been put at its place, in order, and no other byte was changed
-abbrev pub patched : List ℕ → List Patch → List ℕ
-patched window [] = window
-patched window (patch ∷ patches) = patched (with_bytes window patch.at (to_le_bytes w32 patch.word)) patches
+abbrev pub window_patched : List ℕ → List Patch → List ℕ
+window_patched window [] = window
+window_patched window (patch ∷ patches) = window_patched (with_bytes window patch.at (to_le_bytes w32 patch.word)) patches

@@ -1,6 +1,6 @@
 //! Words that are put into a list after the fact.
 ghost use Rattle.std.specs.Prelude.{◌≡◌, length};
-ghost use Rattle.relocation.specs.Patches.{patched, AllInside};
+ghost use Rattle.relocation.specs.Patches.{window_patched, AllInside};
 
 use field_words::put_u32;
 
@@ -14,7 +14,7 @@ pub struct Patch {
 /// Puts each word, little endian, at its place, in order: of two that meet, the later one stays. No other byte changes.
 pub fn apply(out: &mut [u8], patches: &[Patch])
     requires inside { AllInside (length out.old) patches.now }
-    ensures put { out.new ≡ patched out.old patches.now }
+    ensures put { out.new ≡ window_patched out.old patches.now }
     ensures long { length out.new ≡ length out.old }
 {
     for patch in patches {

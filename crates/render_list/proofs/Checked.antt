@@ -1,7 +1,7 @@
 -- What holds of a surface and a frame without faults.
 use Rattle.std.proofs.Common.{◌≡◌, ℕ, zero, suc, ◌+◌, ◌*◌, ◌<◌, ◌≤◌, Bool, true, false, ◌||◌, nat_lt, List, [], ◌∷◌, ◌++◌, Option, Some, None, is_some, if◌then◌else◌, refl, ap, arith, ◌∙◌, lit<}
 use Rattle.field_words.specs.Questions.{Question, first_of, each}
-use Rattle.field_words.proofs.{Questions.none_stands, Nones.front_none, Nones.rest_none, Nones.each_none}
+use Rattle.field_words.proofs.{Questions.none_broken, Nones.front_none, Nones.rest_none, Nones.each_none}
 use Rattle.buffer_table.specs.{Table.TableModel, Table.buffer_at, Table.most_place, Handles.data_of}
 use Rattle.job_format.specs.{declared.file.Frame.Frame, declared.file.Surface.Surface}
 use Rattle.render_list.specs.Frame.{place_at, surface_at, is_present, is_full, full_tile, full_place, FitsAt, IsTileSet, IsSetupFor}
@@ -11,7 +11,7 @@ if_true : {F : Type 0} → (b : Bool) (questions : List (Question F)) → b ≡ 
 if_true true questions stands none = none
 if_true false questions stands none = cc
 
--- Of a surface that is present and has no fault, no rule stands.
+-- Of a surface that is present and has no fault, no rule is broken.
 asked : (frame : Frame) (table : TableModel) (handles : List ℕ) (k : ℕ) → is_present (surface_at frame k) ≡ true
     → first_of (surface_questions frame table handles k) ≡ None
     → first_of (shape_questions k (surface_at frame k) table handles ++ size_questions frame k (surface_at frame k) (buffer_size table handles (surface_at frame k))) ≡ None
@@ -33,7 +33,7 @@ pub is_checked : (frame : Frame) (table : TableModel) (handles : List ℕ) (k : 
     → IsChecked frame k (surface_at frame k) table handles
 unfolding shape_questions size_questions
 is_checked frame table handles k present none =
-    let n = none_stands (shape_questions k (surface_at frame k) table handles ++ size_questions frame k (surface_at frame k) (buffer_size table handles (surface_at frame k))) (asked frame table handles k present none) in
+    let n = none_broken (shape_questions k (surface_at frame k) table handles ++ size_questions frame k (surface_at frame k) (buffer_size table handles (surface_at frame k))) (asked frame table handles k present none) in
     record {
       named = n.1.1.0;
       tiling = n.1.1.1.0;
@@ -87,7 +87,7 @@ tiles_inside frame table handles k number present none named inside = λ full.
 pub set_of : (frame : Frame) (grid : Option (ℕ × ℕ)) (table : TableModel) (handles : List ℕ) → first_of (surface_faults frame grid table handles) ≡ None → IsTileSet frame
 unfolding surface_faults frame_questions is_reversed
 set_of frame grid table handles none =
-    let n = none_stands (frame_questions frame grid) (front_none (frame_questions frame grid) (each (surface_questions frame table handles) 0 6 ++ whole_questions frame) none) in
+    let n = none_broken (frame_questions frame grid) (front_none (frame_questions frame grid) (each (surface_questions frame table handles) 0 6 ++ whole_questions frame) none) in
     let ordered : (nat_lt frame.max_x frame.min_x || nat_lt frame.max_y frame.min_y) ≡ false = n.0 in
     record { across = grind (arith, ordered); down = grind (arith, ordered) }
 

@@ -161,7 +161,7 @@ size_writes frame places x y =
       write_sum (is_there places 1) three 1,
     )
 
--- The same by the frame, whose surfaces the places are.
+-- The loads by the frame, whose surfaces the places are.
 loads_of : (frame : Frame) (places : List (Option ℕ)) (x y : ℕ) → ArePlacesOf frame places
     → slots_size (load_slots frame places x y) ≡ frame_loads frame
 loads_of frame places x y agree = rw (sym (agree 0 (lit< tt)), sym (agree 2 (lit< tt))) (size_loads frame places x y)

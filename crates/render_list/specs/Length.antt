@@ -24,7 +24,7 @@ writes_size multisample_color multisample_zs zs color =
     + (write_size zs (multisample_color || multisample_zs) 7
     + write_size color ((multisample_color || multisample_zs) || zs) 1))
 
--- the same by the surfaces that the frame has
+-- the loads by the surfaces that the frame has
 abbrev pub frame_loads : Frame → ℕ
 frame_loads frame = loads_size frame (is_present (surface_at frame 0)) (is_present (surface_at frame 2))
 

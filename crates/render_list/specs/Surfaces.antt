@@ -6,7 +6,7 @@ use Rattle.field_words.specs.Questions.{Question, Ask, each}
 use Rattle.buffer_table.specs.{Table.TableModel, Table.buffer_at, Handles.data_of}
 use Rattle.job_format.specs.{declared.file.Frame.Frame, declared.file.Surface.Surface}
 use Rattle.texture_layouts.specs.{declared.surface.Tiling.Tiling, declared.format.Style.Style, Surface.size_for}
-use Rattle.texture_layouts.specs.Format.{general_tiling, general_pixel, frame_tiling, frame_pixel, styled}
+use Rattle.texture_layouts.specs.Format.{general_tiling, general_pixel, frame_tiling, frame_pixel, style_named}
 use Rattle.render_list.specs.declared.fault.FrameRule.TheVariants.{Reversed, OutsideGrid, OutsideFrame, UnknownFlag, UnknownBit, Unnamed, UnlistedTiling, UnlistedFormat, Unaligned, TooLarge, FullWithBits, TooLargeFull, NothingWritten}
 use Rattle.render_list.specs.Frame.{color_write, zs_write, multisample_color, multisample_zs, surface_at, is_present, is_full, tile_side, full_tile}
 use Rattle.render_list.specs.{declared.fault.RenderFault.RenderFault, declared.fault.FrameRule.FrameRule}
@@ -71,7 +71,7 @@ unnamed_bits k = 65535 - fields_of_bits k
 unfoldable pub has_unknown_bit : ℕ → Surface → Bool
 has_unknown_bit k surface = not (is_full k surface) && not (bit_and surface.bits (unnamed_bits k) == 0)
 
--- G6: the handle names no Plain buffer
+-- G6: the handle names no data buffer
 unfoldable pub is_unnamed : TableModel → List ℕ → Surface → Bool
 is_unnamed table handles surface = not (is_some (data_of table handles surface.hindex))
 
@@ -83,7 +83,7 @@ unfoldable pub surface_pixel : ℕ → Surface → Option ℕ
 surface_pixel k surface = if k == 1 then frame_pixel surface.bits else general_pixel surface.bits
 
 abbrev pub surface_style : ℕ → Surface → Option Style
-surface_style k surface = styled (surface_tiling k surface) (surface_pixel k surface)
+surface_style k surface = style_named (surface_tiling k surface) (surface_pixel k surface)
 
 -- G7: a tiling that there isn't
 unfoldable pub has_unlisted_tiling : ℕ → Surface → Bool

@@ -1,4 +1,4 @@
-//! The rules of a frame and its surfaces, and the first that stands.
+//! The rules of a frame and its surfaces, and the first that is broken.
 ghost use Rattle.std.specs.Prelude.{◌≡◌};
 ghost use Rattle.render_list.specs.Surfaces.{number_of, fault};
 
@@ -23,7 +23,7 @@ pub enum FrameRule {
     UnknownFlag,
     /// A bit is set outside the fields of the surface's bits.
     UnknownBit,
-    /// The handle names no Plain buffer.
+    /// The handle names no data buffer.
     Unnamed,
     /// There is no such tiling.
     UnlistedTiling,
@@ -64,7 +64,7 @@ impl FrameRule {
     }
 }
 
-/// The first rule of the frame and its surfaces that stands: G`number` at `item`. Item 0 is the
+/// The first broken rule of the frame and its surfaces: G`number` at `item`. Item 0 is the
 /// frame, 1 to 6 are the surfaces in the frame's order, and 7 is the whole.
 #[derive(Clone, Copy, Debug, PartialEq, Eq, Error)]
 #[error("G{number} at item {item} of the frame")]

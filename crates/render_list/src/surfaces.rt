@@ -98,7 +98,7 @@ fn has_unknown_bit(k: usize, surface: &Surface) -> bool
     !is_full(k, surface) && surface.bits & unnamed != 0
 }
 
-/// Whether the handle names no Plain buffer.
+/// Whether the handle names no data buffer.
 fn is_unnamed(table: &Table, handles: &Handles, surface: &Surface) -> bool
     requires { AreNumbersOf table.now handles.now }
     ensures { result ≡ is_unnamed table.now handles.now surface.now }

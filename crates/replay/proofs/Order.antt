@@ -4,7 +4,7 @@ use Rattle.std.proofs.{lemmas.List.Elements.filter-append, lemmas.List.Elements.
 use Rattle.std.proofs.Math.Dec.{eqb-suc-zero}
 use Rattle.std.specs.{Prelude.filter, Prelude.◌==◌, List.range_with_len}
 use Rattle.field_words.specs.declared.access.Actor.TheVariants.{Binner as TheBinner, Renderer as TheRenderer, Qpu as TheQpu, Tmu as TheTmu}
-use Rattle.replay.specs.Units.{unit_at, preferred}
+use Rattle.replay.specs.Units.{unit_at, units_preferred}
 
 range_more : (a n : ℕ) → range_with_len a (suc n) ≡ range_with_len a n ++ (a + n) ∷ []
 range_more a zero = let same : a ≡ a + 0 = omega arith in ap (λ k. k ∷ []) same
@@ -46,11 +46,11 @@ unfolding unit_at
 tmu1_at q = grind (arith, nat_tests)
 
 -- the favoured ones, where there are any
-pub preferred_none : (these those : List ℕ) → (length these == 0) ≡ true → preferred these those ≡ those
+pub preferred_none : (these those : List ℕ) → (length these == 0) ≡ true → units_preferred these those ≡ those
 preferred_none [] those h = refl
 preferred_none (n ∷ these) those h = absurd (let more : (length (n ∷ these) == 0) ≡ false = eqb-suc-zero (length these) in let clash : true ≡ false = sym h ∙ more in cc)
 
-pub preferred_some : (these those : List ℕ) → (length these == 0) ≡ false → preferred these those ≡ these
+pub preferred_some : (these those : List ℕ) → (length these == 0) ≡ false → units_preferred these those ≡ these
 preferred_some [] those h = absurd (cc)
 preferred_some (n ∷ these) those h = refl
 

@@ -3,8 +3,8 @@
 use Rattle.std.specs.Prelude.{◌≡◌, ◌≢◌, ◌≤◌, ◌<◌, ℕ, ◌+◌, ◌^◌, Bool, true, false, IsTrue, List, [], ◌∷◌, ◌++◌, length, map, slice_index, Option}
 use Rattle.field_words.specs.declared.access.Access.{Access}
 use Rattle.field_words.specs.declared.access.Actor.{Actor}
-use Rattle.machine_plan.specs.Runs.{found_by, reached}
-use Rattle.machine.specs.{State.State, Step.Event, Step.enabled, Step.finished, Step.job_of, Step.step, Step.IsRun}
+use Rattle.machine_plan.specs.Runs.{found_by, state_reached}
+use Rattle.machine.specs.{State.State, Step.Event, Step.is_enabled, Step.is_finished, Step.job_of, Step.step, Step.IsRun}
 use Rattle.replay.specs.declared.trace.Ending.TheVariants.{Finished, Waiting, Spent}
 use Rattle.replay.specs.{declared.logged.Kept.Kept, declared.logged.Log.Log, declared.logged.Logged.Logged, declared.trace.Ending.Ending, declared.trace.Trace.Trace}
 use Rattle.replay.specs.{declared.trace.TraceLine.TraceLine, declared.units.UnitKind.UnitKind, Trace.line_of}
@@ -31,7 +31,7 @@ pub record IsPicked (Chooses : ℕ → ℕ → ℕ → Type 0) (i : ℕ) (units 
 -- Step number i is this event: the machine isn't finished; the unit is the one that was picked among those that may step, or
 -- of these among the favoured ones where there are any, with as many words as it gets, and they are what was answered.
 pub record IsTurn (Chooses Answers : ℕ → ℕ → ℕ → Type 0) (favoured : Option UnitKind) (i : ℕ) (s : State) (event : Event) : Type 0 where
-  pub goes : finished s ≡ false
+  pub goes : is_finished s ≡ false
   pub picked : IsPicked Chooses i (candidates favoured (enabled_units s)) event.unit
   pub count : length event.words ≡ word_count event.unit
   pub words : (k : ℕ) → k < length event.words → Answers i k (slice_index event.words k)
@@ -47,40 +47,40 @@ lines_of s [] = []
 lines_of s (event ∷ events) = line_of event.unit (job_of s event.unit) (step s event).accesses ∷ lines_of (step s event).state events
 
 -- the accesses of the steps from number i on, in order, each with its step's number
-abbrev pub numbered : ℕ → List Access → List Logged
-numbered i accesses = map (λ a. record { step = i; access = a }) accesses
+abbrev pub accesses_numbered : ℕ → List Access → List Logged
+accesses_numbered i accesses = map (λ a. record { step = i; access = a }) accesses
 
 abbrev pub accesses_of : ℕ → State → List Event → List Logged
 accesses_of i s [] = []
-accesses_of i s (event ∷ events) = numbered i (step s event).accesses ++ accesses_of (i + 1) (step s event).state events
+accesses_of i s (event ∷ events) = accesses_numbered i (step s event).accesses ++ accesses_of (i + 1) (step s event).state events
 
 -- the run ended in this state, after so many of the steps that were asked for
 abbrev pub IsEnded : State → ℕ → ℕ → Ending → Type 0
-IsEnded s steps done Finished = finished s ≡ true
-IsEnded s steps done Waiting = (finished s ≡ false) × (enabled_units s ≡ [])
-IsEnded s steps done Spent = (done ≡ steps) × (finished s ≡ false) × (enabled_units s ≢ [])
+IsEnded s steps done Finished = is_finished s ≡ true
+IsEnded s steps done Waiting = (is_finished s ≡ false) × (enabled_units s ≡ [])
+IsEnded s steps done Spent = (done ≡ steps) × (is_finished s ≡ false) × (enabled_units s ≢ [])
 
 -- why a machine in this state steps no further
 abbrev pub IsOver : State → Ending → Type 0
-IsOver s Finished = finished s ≡ true
-IsOver s Waiting = (finished s ≡ false) × (enabled_units s ≡ [])
+IsOver s Finished = is_finished s ≡ true
+IsOver s Waiting = (is_finished s ≡ false) × (enabled_units s ≡ [])
 IsOver s Spent = ⊥
 
 -- one step that the script gave: the state after it, its accesses, and its line
 pub record StepsBy (Chooses Answers : ℕ → ℕ → ℕ → Type 0) (favoured : Option UnitKind) (i : ℕ) (s next : State) (listed : List Access) (line : TraceLine) : Type 0 where
   pub event : Event
   pub turn : IsTurn Chooses Answers favoured i s event
-  pub may : IsTrue (enabled s event.unit)
+  pub may : IsTrue (is_enabled s event.unit)
   pub next_is : next ≡ (step s event).state
   pub listed_is : listed ≡ (step s event).accesses
   pub line_is : line ≡ line_of event.unit (job_of s event.unit) (step s event).accesses
 
 -- The script gave the run of these events from this state, at most so many, and it ended so.
 pub record IsRunBy (Chooses Answers : ℕ → ℕ → ℕ → Type 0) (favoured : Option UnitKind) (s : State) (steps : ℕ) (events : List Event) (ending : Ending) : Type 0 where
-  pub run : IsRun s events (found_by step s events) (reached step s events)
+  pub run : IsRun s events (found_by step s events) (state_reached step s events)
   pub follows : Follows Chooses Answers favoured 0 s events
   pub most : length events ≤ steps
-  pub ends : IsEnded (reached step s events) steps (length events) ending
+  pub ends : IsEnded (state_reached step s events) steps (length events) ending
 
 -- The trace is that of this run.
 pub record IsTrace (Chooses Answers : ℕ → ℕ → ℕ → Type 0) (favoured : Option UnitKind) (s : State) (steps : ℕ) (events : List Event) (trace : Trace) : Type 0 where
@@ -108,7 +108,7 @@ IsKept false s events kept = kept.lines.items ≡ lines_of s events
 
 -- what is kept has one step more
 abbrev pub HasMore : Bool → (i : ℕ) → TraceLine → List Access → (before after : Kept) → Type 0
-HasMore true i line accesses before after = after.accesses.items ≡ before.accesses.items ++ numbered i accesses
+HasMore true i line accesses before after = after.accesses.items ≡ before.accesses.items ++ accesses_numbered i accesses
 HasMore false i line accesses before after = after.lines.items ≡ before.lines.items ++ line ∷ []
 
 -- this is kept of some run of so many steps, which ended so

@@ -3,7 +3,7 @@ use Rattle.std.specs.Prelude.{ℕ, ◌-◌, ◌/◌, ◌%◌, ◌==◌, Bool, tr
 use Rattle.std.specs.List.{range_with_len}
 use Rattle.field_words.specs.declared.access.Actor.TheVariants.{Binner as TheBinner, Renderer as TheRenderer, Qpu as TheQpu, Tmu as TheTmu}
 use Rattle.field_words.specs.declared.access.Actor.{Actor}
-use Rattle.machine.specs.{State.State, Step.enabled}
+use Rattle.machine.specs.{State.State, Step.is_enabled}
 use Rattle.replay.specs.declared.units.UnitKind.TheVariants.{Binner, Renderer, Qpu, Tmu}
 use Rattle.replay.specs.declared.units.UnitKind.{UnitKind}
 
@@ -27,7 +27,7 @@ word_count (TheTmu k n) = 512
 
 -- the numbers below n of units that may step, and those of all that may, in that order
 abbrev pub enabled_below : State → ℕ → List ℕ
-enabled_below s n = filter (λ k. enabled s (unit_at k)) (range_with_len 0 n)
+enabled_below s n = filter (λ k. is_enabled s (unit_at k)) (range_with_len 0 n)
 
 abbrev pub enabled_units : State → List ℕ
 enabled_units s = enabled_below s unit_count
@@ -41,11 +41,11 @@ is_of Tmu (TheTmu k n) = true
 is_of kind unit = false
 
 -- these, or where there are none, those
-abbrev pub preferred : (these those : List ℕ) → List ℕ
-preferred [] those = those
-preferred (n ∷ these) those = n ∷ these
+abbrev pub units_preferred : (these those : List ℕ) → List ℕ
+units_preferred [] those = those
+units_preferred (n ∷ these) those = n ∷ these
 
 -- The numbers among which the next unit is picked, of those that may step: where some are of the favoured kind, these alone.
 unfoldable pub candidates : Option UnitKind → List ℕ → List ℕ
 candidates None units = units
-candidates (Some kind) units = preferred (filter (λ n. is_of kind (unit_at n)) units) units
+candidates (Some kind) units = units_preferred (filter (λ n. is_of kind (unit_at n)) units) units

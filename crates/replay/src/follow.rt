@@ -1,6 +1,6 @@
 //! The run itself.
 ghost use Rattle.std.specs.Prelude.{◌≡◌, ◌≤◌, false, [], length, IfOk, IfErr, IsErr};
-ghost use Rattle.machine.specs.Step.{finished};
+ghost use Rattle.machine.specs.Step.{is_finished};
 ghost use Rattle.replay.specs.Units.{enabled_units, candidates};
 ghost use Rattle.replay.specs.Run.{IsOver, IsPicked, StepsBy, HasKept, HasTrace, HasLog};
 
@@ -17,7 +17,7 @@ use std::alloc::Global;
 // The units that may step, or why the run is over. Where one may step the machine isn't finished, so that is asked of the others
 // alone.
 fn look(machine: &Machine) -> Result<ArrayVec<u8, 38>, Ending>
-    ensures goes { IfOk result (λ _. finished machine.now ≡ false) }
+    ensures goes { IfOk result (λ _. is_finished machine.now ≡ false) }
     ensures some { IfOk result (λ units. 1 ≤ length units.items) }
     ensures units { IfOk result (λ units. units.items ≡ enabled_units machine.now) }
     ensures over { IfErr result (IsOver machine.now) }
@@ -67,7 +67,7 @@ fn take_step<S: Script>(
     machine: &mut Machine,
 ) -> TraceLine
     requires may { S.may script.now }
-    requires goes { finished machine.old ≡ false }
+    requires goes { is_finished machine.old ≡ false }
     requires some { 1 ≤ length units.now }
     requires few { length units.now ≤ 38 }
     requires units { units.now ≡ enabled_units machine.old }

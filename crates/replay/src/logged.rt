@@ -1,6 +1,6 @@
 //! What is kept of a run's steps: their lines, or all their accesses.
 ghost use Rattle.std.specs.Prelude.{◌≡◌, ◌++◌, OnOk};
-ghost use Rattle.replay.specs.Run.{numbered, HasMore};
+ghost use Rattle.replay.specs.Run.{accesses_numbered, HasMore};
 
 use crate::trace::{Ending, TraceLine};
 use field_words::Access;
@@ -31,7 +31,7 @@ pub(crate) struct Kept {
 
 // Puts the accesses of this step to those before it.
 fn put_step(kept: &mut Vec<Logged>, step: u32, accesses: &[Access]) -> Result<(), AllocError>
-    ensures { OnOk result (kept.new.items ≡ kept.old.items ++ numbered step accesses.now) }
+    ensures { OnOk result (kept.new.items ≡ kept.old.items ++ accesses_numbered step accesses.now) }
 {
     for access in accesses {
         kept.push(Logged {

@@ -1,7 +1,7 @@
 //! What is kept of a run: a line for each step, and how it ended.
 ghost use Rattle.std.specs.Prelude.{◌≡◌, ◌≤◌, ◌+◌, length};
 ghost use Rattle.std.specs.List.{fold};
-ghost use Rattle.replay.specs.Trace.{with_access, closed, line_of, IsOpen};
+ghost use Rattle.replay.specs.Trace.{with_access, line_closed, line_of, IsOpen};
 
 use field_words::{Access, Actor, Way};
 
@@ -42,7 +42,7 @@ fn with_access(line: TraceLine, access: &Access) -> TraceLine
     requires opened { IsOpen line }
     requires reads { line.reads ≤ 1000 }
     requires writes { line.writes ≤ 1000 }
-    ensures value { closed result ≡ with_access (closed line) access.now }
+    ensures value { line_closed result ≡ with_access (line_closed line) access.now }
     ensures opened { IsOpen result }
     ensures reads { result.reads ≤ line.reads + 1 }
     ensures writes { result.writes ≤ line.writes + 1 }
@@ -70,7 +70,7 @@ fn with_access(line: TraceLine, access: &Access) -> TraceLine
 
 // The line as it is kept, whose least place is 0 where there is no access.
 fn closed(line: TraceLine) -> TraceLine
-    ensures { result ≡ closed line }
+    ensures { result ≡ line_closed line }
 {
     if line.reads == 0 && line.writes == 0 {
         TraceLine { low: 0, ..line }

@@ -1,6 +1,6 @@
 //! The units in the order of a script.
 ghost use Rattle.std.specs.Prelude.{◌≡◌, ◌≤◌, ◌<◌, ◌+◌, length, filter, Some};
-ghost use Rattle.replay.specs.Units.{unit_count, unit_at, word_count, enabled_below, enabled_units, is_of, candidates, preferred};
+ghost use Rattle.replay.specs.Units.{unit_count, unit_at, word_count, enabled_below, enabled_units, is_of, candidates, units_preferred};
 
 use arrayvec::ArrayVec;
 use field_words::Actor;
@@ -111,7 +111,7 @@ fn of_kind(kind: UnitKind, units: &[u8]) -> ArrayVec<u8, 38>
     few
 }
 
-// The same list.
+// A copy of the list.
 fn copied(units: &[u8]) -> ArrayVec<u8, 38>
     requires { length units.now ≤ 38 }
     ensures { result.items ≡ units.now }

@@ -1,4 +1,4 @@
--- How a place and a refusal are told to a person, in one line.
+-- How a place and a refusal are reported to a person, in one line.
 use Rattle.std.specs.Prelude.{◌≡◌, ℕ, Bool, true, false, List, ◌++◌, codes, if◌then◌else◌, decimal}
 use Rattle.job_format.specs.{Rules.rule_text, declared.rule.Refusal.Refusal}
 use Rattle.rule_words.specs.declared.place.Thing.TheVariants.{File, Header, Entry, JobEntry, Surface, Contents, Shader, Handles, Handle, BinnerList, Records, Uniforms}

@@ -82,8 +82,8 @@ unfoldable pub explained_by : RuleName → Option (List ℕ × List ℕ) → Lis
 explained_by name None = []
 explained_by name (Some words) = name_text name ++ (codes ": " ++ (words.0 ++ (codes ".\n\n" ++ (words.1 ++ codes "\n"))))
 
-unfoldable pub explained : RuleName → List ℕ
-explained name = explained_by name (words_of name)
+unfoldable pub explanation_of : RuleName → List ℕ
+explanation_of name = explained_by name (words_of name)
 
 -- the family that a letter names, in either case
 abbrev pub family_of_upper : ℕ → Option Family
@@ -99,13 +99,13 @@ unfoldable pub family_named : ℕ → Option Family
 family_named letter = family_of_upper (to_ascii_uppercase letter)
 
 -- the rule of this name, where there is one
-unfoldable pub known : RuleName → Option RuleName
-known name = if is_some (words_of name) then Some name else None
+unfoldable pub known_rule : RuleName → Option RuleName
+known_rule name = if is_some (words_of name) then Some name else None
 
 abbrev pub rule_by : Option Family → Option ℕ → Option RuleName
 rule_by None number = None
 rule_by (Some family) None = None
-rule_by (Some family) (Some number) = known (record { family = family; number = number })
+rule_by (Some family) (Some number) = known_rule (record { family = family; number = number })
 
 -- a letter and a number: S24
 unfoldable pub rule_named : List ℕ → Option RuleName

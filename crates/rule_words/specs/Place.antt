@@ -1,5 +1,5 @@
 -- Where the things of a job file begin and how many bytes they have; what it is for an offset to lie in one of them; and the one place that a
--- refusal is told by.
+-- refusal is reported by.
 use Rattle.std.specs.Prelude.{ℕ, ◌≡◌, ◌+◌, ◌-◌, ◌*◌, ◌/◌, ◌%◌, ◌<◌, ◌≤◌, ◌⊎◌, ◌==◌, ◌&&◌, ◌||◌, not, Bool, false, nat_lt, nat_le, List, [], ◌∷◌, ◌++◌, length, Option, Some, None, Result, IfOk, IfErr, if◌then◌else◌}
 use Rattle.field_words.specs.Questions.{Question, Ask, each, first_of}
 use Rattle.job_format.specs.Offsets.{header_size, entry_size, job_size, buffer_count, job_count, job_word, content_size, entry_offset, job_offset, content_offset, handles_offset, bin_offset, records_offset, uniforms_offset}
@@ -120,16 +120,16 @@ spot_at bytes refusal =
     else place_or (file_place refusal.offset) (first_of (file_parts bytes refusal))))))
 
 -- counted as a person does: instructions for rules of shaders, handles for H, and surfaces for G
-unfoldable pub counted : Thing → Stage → Place → Place
-counted JobEntry G spot = if nat_le 36 spot.at then record { thing = Surface; index = spot.index; at = (spot.at - 24) / 12 } else spot
-counted Contents S spot = record { thing = Shader; index = spot.index; at = spot.at / 8 }
-counted Contents E spot = record { thing = Shader; index = spot.index; at = spot.at / 8 }
-counted Handles H spot = record { thing = Handle; index = spot.index; at = spot.at / 4 }
-counted thing stage spot = spot
+unfoldable pub place_counted : Thing → Stage → Place → Place
+place_counted JobEntry G spot = if nat_le 36 spot.at then record { thing = Surface; index = spot.index; at = (spot.at - 24) / 12 } else spot
+place_counted Contents S spot = record { thing = Shader; index = spot.index; at = spot.at / 8 }
+place_counted Contents E spot = record { thing = Shader; index = spot.index; at = spot.at / 8 }
+place_counted Handles H spot = record { thing = Handle; index = spot.index; at = spot.at / 4 }
+place_counted thing stage spot = spot
 
--- the place that a refusal of these bytes is told by
+-- the place that a refusal of these bytes is reported by
 unfoldable pub place_at : List ℕ → Refusal → Place
-place_at bytes refusal = counted (spot_at bytes refusal).thing refusal.rule.stage (spot_at bytes refusal)
+place_at bytes refusal = place_counted (spot_at bytes refusal).thing refusal.rule.stage (spot_at bytes refusal)
 
 -- Of a walk over parts: it found the place of the first that has the offset, or none has.
 abbrev pub FindsPart : List (Question Place) → Result Place ℕ → Type 0

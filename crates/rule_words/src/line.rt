@@ -1,4 +1,4 @@
-//! What a person is told of a refusal, in one line.
+//! What a person reads of a refusal, in one line.
 ghost use Rattle.std.specs.Prelude.{◌≡◌, ◌++◌, Some, codes};
 ghost use Rattle.std.specs.Fmt.{decimal};
 ghost use Rattle.rule_words.specs.Line.{is_one, thing_name, unit_name, owner_text, place_text, line_text, IsLineOf};

@@ -1,6 +1,6 @@
 //! The names of rules, and their words.
 ghost use Rattle.std.specs.Prelude.{◌≡◌, option_map, Some, IfOk};
-ghost use Rattle.rule_words.specs.Names.{name_of, texts_in, rows_in, rows_of, words_in, text_of, words_of, sentence_of, family_text, name_text, explained, family_named, known, rule_named, kind_named};
+ghost use Rattle.rule_words.specs.Names.{name_of, texts_in, rows_in, rows_of, words_in, text_of, words_of, sentence_of, family_text, name_text, explanation_of, family_named, known_rule, rule_named, kind_named};
 
 use crate::answers::{ASSEMBLER, LEVELS, QUEUE, SESSION, SLOTS};
 use crate::format::{FORMAT, HANDLES, LAYOUT, TABLE};
@@ -175,9 +175,9 @@ impl fmt::Display for RuleName {
 
 /// All that is said of a rule: its name and its sentence, an empty line, and its explanation. The text is empty where there is no rule
 /// of this name.
-#[tactic(auto, unfolding(crate::specs::Names::explained, crate::specs::Names::explained_by))]
+#[tactic(auto, unfolding(crate::specs::Names::explanation_of, crate::specs::Names::explained_by))]
 pub fn explain(alloc: Global, name: RuleName) -> Result<Vec<u8>, AllocError>
-    ensures { IfOk result (λ text. text.items ≡ explained name) }
+    ensures { IfOk result (λ text. text.items ≡ explanation_of name) }
 {
     match name.words() {
         Some(words) => Ok(format!(in alloc;
@@ -189,9 +189,9 @@ pub fn explain(alloc: Global, name: RuleName) -> Result<Vec<u8>, AllocError>
 }
 
 // The rule, where there is one of this name.
-#[tactic(auto, unfolding(crate::specs::Names::known))]
+#[tactic(auto, unfolding(crate::specs::Names::known_rule))]
 fn known(name: RuleName) -> Option<RuleName>
-    ensures { result ≡ known name }
+    ensures { result ≡ known_rule name }
 {
     match name.words() {
         Some(_) => Some(name),

@@ -4,7 +4,7 @@ ghost use Rattle.field_words.specs.Words.{u32_at};
 ghost use Rattle.job_format.specs.Offsets.{entry_offset, job_size, buffer_count, job_count, job_offset, content_size, content_offset, handles_offset};
 ghost use Rattle.field_words.specs.Questions.{each, first_of};
 ghost use Rattle.rule_words.specs.Place.{start_of, IsBeforeEnd, IsSpot, Covers, WalksTo, FindsPart};
-ghost use Rattle.rule_words.specs.Place.{may_be_end, is_inside, content_parts, job_parts, file_parts, entry_at, spot_at, counted, place_at};
+ghost use Rattle.rule_words.specs.Place.{may_be_end, is_inside, content_parts, job_parts, file_parts, entry_at, spot_at, place_counted, place_at};
 
 use field_words::get_u32;
 use job_format::{ENTRY_SIZE, HEADER_SIZE, JOB_SIZE, Refusal, Rule, Stage};
@@ -255,10 +255,10 @@ fn spot_of(bytes: &[u8], refusal: Refusal) -> Place
 }
 
 /// The spot as a person counts: an instruction of a shader, a handle of a job, a surface, or a byte of another thing.
-#[tactic(auto, unfolding(crate::specs::Place::counted, crate::specs::Place::start_of, crate::specs::Place::IsBeforeEnd, crate::specs::Place::unit_of), using(crate::proofs::Spots::covers_bytes))]
+#[tactic(auto, unfolding(crate::specs::Place::place_counted, crate::specs::Place::start_of, crate::specs::Place::IsBeforeEnd, crate::specs::Place::unit_of), using(crate::proofs::Spots::covers_bytes))]
 fn counted(bytes: &[u8], refusal: Refusal, spot: Place) -> Place
     requires { IsSpot bytes.now refusal.offset spot }
-    ensures value { result ≡ counted spot.thing refusal.rule.stage spot }
+    ensures value { result ≡ place_counted spot.thing refusal.rule.stage spot }
     ensures covers { Covers bytes.now refusal.offset result }
 {
     match (spot.thing, refusal.rule.stage) {

@@ -5,12 +5,12 @@ use Rattle.script.specs.{Lines.lines_of, Lines.malformed_from, Replies.replies_f
 pub malformed_here : (formed : List ℕ → Bool) (lines later : List (List ℕ)) (first : List ℕ) (number : ℕ) → lines ≡ first ∷ later → formed first ≡ false
     → malformed_from formed number lines ≡ Some number
 unfolding malformed_from
-malformed_here formed lines later first number e told = rw (e, told) refl
+malformed_here formed lines later first number e report = rw (e, report) refl
 
 pub malformed_later : (formed : List ℕ → Bool) (lines later : List (List ℕ)) (first : List ℕ) (number : ℕ) → lines ≡ first ∷ later → formed first ≡ true
     → malformed_from formed (number + 1) later ≡ malformed_from formed number lines
 unfolding malformed_from
-malformed_later formed lines later first number e told = rw (e, told) refl
+malformed_later formed lines later first number e report = rw (e, report) refl
 
 pub malformed_end : (formed : List ℕ → Bool) (text : List ℕ) (number : ℕ) → length text ≤ 0 → malformed_from formed number (lines_of text) ≡ None
 unfolding malformed_from lines_of

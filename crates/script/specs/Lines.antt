@@ -26,6 +26,6 @@ unfoldable pub malformed_from : (List ℕ → Bool) → ℕ → List (List ℕ) 
 malformed_from is_formed number [] = None
 malformed_from is_formed number (line ∷ lines) = if is_formed line then malformed_from is_formed (number + 1) lines else Some number
 
--- the same for a whole script: its lines count from 1
+-- the first malformed line of a whole script, whose lines count from 1
 abbrev pub first_malformed : (List ℕ → Bool) → List ℕ → Option ℕ
 first_malformed is_formed text = malformed_from is_formed 1 (lines_of text)

@@ -1,2 +1,2 @@
 pub mod Seeded
-pub mod Told
+pub mod Report

@@ -1,8 +1,8 @@
-//! Runs of an accepted file's machine by the scripts of seeds, and what is told of them.
+//! Runs of an accepted file's machine by the scripts of seeds, and what is reported of them.
 #![tactic(auto)]
 
 mod seeded;
-mod told;
+mod report;
 
 pub use seeded::{log_of, run_of};
-pub use told::{Look, Trial, told_text};
+pub use report::{Look, Trial, report_text};

@@ -97,7 +97,7 @@ pub fn run_of(
     replay(alloc, machine, &Seeded { seed }, favoured, steps)
 }
 
-/// The same run: all its accesses.
+/// All accesses of the run that the seed gives.
 pub fn log_of(
     alloc: Global,
     machine: Machine,

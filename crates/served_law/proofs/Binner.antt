@@ -5,11 +5,11 @@ use Rattle.std.specs.Prelude.{nat_lt}
 use Rattle.packets.specs.Opcode.{halt, flush, start_tile_binning, increment_semaphore, indexed_primitive_list, array_primitive_list, gl_shader_state, tile_binning_mode}
 use Rattle.packets.specs.{declared.config.Config.Config, declared.packet.Packet.Packet}
 use Rattle.bin_list.specs.Packets.{opcode}
-use Rattle.machine_plan.specs.{declared.who.Who.Who, declared.launch.Free.Free, Glance.glanced}
-use Rattle.machine_plan.specs.{Plan.Done, World.mapped}
+use Rattle.machine_plan.specs.{declared.who.Who.Who, declared.launch.Free.Free, Glance.glance_result}
+use Rattle.machine_plan.specs.{Plan.Done, World.plan_mapped}
 use Rattle.list_machine.specs.Lists.{Lists, Turned, quiet, past, with_work, with_item, with_block}
 use Rattle.list_machine.specs.Blocks.{tiles_of, spot_of, put_plan}
-use Rattle.list_machine.specs.Binner.{configured, with_word, started, halted, read_plan, fetched_with, started_with, chosen_tile, tile_plan, item_plan, work_plan, binner_by, binner_plan, binner_may, binner_ready}
+use Rattle.list_machine.specs.Binner.{config_set, with_word, after_start, after_halt, read_plan, fetched_with, started_with, chosen_tile, tile_plan, item_plan, work_plan, binner_by, binner_plan, binner_may, binner_ready}
 use Rattle.list_machine.specs.{declared.state.Item.Item, declared.state.Program.TheVariants.Coordinate}
 use Rattle.list_machine.specs.{declared.state.Work.Work, Fetch.fetch_plan, Start.start_plan}
 use Rattle.list_law.proofs.{Bytes.none_left, Logs.same, Safe.keeps_if}
@@ -49,7 +49,7 @@ either_not o a b j false false one two on not_a not_b = absurd cc
 -- The binner reads its next packet.
 read_meets : (who : Who) (K : List ℕ → Type 0) (s : Lists) (m : List ℕ) (packets : List (List ℕ)) (slots : List (Option Packet)) → K m → ListsMeet K s.binner.place s.binner.end s.pending s.semaphore s.renderer.place s.renderer.end packets slots → s.binner.place < s.binner.end
     → Comes who (JobMeets K) (read_plan s) m
-unfolding configured with_word started halted
+unfolding config_set with_word after_start after_halt
 read_meets who K s m [] slots here left below = absurd (none_left s.binner.place s.binner.end left.bin.ends below)
 read_meets who K s m (packet ∷ packets) slots here left below =
     let o : ℕ = opcode packet in
@@ -83,9 +83,9 @@ work_meets who K s k free words m left =
     let P = λ (i : List ℕ) (turned : Turned). TurnedMeets K turned in
     let L = AnyLook in
     let G = AnyAccess in
-    keeps_if who L G P m k.due (mapped (started_with s k) (start_plan Coordinate free k.word)) (if nat_lt k.done k.primitive.length then mapped (fetched_with s k) (fetch_plan k.primitive k.word k.done) else mapped quiet (item_plan s s.binner.kept.config k words))
+    keeps_if who L G P m k.due (plan_mapped (started_with s k) (start_plan Coordinate free k.word)) (if nat_lt k.done k.primitive.length then plan_mapped (fetched_with s k) (fetch_plan k.primitive k.word k.done) else plan_mapped quiet (item_plan s s.binner.kept.config k words))
     (λ due. comes_any who (TurnedMeets K) (started_with s k) (λ launch. left) (start_plan Coordinate free k.word) m)
-    (λ off. keeps_if who L G P m (nat_lt k.done k.primitive.length) (mapped (fetched_with s k) (fetch_plan k.primitive k.word k.done)) (mapped quiet (item_plan s s.binner.kept.config k words))
+    (λ off. keeps_if who L G P m (nat_lt k.done k.primitive.length) (plan_mapped (fetched_with s k) (fetch_plan k.primitive k.word k.done)) (plan_mapped quiet (item_plan s s.binner.kept.config k words))
     (λ more. comes_any who (TurnedMeets K) (fetched_with s k) (λ index. left) (fetch_plan k.primitive k.word k.done) m)
     (λ all. comes_into who quiet (JobMeets K) (TurnedMeets K) (λ next here. here) (item_plan s s.binner.kept.config k words) m (item_meets who (JobMeets K) s s.binner.kept.config k words m left left (λ item. left) (λ item. left))))
 
@@ -95,6 +95,6 @@ binner_by_meets who K s None free words m here left ready =
     comes_into who quiet (JobMeets K) (TurnedMeets K) (λ next here. here) (read_plan s) m (read_meets who K s m left.0 left.1 here left.2 below)
 binner_by_meets who K s (Some k) free words m here left ready = work_meets who K s k free words m left
 
-pub binner_meets : (who : Who) (K : List ℕ → Type 0) (s : Lists) (free : Free) (words m : List ℕ) → K m → JobMeets K s → glanced (binner_ready s free) m ≡ true → Comes who (TurnedMeets K) (binner_plan s free words) m
+pub binner_meets : (who : Who) (K : List ℕ → Type 0) (s : Lists) (free : Free) (words m : List ℕ) → K m → JobMeets K s → glance_result (binner_ready s free) m ≡ true → Comes who (TurnedMeets K) (binner_plan s free words) m
 unfolding binner_plan binner_ready
 binner_meets who K s free words m here left ready = binner_by_meets who K s s.binner.work free words m here left ready

@@ -5,21 +5,21 @@ use Rattle.std.proofs.{lemmas.Bool.Decides.nat_tests, lemmas.List.length-append}
 use Rattle.std.specs.{Prelude.is_some, Prelude.is_none, Prelude.nat_lt, List.list_all}
 use Rattle.field_words.specs.declared.access.Access.{Access}
 use Rattle.field_words.specs.declared.access.Actor.TheVariants.{Binner as TheBinner, Renderer as TheRenderer, Qpu as TheQpu, Tmu as TheTmu}
-use Rattle.field_words.specs.Pieces.{joined as joined_bytes}
+use Rattle.field_words.specs.Pieces.{joined_texts as joined_bytes}
 use Rattle.packets.specs.{declared.packet.Packet.Packet, Opcode.wait_on_semaphore}
 use Rattle.machine_plan.specs.Regions.{Every, Interval, Inside, Rights, rights_of, IsSafeAccess, HasReadOnly}
-use Rattle.machine_plan.specs.{declared.launch.Free.Free, Glance.Now, Glance.At, Glance.glanced, Memory.bytes_at, Others.Happening, Others.OthersRun, World.Owes}
+use Rattle.machine_plan.specs.{declared.launch.Free.Free, Glance.Now, Glance.At, Glance.glance_result, Memory.bytes_at, Others.Happening, Others.OthersRun, World.Owes}
 use Rattle.machine_plan.proofs.Others.{Holds, run_holds}
 use Rattle.list_machine.specs.{declared.state.SubList.SubList, declared.state.Work.Work, Lists.Lists, Start.can_start}
 use Rattle.list_machine.specs.Binner.{has_binner_work, item_may, work_may, binner_may as may_bin, binner_ready}
 use Rattle.list_machine.specs.Renderer.{has_renderer_work, may_pass, ready_in, renderer_ready}
 use Rattle.list_law.proofs.{Bytes.none_left, Logs.same}
 use Rattle.apart_law.proofs.{Parts.some_same, Places.first_is}
-use Rattle.qpu_machine.specs.Qpu.{active_of, queued, ready_by, qpu_ready, oldest, takes_first, takes_other, slot_from, free_in, is_idle}
+use Rattle.qpu_machine.specs.Qpu.{active_of, queue_count, ready_by, qpu_ready, oldest, takes_first, takes_other, slot_from, free_in, is_idle}
 use Rattle.qpu_machine.specs.{declared.state.Qpu.Qpu, declared.state.Request.Request, declared.state.Thread.Thread, Step.thread_ready}
 use Rattle.machine.specs.declared.job.Start.{Start}
 use Rattle.machine.specs.State.{Units, State, Picked, first_where, item_at, binner_job, renderer_job, units_start}
-use Rattle.machine.specs.Step.{Event, is_ahead, binner_may, renderer_may, qpu_may, tmu_may, unit_turn, ready, turn, enabled, finished}
+use Rattle.machine.specs.Step.{Event, is_ahead, binner_may, renderer_may, qpu_may, tmu_may, unit_turn, ready, turn, is_enabled, is_finished}
 use Rattle.machine_law.specs.{Jobs.ArePlain, Laws.AreFine, Units.EachAt}
 use Rattle.machine_law.proofs.{Begins.each_begins, Owes.units_owe_law, Owes.start_fine}
 use Rattle.ends_law.specs.Left.{BinRest, RenderRest}
@@ -35,14 +35,14 @@ no_requests : (requests : List Request) → is_some (oldest requests) ≡ false 
 no_requests [] none = refl
 no_requests (request ∷ requests) none = absurd (true≢false none)
 
-slot_idle : (rights : List Rights) (K : List ℕ → Type 0) (q : Qpu) (slot : Option Thread) (m : List ℕ) → K m → queued q.second q.queue0.items ≡ 0 → queued q.second q.queue1.items ≡ 0
-    → SlotServed rights K (queued q.second q.queue0.items) (queued q.second q.queue1.items) slot → glanced (ready_by slot q) m ≡ false → is_some slot ≡ false
+slot_idle : (rights : List Rights) (K : List ℕ → Type 0) (q : Qpu) (slot : Option Thread) (m : List ℕ) → K m → queue_count q.second q.queue0.items ≡ 0 → queue_count q.second q.queue1.items ≡ 0
+    → SlotServed rights K (queue_count q.second q.queue0.items) (queue_count q.second q.queue1.items) slot → glance_result (ready_by slot q) m ≡ false → is_some slot ≡ false
 slot_idle rights K q None m here none0 none1 thread still = refl
 slot_idle rights K q (Some t) m here none0 none1 thread still =
-    let alone : ThreadServed rights K 0 0 t = subst (λ n. ThreadServed rights K 0 n t) none1 (subst (λ n. ThreadServed rights K n (queued q.second q.queue1.items) t) none0 thread) in
-    let may : glanced (thread_ready t 0 0) m ≡ true = thread_may rights K t m here alone in
-    let same_queues : glanced (thread_ready t (queued q.second q.queue0.items) (queued q.second q.queue1.items)) m ≡ glanced (thread_ready t 0 0) m =
-    ap (λ n. glanced (thread_ready t n (queued q.second q.queue1.items)) m) none0 ∙ ap (λ n. glanced (thread_ready t 0 n) m) none1 in
+    let alone : ThreadServed rights K 0 0 t = subst (λ n. ThreadServed rights K 0 n t) none1 (subst (λ n. ThreadServed rights K n (queue_count q.second q.queue1.items) t) none0 thread) in
+    let may : glance_result (thread_ready t 0 0) m ≡ true = thread_may rights K t m here alone in
+    let same_queues : glance_result (thread_ready t (queue_count q.second q.queue0.items) (queue_count q.second q.queue1.items)) m ≡ glance_result (thread_ready t 0 0) m =
+    ap (λ n. glance_result (thread_ready t n (queue_count q.second q.queue1.items)) m) none0 ∙ ap (λ n. glance_result (thread_ready t 0 n) m) none1 in
     absurd (true≢false (sym may ∙ (sym same_queues ∙ still)))
 
 both_idle : (second : Bool) (first other : Option Thread) → (is_some (if second then other else first) || is_none (if second then first else other)) ≡ true → is_some (if second then other else first) ≡ false → (is_none first && is_none other) ≡ true
@@ -53,23 +53,23 @@ both_idle false None None led none = refl
 both_idle false None (Some t) led none = absurd (false≢true led)
 both_idle false (Some t) other led none = absurd (true≢false none)
 
-qpu_idle : (rights : List Rights) (K : List ℕ → Type 0) (q : Qpu) (m : List ℕ) → K m → QpuServed rights K q → glanced (qpu_ready q) m ≡ false → is_some (oldest q.queue0.items) ≡ false → is_some (oldest q.queue1.items) ≡ false → is_idle q ≡ true
+qpu_idle : (rights : List Rights) (K : List ℕ → Type 0) (q : Qpu) (m : List ℕ) → K m → QpuServed rights K q → glance_result (qpu_ready q) m ≡ false → is_some (oldest q.queue0.items) ≡ false → is_some (oldest q.queue1.items) ≡ false → is_idle q ≡ true
 qpu_idle rights K q m here known still still0 still1 =
     let none0 = no_requests q.queue0.items still0 in
     let none1 = no_requests q.queue1.items still1 in
-    let count0 : queued q.second q.queue0.items ≡ 0 = ap (λ (rs : List Request). queued q.second rs) none0 in
-    let count1 : queued q.second q.queue1.items ≡ 0 = ap (λ (rs : List Request). queued q.second rs) none1 in
+    let count0 : queue_count q.second q.queue0.items ≡ 0 = ap (λ (rs : List Request). queue_count q.second rs) none0 in
+    let count1 : queue_count q.second q.queue1.items ≡ 0 = ap (λ (rs : List Request). queue_count q.second rs) none1 in
     let alone = slot_idle rights K q (active_of q) m here count0 count1 (active_served rights K q known) still in
     and_from (is_none q.first && is_none q.other) (length q.queue0.items == 0 && length q.queue1.items == 0) (both_idle q.second q.first q.other known.led alone)
     (and_from (length q.queue0.items == 0) (length q.queue1.items == 0) (ap (λ (rs : List Request). length rs == 0) none0) (ap (λ (rs : List Request). length rs == 0) none1))
 
 -- no unit of processor k may step
 record QpuStill (m : List ℕ) (q : Qpu) : Type 0 where
-  thread : glanced (qpu_ready q) m ≡ false
+  thread : glance_result (qpu_ready q) m ≡ false
   tmu0 : is_some (oldest q.queue0.items) ≡ false
   tmu1 : is_some (oldest q.queue1.items) ≡ false
 
-still_at : (m : List ℕ) (found : Option Qpu) → glanced (qpu_may found) m ≡ false → glanced (tmu_may found 0) m ≡ false → glanced (tmu_may found 1) m ≡ false → IfSome found (QpuStill m)
+still_at : (m : List ℕ) (found : Option Qpu) → glance_result (qpu_may found) m ≡ false → glance_result (tmu_may found 0) m ≡ false → glance_result (tmu_may found 1) m ≡ false → IfSome found (QpuStill m)
 still_at m None still still0 still1 = tt
 still_at m (Some q) still still0 still1 = record { thread = still; tmu0 = still0; tmu1 = still1 }
 
@@ -120,7 +120,7 @@ unfolding work_may
 waits_by s None free starts has still is = absurd (none_has (nat_lt s.binner.place s.binner.end) has still)
 waits_by s (Some work) free starts has still is = room_by s work free work.due (nat_lt work.done work.primitive.length) refl refl starts still is
 
-binner_waits : (s : Lists) (free : Free) (m : List ℕ) → is_some free.plain ≡ true → has_binner_work s ≡ true → glanced (binner_ready s free) m ≡ false → WaitsForRoom s
+binner_waits : (s : Lists) (free : Free) (m : List ℕ) → is_some free.plain ≡ true → has_binner_work s ≡ true → glance_result (binner_ready s free) m ≡ false → WaitsForRoom s
 unfolding binner_ready
 binner_waits s free m starts has still = waits_by s s.binner.work free starts has still refl
 
@@ -158,17 +158,17 @@ stuck_at rights K j s m here job below still past =
     omega (arith, one, zero_semaphore, meets)
 
 stuck_in : (rights : List Rights) (K : List ℕ → Type 0) (j : ℕ) (s : Lists) (m : List ℕ) (inside : Option SubList) (below : Bool) → K m → JobServed rights K j s → (nat_lt s.renderer.place s.renderer.end) ≡ below → (below || is_some inside) ≡ true
-    → glanced (ready_in s inside) m ≡ false → nat_lt s.binner.place s.binner.end ≡ false → ⊥
+    → glance_result (ready_in s inside) m ≡ false → nat_lt s.binner.place s.binner.end ≡ false → ⊥
 unfolding bytes_at
 stuck_in rights K j s m (Some sub) below here job is has still past = true≢false still
 stuck_in rights K j s m None false here job is has still past = false≢true has
 stuck_in rights K j s m None true here job is has still past =
     let under : s.renderer.place < s.renderer.end = grind (arith, common_steps, nat_tests, is) in
     let stops : may_pass s (slice_index m s.renderer.place) ≡ false =
-    subst (λ (b : Bool). glanced (if b then At s.renderer.place 1 (λ head. Now (may_pass s (slice_index head 0))) else Now false) m ≡ false) is still in
+    subst (λ (b : Bool). glance_result (if b then At s.renderer.place 1 (λ head. Now (may_pass s (slice_index head 0))) else Now false) m ≡ false) is still in
     stuck_at rights K j s m here job under stops past
 
-renderer_stuck : (rights : List Rights) (K : List ℕ → Type 0) (j : ℕ) (s : Lists) (m : List ℕ) → K m → JobServed rights K j s → has_renderer_work s ≡ true → glanced (renderer_ready s) m ≡ false → has_binner_work s ≡ false → ⊥
+renderer_stuck : (rights : List Rights) (K : List ℕ → Type 0) (j : ℕ) (s : Lists) (m : List ℕ) → K m → JobServed rights K j s → has_renderer_work s ≡ true → glance_result (renderer_ready s) m ≡ false → has_binner_work s ≡ false → ⊥
 unfolding renderer_ready
 renderer_stuck rights K j s m here job has still none =
     stuck_in rights K j s m s.renderer.inside (nat_lt s.renderer.place s.renderer.end) here job refl has still (or_parts (nat_lt s.binner.place s.binner.end) (is_some s.binner.work) none).0
@@ -195,7 +195,7 @@ none_pass p n k [] x none is = absurd cc
 none_pass p n k (y ∷ xs) x none is = none_by p n k y xs x (p y) refl (λ rest i there. none_pass p (n + 1) i xs x rest there) none is
 
 -- The renderer's job has work for the binner, where the renderer may not step.
-no_stuck : (rights : List Rights) (K : List ℕ → Type 0) (u : Units) (r : Picked Lists) (m : List ℕ) → K m → UnitsServed rights K u → renderer_job u ≡ Some r → glanced (renderer_ready r.item) m ≡ false → has_binner_work r.item ≡ false → ⊥
+no_stuck : (rights : List Rights) (K : List ℕ → Type 0) (u : Units) (r : Picked Lists) (m : List ℕ) → K m → UnitsServed rights K u → renderer_job u ≡ Some r → glance_result (renderer_ready r.item) m ≡ false → has_binner_work r.item ≡ false → ⊥
 no_stuck rights K u r m here all is still none =
     let first = first_is has_renderer_work u.jobs r is in
     let job = at_number (JobServed rights K) 0 r.number u.jobs r.item all.jobs first.at in
@@ -210,7 +210,7 @@ ahead_below : (n : ℕ) (r : Picked Lists) → nat_lt (r.number + 1) n ≡ true 
 ahead_below n r ahead = let below : r.number + 1 < n = grind (arith, common_steps, nat_tests, ahead) in omega (arith, below)
 
 is_held : (rights : List Rights) (K : List ℕ → Type 0) (u : Units) (b : Picked Lists) (renderer : Option (Picked Lists)) (m : List ℕ) → K m → UnitsServed rights K u → binner_job u ≡ Some b → renderer_job u ≡ renderer
-    → glanced (renderer_may renderer) m ≡ false → is_ahead b.number renderer ≡ true → ⊥
+    → glance_result (renderer_may renderer) m ≡ false → is_ahead b.number renderer ≡ true → ⊥
 is_held rights K u b None m here all first second still ahead = false≢true ahead
 is_held rights K u b (Some r) m here all first second still ahead =
     let ours = first_is has_binner_work u.jobs b first in
@@ -218,12 +218,12 @@ is_held rights K u b (Some r) m here all first second still ahead =
     no_stuck rights K u r m here all second still (ours.before r.number r.item (ahead_below b.number r ahead) theirs.at)
 
 binner_by : (u : Units) (b : Picked Lists) (m : List ℕ) (ahead : Bool) → (ahead ≡ true → ⊥) → is_some (free_in u.qpus).plain ≡ true → has_binner_work b.item ≡ true
-    → glanced (if ahead then Now false else binner_ready b.item (free_in u.qpus)) m ≡ false → WaitsForRoom b.item
+    → glance_result (if ahead then Now false else binner_ready b.item (free_in u.qpus)) m ≡ false → WaitsForRoom b.item
 binner_by u b m true never starts has still = absurd (never refl)
 binner_by u b m false never starts has still = binner_waits b.item (free_in u.qpus) m starts has still
 
 by_units : (rights : List Rights) (K : List ℕ → Type 0) (u : Units) (binner renderer : Option (Picked Lists)) (m : List ℕ) → K m → UnitsServed rights K u → binner_job u ≡ binner → renderer_job u ≡ renderer → list_all is_idle u.qpus ≡ true
-    → glanced (binner_may u binner) m ≡ false → glanced (renderer_may renderer) m ≡ false → (((is_none (binner_job u) && is_none (renderer_job u)) && list_all is_idle u.qpus) ≡ true) ⊎ UnitsWait u
+    → glance_result (binner_may u binner) m ≡ false → glance_result (renderer_may renderer) m ≡ false → (((is_none (binner_job u) && is_none (renderer_job u)) && list_all is_idle u.qpus) ≡ true) ⊎ UnitsWait u
 by_units rights K u None None m here all first second idle still_first still_second = inl (both_none (binner_job u) (renderer_job u) (list_all is_idle u.qpus) first second idle)
 by_units rights K u None (Some r) m here all first second idle still_first still_second =
     let at = (first_is has_renderer_work u.jobs r second).at in
@@ -237,8 +237,8 @@ by_units rights K u (Some b) renderer m here all first second idle still_first s
       idle = idle;
     })
 
-stands_still : (rights : List Rights) (K : List ℕ → Type 0) (t : State) → K t.memory → UnitsServed rights K t.units → IsStill t → (finished t ≡ true) ⊎ UnitsWait t.units
-unfolding enabled finished
+stands_still : (rights : List Rights) (K : List ℕ → Type 0) (t : State) → K t.memory → UnitsServed rights K t.units → IsStill t → (is_finished t ≡ true) ⊎ UnitsWait t.units
+unfolding is_enabled is_finished
 stands_still rights K t here all still =
     let u : Units = t.units in
     let idle = all_idle rights K u.qpus t.memory here all.qpus (λ k. still_at t.memory (item_at u.qpus k) (still (TheQpu k)) (still (TheTmu k 0)) (still (TheTmu k 1))) in

@@ -3,9 +3,9 @@ use Rattle.std.proofs.Common.{◌≡◌, ℕ, zero, suc, true, IsTrue, List, [],
 use Rattle.std.proofs.lemmas.Bool.{false≢true}
 use Rattle.field_words.specs.declared.access.Actor.TheVariants.{Binner as TheBinner, Renderer as TheRenderer, Qpu as TheQpu, Tmu as TheTmu}
 use Rattle.field_words.specs.declared.access.Actor.{Actor}
-use Rattle.machine_plan.specs.{declared.launch.Free.Free, declared.launch.Launch.Launch, declared.who.Who.Who, Glance.glanced, Plan.Plan}
+use Rattle.machine_plan.specs.{declared.launch.Free.Free, declared.launch.Launch.Launch, declared.who.Who.Who, Glance.glance_result, Plan.Plan}
 use Rattle.machine_plan.specs.Regions.{Every, Inside, Rights, rights_of, IsSafeAccess, HasReadOnly}
-use Rattle.machine_plan.specs.World.{mapped}
+use Rattle.machine_plan.specs.World.{plan_mapped}
 use Rattle.machine_plan.proofs.Worlds.{keeps_result}
 use Rattle.apart_law.proofs.Places.{put_every}
 use Rattle.list_machine.specs.Binner.{has_binner_work, binner_ready, binner_plan}
@@ -13,7 +13,7 @@ use Rattle.list_machine.specs.Lists.{Lists, Turned, binner_of, renderer_of}
 use Rattle.list_machine.specs.Renderer.{has_renderer_work, renderer_ready, renderer_plan}
 use Rattle.list_law.specs.Lists.{TurnedFine}
 use Rattle.list_law.proofs.{Binning.binner_keeps, Rendering.renderer_keeps}
-use Rattle.qpu_machine.specs.Qpu.{active_of, job_of_thread, queued, ready_by, plan_by, went, queue_of, oldest, job_of_request, served, serving, free_in}
+use Rattle.qpu_machine.specs.Qpu.{active_of, job_of_thread, queue_count, ready_by, plan_by, went, queue_of, oldest, job_of_request, after_service, serving, free_in}
 use Rattle.qpu_machine.specs.{declared.state.Qpu.Qpu, declared.state.Request.Request, declared.state.Thread.Thread, Request.ask_plan}
 use Rattle.qpu_machine.specs.Step.{ThreadTurn, thread_plan}
 use Rattle.machine.specs.Step.{with_launch, with_lists, with_qpu, is_ahead, binner_may, renderer_may, qpu_may, tmu_may, binner_turn, renderer_turn, qpu_turn, tmu_turn, unit_ready, unit_turn, ready, turn}
@@ -37,7 +37,7 @@ job_turned rights K j s turned job fine meets = record {
   launch = fine.launch;
 }
 
-binner_turned : (rights : List Rights) (K : List ℕ → Type 0) (j : ℕ) (s : Lists) (free : Free) (words m : List ℕ) → K m → JobServed rights K j s → glanced (binner_ready s free) m ≡ true
+binner_turned : (rights : List Rights) (K : List ℕ → Type 0) (j : ℕ) (s : Lists) (free : Free) (words m : List ℕ) → K m → JobServed rights K j s → glance_result (binner_ready s free) m ≡ true
     → Comes (binner_of j) (JobTurned rights K j) (binner_plan s free words) m
 binner_turned rights K j s free words m here job on =
     let r : Rights = rights_of rights j in
@@ -47,7 +47,7 @@ binner_turned rights K j s free words m here job on =
     (binner_keeps (binner_of j) r K O job.config job.frame s free words m job.allocates here job.lists on)
     (binner_meets (binner_of j) K s free words m here job.meets on)
 
-renderer_turned : (rights : List Rights) (K : List ℕ → Type 0) (j : ℕ) (s : Lists) (free : Free) (words m : List ℕ) → K m → JobServed rights K j s → glanced (renderer_ready s) m ≡ true
+renderer_turned : (rights : List Rights) (K : List ℕ → Type 0) (j : ℕ) (s : Lists) (free : Free) (words m : List ℕ) → K m → JobServed rights K j s → glance_result (renderer_ready s) m ≡ true
     → Comes (renderer_of j) (JobTurned rights K j) (renderer_plan s free words) m
 renderer_turned rights K j s free words m here job on =
     let r : Rights = rights_of rights j in
@@ -89,7 +89,7 @@ qpu_served rights K u k q all one =
 
 -- The units' turns.
 binner_serves : (rights : List Rights) (K : List ℕ → Type 0) (u : Units) (found : Option (Picked Lists)) (words m : List ℕ) → K m → UnitsServed rights K u → IfSome found (PickedFine (JobServed rights K))
-    → IsTrue (glanced (binner_may u found) m) → Comes (binner_turn u found words).who (UnitsServed rights K) (binner_turn u found words).plan m
+    → IsTrue (glance_result (binner_may u found) m) → Comes (binner_turn u found words).who (UnitsServed rights K) (binner_turn u found words).plan m
 binner_serves rights K u None words m here all picked may = absurd (false≢true may)
 binner_serves rights K u (Some b) words m here all picked may =
     let free : Free = free_in u.qpus in
@@ -97,7 +97,7 @@ binner_serves rights K u (Some b) words m here all picked may =
     (binner_turned rights K b.number b.item free words m here picked (not_held (is_ahead b.number (renderer_job u)) (binner_ready b.item free) m may))
 
 renderer_serves : (rights : List Rights) (K : List ℕ → Type 0) (u : Units) (found : Option (Picked Lists)) (words m : List ℕ) → K m → UnitsServed rights K u → IfSome found (PickedFine (JobServed rights K))
-    → IsTrue (glanced (renderer_may found) m) → Comes (renderer_turn u found words).who (UnitsServed rights K) (renderer_turn u found words).plan m
+    → IsTrue (glance_result (renderer_may found) m) → Comes (renderer_turn u found words).who (UnitsServed rights K) (renderer_turn u found words).plan m
 renderer_serves rights K u None words m here all picked may = absurd (false≢true may)
 renderer_serves rights K u (Some r) words m here all picked may =
     let free : Free = free_in u.qpus in
@@ -105,44 +105,44 @@ renderer_serves rights K u (Some r) words m here all picked may =
     (renderer_turned rights K r.number r.item free words m here picked may)
 
 slot_serves : (rights : List Rights) (K : List ℕ → Type 0) (k : ℕ) (u : Units) (q : Qpu) (slot : Option Thread) (words m : List ℕ) → active_of q ≡ slot → K m → UnitsServed rights K u → QpuServed rights K q
-    → SlotServed rights K (queued q.second q.queue0.items) (queued q.second q.queue1.items) slot → IsTrue (glanced (ready_by slot q) m)
-    → Comes (record { unit = TheQpu k; job = job_of_thread slot }) (UnitsServed rights K) (mapped (with_qpu u k) (plan_by slot q words)) m
+    → SlotServed rights K (queue_count q.second q.queue0.items) (queue_count q.second q.queue1.items) slot → IsTrue (glance_result (ready_by slot q) m)
+    → Comes (record { unit = TheQpu k; job = job_of_thread slot }) (UnitsServed rights K) (plan_mapped (with_qpu u k) (plan_by slot q words)) m
 slot_serves rights K k u q None words m active here all known thread may = absurd (false≢true may)
 slot_serves rights K k u q (Some t) words m active here all known thread may =
     let who : Who = record { unit = TheQpu k; job = t.job } in
-    let queued0 : ℕ = queued q.second q.queue0.items in
-    let queued1 : ℕ = queued q.second q.queue1.items in
+    let queued0 : ℕ = queue_count q.second q.queue0.items in
+    let queued1 : ℕ = queue_count q.second q.queue1.items in
     let plan : Plan ThreadTurn = thread_plan t words in
-    comes_into who (with_qpu u k) (QpuServed rights K) (UnitsServed rights K) (λ next one. qpu_served rights K u k next all one) (mapped (went q t) plan) m
+    comes_into who (with_qpu u k) (QpuServed rights K) (UnitsServed rights K) (λ next one. qpu_served rights K u k next all one) (plan_mapped (went q t) plan) m
     (comes_into who (went q t) (ThreadGoes rights K queued0 queued1 t) (QpuServed rights K) (λ turn one. went_served rights K q t turn active known one) plan m (thread_goes rights K queued0 queued1 t who words m here thread may))
 
 qpu_serves : (rights : List Rights) (K : List ℕ → Type 0) (k : ℕ) (u : Units) (found : Option Qpu) (words m : List ℕ) → K m → UnitsServed rights K u → IfSome found (QpuServed rights K)
-    → IsTrue (glanced (qpu_may found) m) → Comes (qpu_turn u k found words).who (UnitsServed rights K) (qpu_turn u k found words).plan m
+    → IsTrue (glance_result (qpu_may found) m) → Comes (qpu_turn u k found words).who (UnitsServed rights K) (qpu_turn u k found words).plan m
 qpu_serves rights K k u None words m here all known may = absurd (false≢true may)
 qpu_serves rights K k u (Some q) words m here all known may = slot_serves rights K k u q (active_of q) words m refl here all known (active_served rights K q known) may
 
 request_serves : (rights : List Rights) (K : List ℕ → Type 0) (k tmu : ℕ) (u : Units) (q : Qpu) (found : Option Request) (words m : List ℕ) → UnitsServed rights K u → QpuServed rights K q → oldest (queue_of q tmu) ≡ found
-    → Comes (record { unit = TheTmu k tmu; job = job_of_request found }) (UnitsServed rights K) (mapped (with_qpu u k) (serving found q tmu words)) m
+    → Comes (record { unit = TheTmu k tmu; job = job_of_request found }) (UnitsServed rights K) (plan_mapped (with_qpu u k) (serving found q tmu words)) m
 request_serves rights K k tmu u q None words m all known is = qpu_served rights K u k q all known
 request_serves rights K k tmu u q (Some request) words m all known is =
     let who : Who = record { unit = TheTmu k tmu; job = request.job } in
     let plan : Plan (Option (List ℕ)) = ask_plan request.ask words in
-    comes_into who (with_qpu u k) (QpuServed rights K) (UnitsServed rights K) (λ next one. qpu_served rights K u k next all one) (mapped (served q tmu request) plan) m
-    (comes_any who (QpuServed rights K) (served q tmu request) (λ row. served_served rights K tmu q request row known is) plan m)
+    comes_into who (with_qpu u k) (QpuServed rights K) (UnitsServed rights K) (λ next one. qpu_served rights K u k next all one) (plan_mapped (after_service q tmu request) plan) m
+    (comes_any who (QpuServed rights K) (after_service q tmu request) (λ row. served_served rights K tmu q request row known is) plan m)
 
 tmu_serves : (rights : List Rights) (K : List ℕ → Type 0) (k tmu : ℕ) (u : Units) (found : Option Qpu) (words m : List ℕ) → UnitsServed rights K u → IfSome found (QpuServed rights K)
-    → IsTrue (glanced (tmu_may found tmu) m) → Comes (tmu_turn u k tmu found words).who (UnitsServed rights K) (tmu_turn u k tmu found words).plan m
+    → IsTrue (glance_result (tmu_may found tmu) m) → Comes (tmu_turn u k tmu found words).who (UnitsServed rights K) (tmu_turn u k tmu found words).plan m
 tmu_serves rights K k tmu u None words m all known may = absurd (false≢true may)
 tmu_serves rights K k tmu u (Some q) words m all known may = request_serves rights K k tmu u q (oldest (queue_of q tmu)) words m all known refl
 
-pub unit_serves : (rights : List Rights) (K : List ℕ → Type 0) (u : Units) (unit : Actor) (words m : List ℕ) → K m → UnitsServed rights K u → IsTrue (glanced (unit_ready u unit) m)
+pub unit_serves : (rights : List Rights) (K : List ℕ → Type 0) (u : Units) (unit : Actor) (words m : List ℕ) → K m → UnitsServed rights K u → IsTrue (glance_result (unit_ready u unit) m)
     → Comes (unit_turn u unit words).who (UnitsServed rights K) (unit_turn u unit words).plan m
 unit_serves rights K u TheBinner words m here all may = binner_serves rights K u (binner_job u) words m here all (first_fine (JobServed rights K) has_binner_work 0 u.jobs all.jobs) may
 unit_serves rights K u TheRenderer words m here all may = renderer_serves rights K u (renderer_job u) words m here all (first_fine (JobServed rights K) has_renderer_work 0 u.jobs all.jobs) may
 unit_serves rights K u (TheQpu k) words m here all may = qpu_serves rights K k u (item_at u.qpus k) words m here all (item_fine (QpuServed rights K) u.qpus k all.qpus) may
 unit_serves rights K u (TheTmu k tmu) words m here all may = tmu_serves rights K k tmu u (item_at u.qpus k) words m all (item_fine (QpuServed rights K) u.qpus k all.qpus) may
 
--- No step is wild, so this is what is known after it.
+-- No step is undefined, so this is what is known after it.
 pub steps_serve_law : StepsServe
 unfolding ready turn
 steps_serve_law rights plains first s event plain has fine all may =

@@ -6,7 +6,7 @@ use Rattle.std.specs.Prelude.{drop, is_some, is_none, option_map}
 use Rattle.machine_plan.specs.{declared.launch.Launch.Launch, Regions.Every, Regions.Rights, Regions.rights_of}
 use Rattle.apart_law.proofs.Places.{chosen}
 use Rattle.qpu_machine.specs.declared.state.Fate.TheVariants.{GoesOn, Switches, Ends}
-use Rattle.qpu_machine.specs.Qpu.{active_of, is_of, queued, left_by, gives_way, woken_slot, queue_with, settled, went, oldest, queue_of, with_result, dropped, given, served, has_none, is_beside, takes_first, takes_other, in_first, in_other, started_in, launched}
+use Rattle.qpu_machine.specs.Qpu.{active_of, is_of, queue_count, left_by, gives_way, woken_slot, queue_with, after_turn, went, oldest, queue_of, with_result, after_drop, result_given, after_service, has_none, is_beside, takes_first, takes_other, in_first, in_other, started_in, after_launch}
 use Rattle.qpu_machine.specs.{declared.state.Asked.Asked, declared.state.Fate.Fate, declared.state.Qpu.Qpu, declared.state.Request.Request}
 use Rattle.qpu_machine.specs.{declared.state.Thread.Thread, Start.thread_of, Step.ThreadTurn}
 use Rattle.promises.specs.{Steps.one_if, Finished.may_wait}
@@ -30,12 +30,12 @@ woken_served rights K queued0 queued1 true (Some t) left =
     record { there = still_at (rights_of rights t.job) K (λ code. may_wait code ≡ false) t true t.a t.b t.results0.items t.results1.items left.there; tmu0 = left.tmu0; tmu1 = left.tmu1 }
 
 -- What a thread asks for is queued for it, and for it alone.
-own_by : (second goes : Bool) (requests : List Request) (request : Request) → is_of second request ≡ true → queued second (if goes then requests ++ request ∷ [] else requests) ≡ queued second requests + one_if goes
-own_by second true requests request mine = sum_by_push (λ r. if is_of second r then 1 else 0) requests request ∙ ap (λ b. queued second requests + (if b then 1 else 0)) mine
+own_by : (second goes : Bool) (requests : List Request) (request : Request) → is_of second request ≡ true → queue_count second (if goes then requests ++ request ∷ [] else requests) ≡ queue_count second requests + one_if goes
+own_by second true requests request mine = sum_by_push (λ r. if is_of second r then 1 else 0) requests request ∙ ap (λ b. queue_count second requests + (if b then 1 else 0)) mine
 own_by second false requests request mine = omega arith
 
-other_by : (second goes : Bool) (requests : List Request) (request : Request) → is_of second request ≡ false → queued second (if goes then requests ++ request ∷ [] else requests) ≡ queued second requests
-other_by second true requests request other = sum_by_push (λ r. if is_of second r then 1 else 0) requests request ∙ (ap (λ b. queued second requests + (if b then 1 else 0)) other ∙ omega arith)
+other_by : (second goes : Bool) (requests : List Request) (request : Request) → is_of second request ≡ false → queue_count second (if goes then requests ++ request ∷ [] else requests) ≡ queue_count second requests
+other_by second true requests request other = sum_by_push (λ r. if is_of second r then 1 else 0) requests request ∙ (ap (λ b. queue_count second requests + (if b then 1 else 0)) other ∙ omega arith)
 other_by second false requests request other = refl
 
 is_mine : (second : Bool) (request : Request) → request.second ≡ second → is_of second request ≡ true
@@ -46,13 +46,13 @@ is_other : (second : Bool) (request : Request) → request.second ≡ second →
 is_other true request is = ap (λ b. not b) is
 is_other false request is = is
 
-pub own_queued : (tmu : ℕ) (second : Bool) (job : ℕ) (asked : Option Asked) (requests : List Request) → queued second (queue_with tmu second job asked requests) ≡ queued second requests + asks tmu asked
+pub own_queued : (tmu : ℕ) (second : Bool) (job : ℕ) (asked : Option Asked) (requests : List Request) → queue_count second (queue_with tmu second job asked requests) ≡ queue_count second requests + asks tmu asked
 own_queued tmu second job None requests = omega arith
 own_queued tmu second job (Some asked) requests =
     let request : Request = record { second = second; job = job; ask = asked.ask } in
     own_by second (asked.tmu == tmu) requests request (is_mine second request refl)
 
-pub other_queued : (tmu : ℕ) (second : Bool) (job : ℕ) (asked : Option Asked) (requests : List Request) → queued (not second) (queue_with tmu second job asked requests) ≡ queued (not second) requests
+pub other_queued : (tmu : ℕ) (second : Bool) (job : ℕ) (asked : Option Asked) (requests : List Request) → queue_count (not second) (queue_with tmu second job asked requests) ≡ queue_count (not second) requests
 other_queued tmu second job None requests = refl
 other_queued tmu second job (Some asked) requests =
     let request : Request = record { second = second; job = job; ask = asked.ask } in
@@ -85,41 +85,41 @@ own_runs t Switches stays = absurd (true≢false stays)
 own_runs t Ends stays = absurd (true≢false stays)
 
 settled_served : (rights : List Rights) (K : List ℕ → Type 0) (q : Qpu) (second : Bool) (job : ℕ) (own : Option Thread) (over : Bool) (asked : Option Asked)
-    → QpuServed rights K (record q { second = second }) → SlotServed rights K (queued second q.queue0.items + asks 0 asked) (queued second q.queue1.items + asks 1 asked) own → (over ≡ false → is_some own ≡ true) → IsLike own (if second then q.other else q.first)
-    → QpuServed rights K (settled (record q { second = second }) job own over asked)
-unfolding settled
+    → QpuServed rights K (record q { second = second }) → SlotServed rights K (queue_count second q.queue0.items + asks 0 asked) (queue_count second q.queue1.items + asks 1 asked) own → (over ≡ false → is_some own ≡ true) → IsLike own (if second then q.other else q.first)
+    → QpuServed rights K (after_turn (record q { second = second }) job own over asked)
+unfolding after_turn
 settled_served rights K q true job own over asked left slot runs like = record {
-  first = slot_same rights K (queued false q.queue0.items) (queued false q.queue1.items) (queued false (queue_with 0 true job asked q.queue0.items)) (queued false (queue_with 1 true job asked q.queue1.items)) (woken_slot over q.first)
+  first = slot_same rights K (queue_count false q.queue0.items) (queue_count false q.queue1.items) (queue_count false (queue_with 0 true job asked q.queue0.items)) (queue_count false (queue_with 1 true job asked q.queue1.items)) (woken_slot over q.first)
       (sym (other_queued 0 true job asked q.queue0.items)) (sym (other_queued 1 true job asked q.queue1.items))
-      (woken_served rights K (queued false q.queue0.items) (queued false q.queue1.items) over q.first left.first);
-  other = slot_same rights K (queued true q.queue0.items + asks 0 asked) (queued true q.queue1.items + asks 1 asked) (queued true (queue_with 0 true job asked q.queue0.items)) (queued true (queue_with 1 true job asked q.queue1.items)) own
+      (woken_served rights K (queue_count false q.queue0.items) (queue_count false q.queue1.items) over q.first left.first);
+  other = slot_same rights K (queue_count true q.queue0.items + asks 0 asked) (queue_count true q.queue1.items + asks 1 asked) (queue_count true (queue_with 0 true job asked q.queue0.items)) (queue_count true (queue_with 1 true job asked q.queue1.items)) own
       (sym (own_queued 0 true job asked q.queue0.items)) (sym (own_queued 1 true job asked q.queue1.items)) slot;
   led = led_first over q.first own runs;
   beside = beside_both q.first q.other (woken_slot over q.first) own (like_woken over q.first) like left.beside;
 }
 settled_served rights K q false job own over asked left slot runs like = record {
-  first = slot_same rights K (queued false q.queue0.items + asks 0 asked) (queued false q.queue1.items + asks 1 asked) (queued false (queue_with 0 false job asked q.queue0.items)) (queued false (queue_with 1 false job asked q.queue1.items)) own
+  first = slot_same rights K (queue_count false q.queue0.items + asks 0 asked) (queue_count false q.queue1.items + asks 1 asked) (queue_count false (queue_with 0 false job asked q.queue0.items)) (queue_count false (queue_with 1 false job asked q.queue1.items)) own
       (sym (own_queued 0 false job asked q.queue0.items)) (sym (own_queued 1 false job asked q.queue1.items)) slot;
-  other = slot_same rights K (queued true q.queue0.items) (queued true q.queue1.items) (queued true (queue_with 0 false job asked q.queue0.items)) (queued true (queue_with 1 false job asked q.queue1.items)) (woken_slot over q.other)
+  other = slot_same rights K (queue_count true q.queue0.items) (queue_count true q.queue1.items) (queue_count true (queue_with 0 false job asked q.queue0.items)) (queue_count true (queue_with 1 false job asked q.queue1.items)) (woken_slot over q.other)
       (sym (other_queued 0 false job asked q.queue0.items)) (sym (other_queued 1 false job asked q.queue1.items))
-      (woken_served rights K (queued true q.queue0.items) (queued true q.queue1.items) over q.other left.other);
+      (woken_served rights K (queue_count true q.queue0.items) (queue_count true q.queue1.items) over q.other left.other);
   led = led_other over q.other own runs;
   beside = beside_both q.first q.other own (woken_slot over q.other) like (like_woken over q.other) left.beside;
 }
 
-active_by : (rights : List Rights) (K : List ℕ → Type 0) (second : Bool) (queue0 queue1 : List Request) (first other : Option Thread) → SlotServed rights K (queued false queue0) (queued false queue1) first
-    → SlotServed rights K (queued true queue0) (queued true queue1) other → SlotServed rights K (queued second queue0) (queued second queue1) (if second then other else first)
+active_by : (rights : List Rights) (K : List ℕ → Type 0) (second : Bool) (queue0 queue1 : List Request) (first other : Option Thread) → SlotServed rights K (queue_count false queue0) (queue_count false queue1) first
+    → SlotServed rights K (queue_count true queue0) (queue_count true queue1) other → SlotServed rights K (queue_count second queue0) (queue_count second queue1) (if second then other else first)
 active_by rights K true queue0 queue1 first other one two = two
 active_by rights K false queue0 queue1 first other one two = one
 
-pub active_served : (rights : List Rights) (K : List ℕ → Type 0) (q : Qpu) → QpuServed rights K q → SlotServed rights K (queued q.second q.queue0.items) (queued q.second q.queue1.items) (active_of q)
+pub active_served : (rights : List Rights) (K : List ℕ → Type 0) (q : Qpu) → QpuServed rights K q → SlotServed rights K (queue_count q.second q.queue0.items) (queue_count q.second q.queue1.items) (active_of q)
 active_served rights K q left = active_by rights K q.second q.queue0.items q.queue1.items q.first q.other left.first left.other
 
-pub went_served : (rights : List Rights) (K : List ℕ → Type 0) (q : Qpu) (t : Thread) (turn : ThreadTurn) → active_of q ≡ Some t → QpuServed rights K q → ThreadGoes rights K (queued q.second q.queue0.items) (queued q.second q.queue1.items) t turn
+pub went_served : (rights : List Rights) (K : List ℕ → Type 0) (q : Qpu) (t : Thread) (turn : ThreadTurn) → active_of q ≡ Some t → QpuServed rights K q → ThreadGoes rights K (queue_count q.second q.queue0.items) (queue_count q.second q.queue1.items) t turn
     → QpuServed rights K (went q t turn)
 went_served rights K q t turn active left goes =
     settled_served rights K q q.second t.job (left_by turn.leaves.fate turn.thread) (gives_way turn.leaves.fate) turn.leaves.asked left
-    (own_served rights K (queued q.second q.queue0.items + asks 0 turn.leaves.asked) (queued q.second q.queue1.items + asks 1 turn.leaves.asked) turn.thread turn.leaves.fate goes.left goes.over)
+    (own_served rights K (queue_count q.second q.queue0.items + asks 0 turn.leaves.asked) (queue_count q.second q.queue1.items + asks 1 turn.leaves.asked) turn.thread turn.leaves.fate goes.left goes.over)
     (own_runs turn.thread turn.leaves.fate)
     (subst (λ (slot : Option Thread). IsLike (left_by turn.leaves.fate turn.thread) slot) (sym active) (like_left t turn.thread turn.leaves.fate goes.threaded))
 
@@ -151,28 +151,28 @@ abbrev second_of : Option Request → Bool
 second_of None = false
 second_of (Some request) = request.second
 
-drop_mine : (second : Bool) (requests : List Request) (request : Request) → oldest requests ≡ Some request → request.second ≡ second → queued second requests ≡ queued second (drop 1 requests) + 1
+drop_mine : (second : Bool) (requests : List Request) (request : Request) → oldest requests ≡ Some request → request.second ≡ second → queue_count second requests ≡ queue_count second (drop 1 requests) + 1
 drop_mine second [] request is mine = absurd cc
 drop_mine second (one ∷ requests) request is mine =
     let same_one : one.second ≡ second = ap (λ (o : Option Request). second_of o) is ∙ mine in
-    let counts : queued second (one ∷ requests) ≡ 1 + queued second requests = sum_by-cons (λ r. if is_of second r then 1 else 0) one requests ∙ ap (λ b. (if b then 1 else 0) + queued second requests) (is_mine second one same_one) in
+    let counts : queue_count second (one ∷ requests) ≡ 1 + queue_count second requests = sum_by-cons (λ r. if is_of second r then 1 else 0) one requests ∙ ap (λ b. (if b then 1 else 0) + queue_count second requests) (is_mine second one same_one) in
     omega (arith, counts)
 
-drop_other : (second : Bool) (requests : List Request) (request : Request) → oldest requests ≡ Some request → request.second ≡ second → queued (not second) requests ≡ queued (not second) (drop 1 requests)
+drop_other : (second : Bool) (requests : List Request) (request : Request) → oldest requests ≡ Some request → request.second ≡ second → queue_count (not second) requests ≡ queue_count (not second) (drop 1 requests)
 drop_other second [] request is mine = absurd cc
 drop_other second (one ∷ requests) request is mine =
     let same_one : one.second ≡ second = ap (λ (o : Option Request). second_of o) is ∙ mine in
-    let counts : queued (not second) (one ∷ requests) ≡ 0 + queued (not second) requests = sum_by-cons (λ r. if is_of (not second) r then 1 else 0) one requests ∙ ap (λ b. (if b then 1 else 0) + queued (not second) requests) (is_other second one same_one) in
+    let counts : queue_count (not second) (one ∷ requests) ≡ 0 + queue_count (not second) requests = sum_by-cons (λ r. if is_of (not second) r then 1 else 0) one requests ∙ ap (λ b. (if b then 1 else 0) + queue_count (not second) requests) (is_other second one same_one) in
     omega (arith, counts)
 
 -- in the queue that it is taken from, and in the other one
 pub taken_mine : (here second : Bool) (requests others : List Request) (request : Request) → oldest (if here then requests else others) ≡ Some request → request.second ≡ second
-    → (queued second requests ≡ queued second (if here then drop 1 requests else requests) + one_if here) × (queued second others ≡ queued second (if here then others else drop 1 others) + one_if (not here))
+    → (queue_count second requests ≡ queue_count second (if here then drop 1 requests else requests) + one_if here) × (queue_count second others ≡ queue_count second (if here then others else drop 1 others) + one_if (not here))
 taken_mine true second requests others request is mine = (drop_mine second requests request is mine, omega arith)
 taken_mine false second requests others request is mine = (omega arith, drop_mine second others request is mine)
 
 pub taken_other : (here second : Bool) (requests others : List Request) (request : Request) → oldest (if here then requests else others) ≡ Some request → request.second ≡ second
-    → (queued (not second) requests ≡ queued (not second) (if here then drop 1 requests else requests)) × (queued (not second) others ≡ queued (not second) (if here then others else drop 1 others))
+    → (queue_count (not second) requests ≡ queue_count (not second) (if here then drop 1 requests else requests)) × (queue_count (not second) others ≡ queue_count (not second) (if here then others else drop 1 others))
 taken_other true second requests others request is mine = (drop_other second requests request is mine, refl)
 taken_other false second requests others request is mine = (refl, drop_other second others request is mine)
 
@@ -188,16 +188,16 @@ got_led false false tmu row None other led = led
 got_led false false tmu row (Some t) other led = refl
 
 served_by : (rights : List Rights) (K : List ℕ → Type 0) (tmu : ℕ) (q : Qpu) (second : Bool) (request : Request) (row : Option (List ℕ)) → QpuServed rights K q → oldest (queue_of q tmu) ≡ Some request → request.second ≡ second
-    → QpuServed rights K (given (dropped q tmu) tmu second row)
-unfolding dropped given
+    → QpuServed rights K (result_given (after_drop q tmu) tmu second row)
+unfolding after_drop result_given
 served_by rights K tmu q true request row left is mine =
     let one = taken_mine (tmu == 0) true q.queue0.items q.queue1.items request is mine in
     let two = taken_other (tmu == 0) true q.queue0.items q.queue1.items request is mine in
     let requests0 : List Request = if tmu == 0 then drop 1 q.queue0.items else q.queue0.items in
     let requests1 : List Request = if tmu == 0 then q.queue1.items else drop 1 q.queue1.items in
     record {
-      first = slot_same rights K (queued false q.queue0.items) (queued false q.queue1.items) (queued false requests0) (queued false requests1) q.first two.0 two.1 left.first;
-      other = got_served rights K (queued true q.queue0.items) (queued true q.queue1.items) (queued true requests0) (queued true requests1) tmu row q.other one.0 one.1 left.other;
+      first = slot_same rights K (queue_count false q.queue0.items) (queue_count false q.queue1.items) (queue_count false requests0) (queue_count false requests1) q.first two.0 two.1 left.first;
+      other = got_served rights K (queue_count true q.queue0.items) (queue_count true q.queue1.items) (queue_count true requests0) (queue_count true requests1) tmu row q.other one.0 one.1 left.other;
       led = got_led q.second true tmu row q.first q.other left.led;
       beside = beside_both q.first q.other q.first (option_map (with_result tmu row) q.other) (like_same q.first) (like_result tmu row q.other) left.beside;
     }
@@ -207,21 +207,21 @@ served_by rights K tmu q false request row left is mine =
     let requests0 : List Request = if tmu == 0 then drop 1 q.queue0.items else q.queue0.items in
     let requests1 : List Request = if tmu == 0 then q.queue1.items else drop 1 q.queue1.items in
     record {
-      first = got_served rights K (queued false q.queue0.items) (queued false q.queue1.items) (queued false requests0) (queued false requests1) tmu row q.first one.0 one.1 left.first;
-      other = slot_same rights K (queued true q.queue0.items) (queued true q.queue1.items) (queued true requests0) (queued true requests1) q.other two.0 two.1 left.other;
+      first = got_served rights K (queue_count false q.queue0.items) (queue_count false q.queue1.items) (queue_count false requests0) (queue_count false requests1) tmu row q.first one.0 one.1 left.first;
+      other = slot_same rights K (queue_count true q.queue0.items) (queue_count true q.queue1.items) (queue_count true requests0) (queue_count true requests1) q.other two.0 two.1 left.other;
       led = got_led q.second false tmu row q.first q.other left.led;
       beside = beside_both q.first q.other (option_map (with_result tmu row) q.first) q.other (like_result tmu row q.first) (like_same q.other) left.beside;
     }
 
 pub served_served : (rights : List Rights) (K : List ℕ → Type 0) (tmu : ℕ) (q : Qpu) (request : Request) (row : Option (List ℕ)) → QpuServed rights K q → oldest (queue_of q tmu) ≡ Some request
-    → QpuServed rights K (served q tmu request row)
+    → QpuServed rights K (after_service q tmu request row)
 served_served rights K tmu q request row left is = served_by rights K tmu q request.second request row left is refl
 
 -- Where a program starts, its thread has nothing queued.
-pub none_queued : (second : Bool) (q : Qpu) → has_none second q ≡ true → (queued second q.queue0.items ≡ 0) × (queued second q.queue1.items ≡ 0)
+pub none_queued : (second : Bool) (q : Qpu) → has_none second q ≡ true → (queue_count second q.queue0.items ≡ 0) × (queue_count second q.queue1.items ≡ 0)
 none_queued second q none =
-    let both = and_parts (queued second q.queue0.items == 0) (queued second q.queue1.items == 0) none in
-    (same (queued second q.queue0.items) 0 both.0, same (queued second q.queue1.items) 0 both.1)
+    let both = and_parts (queue_count second q.queue0.items == 0) (queue_count second q.queue1.items == 0) none in
+    (same (queue_count second q.queue0.items) 0 both.0, same (queue_count second q.queue1.items) 0 both.1)
 
 starts_led : (second : Bool) (t : Thread) (other : Option Thread) → is_led (second && is_some other) (Some t) other ≡ true
 starts_led true t None = refl
@@ -239,7 +239,7 @@ in_first_served rights K threaded q t takes is thread left =
     let parts = and_parts (is_none q.first && has_none false q) (if threaded then is_beside q.other else (is_none q.other && has_none true q)) takes in
     let none = none_queued false q (and_parts (is_none q.first) (has_none false q) parts.0).1 in
     record {
-      first = slot_same rights K 0 0 (queued false q.queue0.items) (queued false q.queue1.items) (Some t) (sym none.0) (sym none.1) thread;
+      first = slot_same rights K 0 0 (queue_count false q.queue0.items) (queue_count false q.queue1.items) (Some t) (sym none.0) (sym none.1) thread;
       other = left.other;
       led = starts_led q.second t q.other;
       beside = runs_beside threaded t q is parts.1;
@@ -253,7 +253,7 @@ in_other_served rights K threaded q t takes is thread left =
     let none = none_queued true q (and_parts (is_none q.other) (has_none true q) more.0).1 in
     record {
       first = left.first;
-      other = slot_same rights K 0 0 (queued true q.queue0.items) (queued true q.queue1.items) (Some t) (sym none.0) (sym none.1) thread;
+      other = slot_same rights K 0 0 (queue_count true q.queue0.items) (queue_count true q.queue1.items) (Some t) (sym none.0) (sym none.1) thread;
       led = starts_beside q.second q.first t;
       beside = beside_turn (Some t) q.first (beside_threaded t q.first (is ∙ parts.0) more.1);
     }
@@ -277,7 +277,7 @@ threaded_as : (j : ℕ) (launch : Launch) → (thread_of j launch).threaded ≡ 
 unfolding thread_of
 threaded_as j launch = refl
 
-pub launched_served : (rights : List Rights) (K : List ℕ → Type 0) (j : ℕ) (launch : Launch) (qpus : List Qpu) → LaunchServed rights K j launch → Every (QpuServed rights K) qpus → Every (QpuServed rights K) (launched j launch qpus)
+pub launched_served : (rights : List Rights) (K : List ℕ → Type 0) (j : ℕ) (launch : Launch) (qpus : List Qpu) → LaunchServed rights K j launch → Every (QpuServed rights K) qpus → Every (QpuServed rights K) (after_launch j launch qpus)
 launched_served rights K j launch qpus served all = started_served rights K launch.threaded (thread_of j launch) qpus (threaded_as j launch) (thread_begins rights K j launch served) all
 
 -- and there are as many processors as before
@@ -289,5 +289,5 @@ started_long threaded t (q ∷ qpus) =
     refl
     (chosen (λ (qs : List Qpu). length qs ≡ n) (takes_other threaded q) (in_other q t ∷ qpus) (q ∷ started_in threaded t qpus) refl (ap suc (started_long threaded t qpus)))
 
-pub launched_long : (j : ℕ) (launch : Launch) (qpus : List Qpu) → length (launched j launch qpus) ≡ length qpus
+pub launched_long : (j : ℕ) (launch : Launch) (qpus : List Qpu) → length (after_launch j launch qpus) ≡ length qpus
 launched_long j launch qpus = started_long launch.threaded (thread_of j launch) qpus

@@ -4,9 +4,9 @@ use Rattle.std.proofs.{lemmas.Grind.common_steps, lemmas.Bool.true≢false, lemm
 use Rattle.std.specs.Prelude.{nat_lt}
 use Rattle.packets.specs.declared.packet.Packet.TheVariants.{WaitOnSemaphore, BranchToSubList, StoreTileColor, StoreTileColorAndEnd, StoreFullResolution, LoadFullResolution, StoreTileBuffer, LoadTileBuffer, TileRenderingMode, ClearColors, TileCoordinates}
 use Rattle.packets.specs.{declared.packet.Packet.Packet, Opcode.wait_on_semaphore, Packet.packet_text}
-use Rattle.machine_plan.specs.{declared.who.Who.Who, declared.launch.Free.Free, Choice.word_at, Glance.Now, Glance.At, Glance.glanced}
-use Rattle.machine_plan.specs.{Memory.bytes_at, Plan.Done, Plan.Wilds, World.mapped}
-use Rattle.list_machine.specs.Renderer.{beyond, with_inside, enter_plan, tile_by, branch_plan, tile_plan, at_tile, act, item_at, at_item, fetched, vertex_plan, program_plan, choice_plan, found_plan, plan_in, renderer_plan, may_pass, ready_in, renderer_ready}
+use Rattle.machine_plan.specs.{declared.who.Who.Who, declared.launch.Free.Free, Choice.word_at, Glance.Now, Glance.At, Glance.glance_result}
+use Rattle.machine_plan.specs.{Memory.bytes_at, Plan.Done, Plan.Wilds, World.plan_mapped}
+use Rattle.list_machine.specs.Renderer.{beyond, with_inside, enter_plan, tile_by, branch_plan, tile_plan, at_tile, act, item_at, at_item, item_fetched, vertex_plan, program_plan, choice_plan, found_plan, plan_in, renderer_plan, may_pass, ready_in, renderer_ready}
 use Rattle.list_machine.specs.{declared.state.Found.Found, declared.state.Item.Item, declared.state.Program.Program, Fetch.fetch_plan}
 use Rattle.list_machine.specs.{declared.state.Load.TheVariants.Full, declared.state.Load.TheVariants.General, Start.start_plan}
 use Rattle.list_machine.specs.declared.state.Program.TheVariants.{Fragment, Vertex}
@@ -68,15 +68,15 @@ pub byte_waits : (packet : Packet) → (slice_index (packet_text packet) 0 == wa
 byte_waits packet is = same (waits_of packet) 1 (sym (wait_is packet) ∙ is)
 
 -- where the renderer may step below its list's end, it may pass the opcode there
-passes_by : (s : Lists) (m : List ℕ) (below : Bool) → below ≡ true → glanced (if below then At s.renderer.place 1 (λ head. Now (may_pass s (slice_index head 0))) else Now false) m ≡ true → may_pass s (slice_index m s.renderer.place) ≡ true
+passes_by : (s : Lists) (m : List ℕ) (below : Bool) → below ≡ true → glance_result (if below then At s.renderer.place 1 (λ head. Now (may_pass s (slice_index head 0))) else Now false) m ≡ true → may_pass s (slice_index m s.renderer.place) ≡ true
 unfolding bytes_at
 passes_by s m true below here = here
 passes_by s m false below here = absurd (true≢false (sym below))
 
-passes_at : (s : Lists) (m : List ℕ) → s.renderer.inside ≡ None → glanced (renderer_ready s) m ≡ true → s.renderer.place < s.renderer.end → may_pass s (slice_index m s.renderer.place) ≡ true
+passes_at : (s : Lists) (m : List ℕ) → s.renderer.inside ≡ None → glance_result (renderer_ready s) m ≡ true → s.renderer.place < s.renderer.end → may_pass s (slice_index m s.renderer.place) ≡ true
 unfolding renderer_ready bytes_at
 passes_at s m outside ready below =
-    let here : glanced (ready_in s None) m ≡ true = subst (λ (inside : Option SubList). glanced (ready_in s inside) m ≡ true) outside ready in
+    let here : glance_result (ready_in s None) m ≡ true = subst (λ (inside : Option SubList). glance_result (ready_in s inside) m ≡ true) outside ready in
     passes_by s m (nat_lt s.renderer.place s.renderer.end) (grind (arith, common_steps, nat_tests, below)) here
 
 -- and there the semaphore isn't zero at a wait
@@ -118,8 +118,8 @@ vertex_meets : (who : Who) (K : List ℕ → Type 0) (s : Lists) (item : Item) (
 unfolding vertex_plan
 vertex_meets who K s item words m left =
     let plan = fetch_plan item.primitive item.word (word_at words 1 % item.primitive.length) in
-    keeps_if who AnyLook AnyAccess (λ k turned. TurnedMeets K turned) m (item.primitive.length == 0) (Done (quiet s)) (mapped (fetched s) plan) (λ on. left)
-    (λ off. comes_any who (TurnedMeets K) (fetched s) (λ index. left) plan m)
+    keeps_if who AnyLook AnyAccess (λ k turned. TurnedMeets K turned) m (item.primitive.length == 0) (Done (quiet s)) (plan_mapped (item_fetched s) plan) (λ on. left)
+    (λ off. comes_any who (TurnedMeets K) (item_fetched s) (λ index. left) plan m)
 
 choice_meets : (who : Who) (K : List ℕ → Type 0) (s : Lists) (free : Free) (words m : List ℕ) (sub : SubList) (found : Found) → JobMeets K s → Comes who (TurnedMeets K) (choice_plan s free words sub found) m
 unfolding choice_plan
@@ -140,7 +140,7 @@ found_meets : (who : Who) (K : List ℕ → Type 0) (s : Lists) (free : Free) (w
 found_meets who K s free words m sub None left = left
 found_meets who K s free words m sub (Some found) left = (tt, choice_meets who K s free words m sub found left)
 
-renderer_by : (who : Who) (K : List ℕ → Type 0) (s : Lists) (free : Free) (words m : List ℕ) (inside : Option SubList) → K m → JobMeets K s → glanced (renderer_ready s) m ≡ true → s.renderer.inside ≡ inside
+renderer_by : (who : Who) (K : List ℕ → Type 0) (s : Lists) (free : Free) (words m : List ℕ) (inside : Option SubList) → K m → JobMeets K s → glance_result (renderer_ready s) m ≡ true → s.renderer.inside ≡ inside
     → Comes who (TurnedMeets K) (renderer_plan s free words) m
 unfolding renderer_plan
 renderer_by who K s free words m None here left ready is =
@@ -149,5 +149,5 @@ renderer_by who K s free words m None here left ready is =
 renderer_by who K s free words m (Some sub) here left ready is =
     subst (λ (inside : Option SubList). Comes who (TurnedMeets K) (plan_in s free words inside) m) (sym is) (found_meets who K s free words m sub (item_at sub s.items) left)
 
-pub renderer_meets : (who : Who) (K : List ℕ → Type 0) (s : Lists) (free : Free) (words m : List ℕ) → K m → JobMeets K s → glanced (renderer_ready s) m ≡ true → Comes who (TurnedMeets K) (renderer_plan s free words) m
+pub renderer_meets : (who : Who) (K : List ℕ → Type 0) (s : Lists) (free : Free) (words m : List ℕ) → K m → JobMeets K s → glance_result (renderer_ready s) m ≡ true → Comes who (TurnedMeets K) (renderer_plan s free words) m
 renderer_meets who K s free words m here left ready = renderer_by who K s free words m s.renderer.inside here left ready refl

@@ -3,11 +3,11 @@ use Rattle.std.proofs.Common.{◌≡◌, ◌≤◌, ℕ, ◌+◌, not, Bool, tru
 use Rattle.std.proofs.lemmas.List.Sums.{sum_by-cons}
 use Rattle.shader_flow.specs.Flow.{is_threaded}
 use Rattle.machine_plan.specs.Regions.{Every, Rights}
-use Rattle.qpu_machine.specs.{declared.state.Qpu.Qpu, declared.state.Request.Request, declared.state.Thread.Thread, Bounds.finished0, Bounds.finished1, Qpu.is_of, Qpu.queued}
+use Rattle.qpu_machine.specs.{declared.state.Qpu.Qpu, declared.state.Request.Request, declared.state.Thread.Thread, Bounds.finished0, Bounds.finished1, Qpu.is_of, Qpu.queue_count}
 use Rattle.qpu_law.proofs.Going.{in_checked}
 use Rattle.strict_rules.specs.Queue.{requests_of, most_requests}
 use Rattle.served_law.specs.Known.{ThreadServed, SlotServed, AreBeside, QpuServed}
-use Rattle.promises.specs.Finished.{unloaded}
+use Rattle.promises.specs.Finished.{count_unloaded}
 use Rattle.served_law.proofs.Shaders.{few_requests, serves_at}
 
 -- each request in a queue is one thread's
@@ -15,7 +15,7 @@ both_by : (b : Bool) → (if (if false then b else not b) then 1 else 0) + (if (
 both_by true = refl
 both_by false = refl
 
-pub both_queued : (requests : List Request) → length requests ≡ queued false requests + queued true requests
+pub both_queued : (requests : List Request) → length requests ≡ queue_count false requests + queue_count true requests
 both_queued [] = refl
 both_queued (one ∷ requests) =
     let rest = both_queued requests in
@@ -70,14 +70,14 @@ slots_few rights K a b c d (Some t) (Some o) m here one two beside =
     let theirs = subst (λ threaded. (c + length o.results0.items) + (d + length o.results1.items) ≤ (if threaded then 2 else 4)) beside.1 (thread_few rights K c d o m here two) in
     omega (arith, mine, theirs)
 
-qpu_few : (rights : List Rights) (K : List ℕ → Type 0) (q : Qpu) (m : List ℕ) → K m → QpuServed rights K q → unloaded q ≤ 4
-unfolding unloaded
+qpu_few : (rights : List Rights) (K : List ℕ → Type 0) (q : Qpu) (m : List ℕ) → K m → QpuServed rights K q → count_unloaded q ≤ 4
+unfolding count_unloaded
 qpu_few rights K q m here known =
-    let few = slots_few rights K (queued false q.queue0.items) (queued false q.queue1.items) (queued true q.queue0.items) (queued true q.queue1.items) q.first q.other m here known.first known.other known.beside in
+    let few = slots_few rights K (queue_count false q.queue0.items) (queue_count false q.queue1.items) (queue_count true q.queue0.items) (queue_count true q.queue1.items) q.first q.other m here known.first known.other known.beside in
     let all0 = both_queued q.queue0.items in
     let all1 = both_queued q.queue1.items in
     omega (arith, few, all0, all1)
 
-pub all_few : (rights : List Rights) (K : List ℕ → Type 0) (qpus : List Qpu) (m : List ℕ) → K m → Every (QpuServed rights K) qpus → Every (λ q. unloaded q ≤ 4) qpus
+pub all_few : (rights : List Rights) (K : List ℕ → Type 0) (qpus : List Qpu) (m : List ℕ) → K m → Every (QpuServed rights K) qpus → Every (λ q. count_unloaded q ≤ 4) qpus
 all_few rights K [] m here all = tt
 all_few rights K (q ∷ qpus) m here all = (qpu_few rights K q m here all.0, all_few rights K qpus m here all.1)

@@ -6,13 +6,13 @@ use Rattle.std.specs.{Int.from_le_bytes, Int.w64, Prelude.nat_le, Prelude.drop}
 use Rattle.qpu_isa.specs.Terms.{writes_s}
 use Rattle.shader_flow.specs.Flow.{word, end_of, checked_of}
 use Rattle.uniform_stream.specs.Rules.{s20}
-use Rattle.machine_plan.specs.{declared.launch.Launch.Launch, declared.who.Who.Who, Glance.glanced, Memory.bytes_at}
+use Rattle.machine_plan.specs.{declared.launch.Launch.Launch, declared.who.Who.Who, Glance.glance_result, Memory.bytes_at}
 use Rattle.machine_plan.specs.{Regions.Rights, Regions.rights_of}
-use Rattle.qpu_machine.specs.Step.{ThreadTurn, executed, executed_with, thread_plan, is_held_by, is_held, thread_ready}
-use Rattle.qpu_machine.specs.Writes.{awake, rested, worked, went_on, loaded, stored, written, multiplied, added, written_at, ask_of, asked, loads, results_after}
+use Rattle.qpu_machine.specs.Step.{ThreadTurn, turn_executed, executed_with, thread_plan, is_held_by, is_held, thread_ready}
+use Rattle.qpu_machine.specs.Writes.{awake, after_rest, after_work, went_on, after_load, after_setup, after_writes, after_multiply, after_add, written_at, ask_of, ask_made, loads, results_after}
 use Rattle.qpu_machine.specs.{declared.state.Asked.Asked, Operands.add_row, Operands.mul_row, declared.state.Fate.TheVariants.Ends}
 use Rattle.qpu_machine.specs.{declared.state.Thread.Thread, Start.thread_of}
-use Rattle.qpu_law.specs.{Home.done, Home.readied, Thread.IsHome}
+use Rattle.qpu_law.specs.{Home.turn_done, Home.thread_readied, Thread.IsHome}
 use Rattle.qpu_law.proofs.{Going.fine_at, Going.in_checked, Going.is_went, Going.fate_is, Going.stays_in_code_law}
 use Rattle.promises.specs.{Steps.one_if, Finished.may_wait}
 use Rattle.strict_rules.specs.{Queue.queue_of, Rules.loads_none}
@@ -34,25 +34,25 @@ asks_by false true one other zero_is one_is alone = (ap (λ n. one_if (n == 0)) 
 asks_by false false one other zero_is one_is alone = (refl, refl)
 
 asked_asks : (w uniform : ℕ) (sum product : List ℕ) (t : Thread) → (writes_s w 0 ≡ true → writes_s w 1 ≡ false)
-    → (asks 0 (asked w uniform sum product t) ≡ one_if (writes_s w 0)) × (asks 1 (asked w uniform sum product t) ≡ one_if (writes_s w 1))
-unfolding asked
+    → (asks 0 (ask_made w uniform sum product t) ≡ one_if (writes_s w 0)) × (asks 1 (ask_made w uniform sum product t) ≡ one_if (writes_s w 1))
+unfolding ask_made
 asked_asks w uniform sum product t alone =
     asks_by (writes_s w 0) (writes_s w 1) (record { tmu = 0; ask = ask_of w 0 uniform sum product t.setups0.items }) (record { tmu = 1; ask = ask_of w 1 uniform sum product t.setups1.items }) refl refl alone
 
 pub done_asks : (w u uniforms : ℕ) (words : List ℕ) (t : Thread) → (writes_s w 0 ≡ true → writes_s w 1 ≡ false)
-    → (asks 0 (done w u uniforms words t).leaves.asked ≡ one_if (writes_s w 0)) × (asks 1 (done w u uniforms words t).leaves.asked ≡ one_if (writes_s w 1))
-unfolding executed executed_with
+    → (asks 0 (turn_done w u uniforms words t).leaves.asked ≡ one_if (writes_s w 0)) × (asks 1 (turn_done w u uniforms words t).leaves.asked ≡ one_if (writes_s w 1))
+unfolding turn_executed executed_with
 done_asks w u uniforms words t alone =
-    let t1 : Thread = readied uniforms words t in
+    let t1 : Thread = thread_readied uniforms words t in
     asked_asks w u (add_row t1 w u words) (mul_row t1 w u words) t1 alone
 
 -- A load takes a result.
-pub results0_are : (w u uniforms : ℕ) (words : List ℕ) (t : Thread) → (done w u uniforms words t).thread.results0.items ≡ results_after (loads w 0) t.results0.items
-unfolding awake executed executed_with rested worked went_on loaded stored written multiplied added written_at
+pub results0_are : (w u uniforms : ℕ) (words : List ℕ) (t : Thread) → (turn_done w u uniforms words t).thread.results0.items ≡ results_after (loads w 0) t.results0.items
+unfolding awake turn_executed executed_with after_rest after_work went_on after_load after_setup after_writes after_multiply after_add written_at
 results0_are w u uniforms words t = refl
 
-pub results1_are : (w u uniforms : ℕ) (words : List ℕ) (t : Thread) → (done w u uniforms words t).thread.results1.items ≡ results_after (loads w 1) t.results1.items
-unfolding awake executed executed_with rested worked went_on loaded stored written multiplied added written_at
+pub results1_are : (w u uniforms : ℕ) (words : List ℕ) (t : Thread) → (turn_done w u uniforms words t).thread.results1.items ≡ results_after (loads w 1) t.results1.items
+unfolding awake turn_executed executed_with after_rest after_work went_on after_load after_setup after_writes after_multiply after_add written_at
 results1_are w u uniforms words t = refl
 
 one_taken : {X : Type 0} (taken : Bool) (results : List X) → length (if taken then drop 1 results else results) ≡ length results - one_if taken
@@ -81,13 +81,13 @@ pub record ThreadGoes (rights : List Rights) (K : List ℕ → Type 0) (queued0 
   pub threaded : turn.thread.threaded ≡ t.threaded
 
 done_goes : (rights : List Rights) (K : List ℕ → Type 0) (queued0 queued1 : ℕ) (t : Thread) (u uniforms : ℕ) (words m : List ℕ) → K m → (left : ThreadServed rights K queued0 queued1 t)
-    → is_held t (word left.there.home.code left.there.index) queued0 queued1 ≡ false → ThreadGoes rights K queued0 queued1 t (done (word left.there.home.code left.there.index) u uniforms words t)
+    → is_held t (word left.there.home.code left.there.index) queued0 queued1 ≡ false → ThreadGoes rights K queued0 queued1 t (turn_done (word left.there.home.code left.there.index) u uniforms words t)
 unfolding is_held s20
 done_goes rights K queued0 queued1 t u uniforms words m here left free =
     let h = left.there.home in
     let i : ℕ = left.there.index in
     let w : ℕ = word h.code i in
-    let next = (done w u uniforms words t).thread in
+    let next = (turn_done w u uniforms words t).thread in
     let home = left.there.stands m here in
     let before : i < checked_of h.code = in_checked h.code i home.sound left.there.at.inside in
     let alone = one_s w (fine_at h.code home.sound i before).no20 in
@@ -95,8 +95,8 @@ done_goes rights K queued0 queued1 t u uniforms words m here left free =
     let held = or_parts (is_held_by w 0 queued0 (length t.results0.items)) (is_held_by w 1 queued1 (length t.results1.items)) free in
     let taken0 : length next.results0.items ≡ length t.results0.items - one_if (loads w 0) = ap (λ (rs : List (Option (List ℕ))). length rs) (results0_are w u uniforms words t) ∙ taken_left (loads w 0) t.results0.items in
     let taken1 : length next.results1.items ≡ length t.results1.items - one_if (loads w 1) = ap (λ (rs : List (Option (List ℕ))). length rs) (results1_are w u uniforms words t) ∙ taken_left (loads w 1) t.results1.items in
-    let on0 = count_on h.code 0 i queued0 (length t.results0.items) (length next.results0.items) (asks 0 (done w u uniforms words t).leaves.asked) before left.tmu0 (load_has w 0 queued0 (length t.results0.items) held.0) taken0 more.0 in
-    let on1 = count_on h.code 1 i queued1 (length t.results1.items) (length next.results1.items) (asks 1 (done w u uniforms words t).leaves.asked) before left.tmu1 (load_has w 1 queued1 (length t.results1.items) held.1) taken1 more.1 in
+    let on0 = count_on h.code 0 i queued0 (length t.results0.items) (length next.results0.items) (asks 0 (turn_done w u uniforms words t).leaves.asked) before left.tmu0 (load_has w 0 queued0 (length t.results0.items) held.0) taken0 more.0 in
+    let on1 = count_on h.code 1 i queued1 (length t.results1.items) (length next.results1.items) (asks 1 (turn_done w u uniforms words t).leaves.asked) before left.tmu1 (load_has w 1 queued1 (length t.results1.items) held.1) taken1 more.1 in
     record {
       left = λ lives.
           let goes = stays_in_code_law h i u uniforms words t home.sound home.low left.there.at lives in
@@ -117,7 +117,7 @@ done_goes rights K queued0 queued1 t u uniforms words m here left free =
     }
 
 pub thread_goes : (rights : List Rights) (K : List ℕ → Type 0) (queued0 queued1 : ℕ) (t : Thread) (who : Who) (words m : List ℕ) → K m → ThreadServed rights K queued0 queued1 t
-    → glanced (thread_ready t queued0 queued1) m ≡ true → Comes who (ThreadGoes rights K queued0 queued1 t) (thread_plan t words) m
+    → glance_result (thread_ready t queued0 queued1) m ≡ true → Comes who (ThreadGoes rights K queued0 queued1 t) (thread_plan t words) m
 unfolding thread_plan thread_ready
 thread_goes rights K queued0 queued1 t who words m here left ready =
     let w : ℕ = word left.there.home.code left.there.index in
@@ -140,7 +140,7 @@ never_held code tmu i finished off room count =
     (ap (λ k. loads w tmu && k == 0) is ∙ (ap (λ b. b && length (queue_of code tmu i) == 0) (sym (same_load w tmu)) ∙ off))
     (never_full (writes_s w tmu) (0 + finished) (λ sent. let below = room sent in omega (arith, count, below)))
 
-pub thread_may : (rights : List Rights) (K : List ℕ → Type 0) (t : Thread) (m : List ℕ) → K m → ThreadServed rights K 0 0 t → glanced (thread_ready t 0 0) m ≡ true
+pub thread_may : (rights : List Rights) (K : List ℕ → Type 0) (t : Thread) (m : List ℕ) → K m → ThreadServed rights K 0 0 t → glance_result (thread_ready t 0 0) m ≡ true
 unfolding thread_ready is_held
 thread_may rights K t m here left =
     let h = left.there.home in

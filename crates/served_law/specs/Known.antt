@@ -5,7 +5,7 @@ use Rattle.packets.specs.{declared.config.Config.Config, declared.packet.Packet.
 use Rattle.bin_list.specs.Packets.{opcode}
 use Rattle.list_machine.specs.{declared.state.Frame.Frame, Lists.Lists}
 use Rattle.list_law.specs.{Binning.Allocates, Lists.ListsFine}
-use Rattle.qpu_machine.specs.{declared.state.Qpu.Qpu, declared.state.Thread.Thread, Qpu.queued}
+use Rattle.qpu_machine.specs.{declared.state.Qpu.Qpu, declared.state.Thread.Thread, Qpu.queue_count}
 use Rattle.machine.specs.{State.Units, State.State, Step.Event, Step.may, Step.step}
 use Rattle.machine_law.specs.{Jobs.ArePlain, Laws.AreFine, Units.EachAt}
 use Rattle.ends_law.specs.Left.{LaunchSo, ThreadAt, BinRest, RenderRest}
@@ -41,8 +41,8 @@ AreBeside (Some t) (Some o) = (t.threaded ≡ true) × (o.threaded ≡ true)
 
 -- so it is of both threads of a processor
 pub record QpuServed (rights : List Rights) (K : List ℕ → Type 0) (q : Qpu) : Type 0 where
-  pub first : SlotServed rights K (queued false q.queue0.items) (queued false q.queue1.items) q.first
-  pub other : SlotServed rights K (queued true q.queue0.items) (queued true q.queue1.items) q.other
+  pub first : SlotServed rights K (queue_count false q.queue0.items) (queue_count false q.queue1.items) q.first
+  pub other : SlotServed rights K (queue_count true q.queue0.items) (queue_count true q.queue1.items) q.other
   pub led : is_led q.second q.first q.other ≡ true
   pub beside : AreBeside q.first q.other
 

@@ -6,8 +6,8 @@ use Rattle.field_words.proofs.Writes.{length_zeros}
 use Rattle.buffer_table.specs.declared.buffer.Kind.TheVariants.{Code}
 use Rattle.job_format.specs.declared.rule.Refusal.{Refusal}
 use Rattle.session_pages.specs.Map.{free_run}
-use Rattle.job_session.specs.Desk.{Desk, page_total, bytes_of, least_id, placed_id, created_id, denied_id, made_id, code_answer, made, pages_for, with_written}
-use Rattle.job_session.specs.{Own.Held, Own.Make, Own.NewBuffer, Own.with_buffer, Own.new_by, Own.make_by, Own.padded, Replies.made_reply}
+use Rattle.job_session.specs.Desk.{Desk, page_total, bytes_of, least_id, placed_id, created_id, denied_id, made_id, code_answer, after_code, pages_for, with_written}
+use Rattle.job_session.specs.{Own.Held, Own.Make, Own.NewBuffer, Own.with_buffer, Own.new_by, Own.make_by, Own.bytes_padded, Replies.made_reply}
 use Rattle.job_session.specs.{Places.Place, Places.least_place, Session.Past, Session.with_own, Session.pages_of}
 use Rattle.job_session.specs.Checked.{shader_refusal, session_rules}
 use Rattle.session_law.specs.Agree.{IsKey, client_count, Agrees}
@@ -22,13 +22,13 @@ pages_hold bytes = omega arith
 pub some_pages : (bytes : List ℕ) → 1 ≤ length bytes → 1 ≤ pages_for bytes
 some_pages bytes some = omega arith
 
-padded_length : (bytes : List ℕ) → length (padded bytes) ≡ page_size * pages_for bytes
+padded_length : (bytes : List ℕ) → length (bytes_padded bytes) ≡ page_size * pages_for bytes
 padded_length bytes =
     length-append bytes (zeros (page_size * pages_for bytes - length bytes))
     ∙ omega (arith, length_zeros (page_size * pages_for bytes - length bytes), pages_hold bytes)
 
 abbrev pub shader_buffer : List ℕ → Held
-shader_buffer bytes = record { kind = Code; bytes = padded bytes }
+shader_buffer bytes = record { kind = Code; bytes = bytes_padded bytes }
 
 pub padded_pages : (bytes : List ℕ) → pages_of (shader_buffer bytes) ≡ pages_for bytes
 padded_pages bytes = omega (arith, padded_length bytes)
@@ -60,7 +60,7 @@ code_held : (past : Past) (desk : Desk) (client id first : ℕ) (bytes : List �
 code_held past desk client id first bytes agrees room =
     let kinds = made_kind desk client id (pages_for bytes) first Code room.key agrees.sized in
     let before = make_bytes past desk client id (pages_for bytes) first Code agrees room in
-    let after : with_bytes (bytes_of (made_at desk client id (pages_for bytes) Code first) client id) 0 bytes ≡ padded bytes =
+    let after : with_bytes (bytes_of (made_at desk client id (pages_for bytes) Code first) client id) 0 bytes ≡ bytes_padded bytes =
     ap (λ (b : List ℕ). with_bytes b 0 bytes) before ∙ padded_at (page_size * pages_for bytes) bytes (pages_hold bytes) in
     λ p. record { kind = kinds p; bytes = after p }
 
@@ -85,7 +85,7 @@ code_agrees past desk client id first bytes agrees room =
 
 code_found : (past : Past) (desk : Desk) (client id : ℕ) (bytes : List ℕ) (found : Option ℕ) → Agrees past desk → IsKey client id → page_total desk client id ≡ 0
     → 1 ≤ pages_for bytes → free_run desk.map (pages_for bytes) ≡ found → least_place past.places (pages_of (shader_buffer bytes)) ≡ found
-    → Meets past (record { client = client; command = Make bytes }) (made_reply (denied_id (placed_id id found))) (made desk client bytes (denied_id (placed_id id found)))
+    → Meets past (record { client = client; command = Make bytes }) (made_reply (denied_id (placed_id id found))) (after_code desk client bytes (denied_id (placed_id id found)))
     (NewBuffer id (shader_buffer bytes))
 code_found past desk client id bytes None agrees key none some is room = rw room (refl, agrees)
 code_found past desk client id bytes (Some first) agrees key none some is room =
@@ -98,7 +98,7 @@ code_found past desk client id bytes (Some first) agrees key none some is room =
 
 code_id : (past : Past) (desk : Desk) (client : ℕ) (bytes : List ℕ) (ids : Option ℕ) → Agrees past desk → client < client_count → 1 ≤ pages_for bytes → least_id desk.counts client ≡ ids
     → Meets past (record { client = client; command = Make bytes }) (made_reply (denied_id (created_id desk (pages_for bytes) ids)))
-    (made desk client bytes (denied_id (created_id desk (pages_for bytes) ids)))
+    (after_code desk client bytes (denied_id (created_id desk (pages_for bytes) ids)))
     (new_by (past.own client) (shader_buffer bytes) ids)
 code_id past desk client bytes None agrees known some is = (refl, same_agrees past desk client agrees)
 code_id past desk client bytes (Some id) agrees known some is =
@@ -107,7 +107,7 @@ code_id past desk client bytes (Some id) agrees known some is =
     (ap (λ (n : ℕ). least_place past.places n) (padded_pages bytes) ∙ same_room past desk (pages_for bytes) agrees)
 
 code_step : (past : Past) (desk : Desk) (client : ℕ) (bytes : List ℕ) → Agrees past desk → client < client_count → (refusal : Option Refusal) → shader_refusal bytes ≡ refusal
-    → Meets past (record { client = client; command = Make bytes }) (made_reply (made_id desk client bytes refusal)) (made desk client bytes (made_id desk client bytes refusal))
+    → Meets past (record { client = client; command = Make bytes }) (made_reply (made_id desk client bytes refusal)) (after_code desk client bytes (made_id desk client bytes refusal))
     (make_by (past.own client) bytes refusal)
 code_step past desk client bytes agrees known (Some refusal) is = (refl, same_agrees past desk client agrees)
 code_step past desk client bytes agrees known None is =
@@ -115,6 +115,6 @@ code_step past desk client bytes agrees known None is =
     (code_id past desk client bytes (least_id desk.counts client) agrees known (some_pages bytes (shader_some bytes is)) refl)
 
 pub code_meets : (past : Past) (desk : Desk) (client : ℕ) (bytes : List ℕ) → Agrees past desk → client < client_count
-    → Meets past (record { client = client; command = Make bytes }) (made_reply (code_answer desk client bytes)) (made desk client bytes (code_answer desk client bytes))
+    → Meets past (record { client = client; command = Make bytes }) (made_reply (code_answer desk client bytes)) (after_code desk client bytes (code_answer desk client bytes))
     (make_by (past.own client) bytes (session_rules.code bytes))
 code_meets past desk client bytes agrees known = code_step past desk client bytes agrees known (shader_refusal bytes) refl

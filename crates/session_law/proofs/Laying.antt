@@ -1,9 +1,9 @@
--- A memory table in which no rule stands: its buffers are whole pages behind the lists' region and the tile slot, and share none.
+-- A memory table in which no rule is broken: its buffers are whole pages behind the lists' region and the tile slot, and share none.
 use Rattle.std.proofs.Common.{◌≡◌, ◌⊎◌, inl, inr, ℕ, zero, suc, ◌+◌, ◌*◌, ◌%◌, ◌^◌, ◌<◌, ◌≤◌, ◌||◌, nat_lt, max, min, false, List, [], ◌∷◌, ◌++◌, length, map, take, slice_index_or, None, arith, refl, sym, ◌∙◌, ap, subst}
 use Rattle.std.proofs.{lemmas.Bool.Decides.nat_tests, lemmas.List.append_assoc, lemmas.Nat.from_le_bytes-to_le_bytes_4}
 use Rattle.std.specs.{List.flat_map, List.list_any, List.range_with_len, Int.from_le_bytes, Int.w32}
 use Rattle.field_words.specs.{Sizes.page_size, Words.u32_at, WordBytes.word}
-use Rattle.field_words.specs.Questions.{Question, first_of, each, answered}
+use Rattle.field_words.specs.Questions.{Question, first_of, each, with_answers}
 use Rattle.field_words.proofs.Questions.{passes, answered_none}
 use Rattle.buffer_table.specs.Table.{buffer_at, buffer_item, items_of, lists_item, tile_item, item_at, no_item, shares, is_off_page, memory_within, item_questions, all_within, table_questions}
 use Rattle.buffer_table.specs.{declared.buffer.Buffer.Buffer, declared.buffer.Kind.Kind, declared.buffer.Regions.Regions}
@@ -96,7 +96,7 @@ on_page x well =
     let some = well.some in
     grind (arith, nat_tests, place, size, some)
 
--- no rule stands for this item, with those before it
+-- no rule is broken by this item, with those before it
 record IsQuiet (before : List Item) (x : Item) : Type 0 where
   page : is_off_page x ≡ false
   end : nat_lt memory_size (x.place + x.size) ≡ false
@@ -250,11 +250,11 @@ pub size_back : (n : ℕ) (rest : List ℕ) → u32_at (header_of n ++ rest) 8 �
 unfolding u32_at
 size_back n rest = refl
 
-pub table_stands : (buffers : List Buffer) (tail : List ℕ) → AreLaid buffers → length buffers ≤ 64 → first_of (table_stage (file_at (file_with buffers tail))) ≡ None
+pub table_passes : (buffers : List Buffer) (tail : List ℕ) → AreLaid buffers → length buffers ≤ 64 → first_of (table_stage (file_at (file_with buffers tail))) ≡ None
 unfolding table_stage_within file_at
-table_stands buffers tail laid few =
+table_passes buffers tail laid few =
     let size = size_back (length buffers) (flat_map buffer_text buffers ++ tail) in
     let places = regions_back (length buffers) (flat_map buffer_text buffers ++ tail) in
     let entries = buffers_back buffers tail laid few in
-    (λ p. first_of (answered table_refused (table_questions (size p) (places p) (entries p))))
+    (λ p. first_of (with_answers table_refused (table_questions (size p) (places p) (entries p))))
     ∙ answered_none table_refused (table_questions memory_size regions buffers) (table_none buffers laid)

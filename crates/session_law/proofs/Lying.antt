@@ -10,13 +10,13 @@ use Rattle.buffer_table.specs.declared.buffer.Kind.TheVariants.{Plain, Code}
 use Rattle.job_format.specs.{Text.buffer_text, Reading.file_at}
 use Rattle.job_check.specs.Faults.{table_stage}
 use Rattle.session_pages.specs.Map.{first_place, memory_size, place_of}
-use Rattle.job_session.specs.Submit.{content_of, laid, laid_at, size_of, packed, contents_from, with_client, header_of, job_bytes, file_of}
+use Rattle.job_session.specs.Submit.{content_of, buffer_laid, laid_at, size_of, buffers_packed, contents_from, with_client, header_of, job_bytes, file_of}
 use Rattle.job_session.specs.Desk.{Desk, slot_of, first_page, page_total, kind_of, bytes_of, held_in, job_answer}
 use Rattle.job_session.specs.{Own.Held, Own.most_buffers, Session.Past}
 use Rattle.places_law.specs.Moved.{placeless, AreMoved}
 use Rattle.places_law.proofs.{Tables.count_placeless, Wholes.moved_are_alike}
 use Rattle.session_law.specs.{Agree.IsKey, Agree.client_count, Agree.Agrees, Lying.lying, Lying.lying_file, Lying.SubmitsAreOfPlaces}
-use Rattle.session_law.proofs.Laying.{IsWellPlaced, AreApart, ApartFrom, AreLaid, head_count, table_stands}
+use Rattle.session_law.proofs.Laying.{IsWellPlaced, AreApart, ApartFrom, AreLaid, head_count, table_passes}
 use Rattle.session_law.proofs.{Changing.slot_below, Changing.held_live, Writing.room_in}
 use Rattle.session_law.proofs.Counting.{pages_sum, slots_clash, few_pages}
 
@@ -55,7 +55,7 @@ few_contents Plain bytes = omega arith
 few_contents Code bytes = omega arith
 
 well_placed : (desk : Desk) (client id place : ℕ) → client < client_count → HasHeld desk client id → place % page_size ≡ 0 → first_place ≤ place
-    → place + page_size * page_total desk client id ≤ memory_size → IsWellPlaced (laid client place (slot_held desk client id))
+    → place + page_size * page_total desk client id ≤ memory_size → IsWellPlaced (buffer_laid client place (slot_held desk client id))
 well_placed desk client id place known held whole low room =
     let size = held.size in
     let some = held.some in
@@ -79,19 +79,19 @@ from_by : (client place low : ℕ) (x : Option Held) (rest : ℕ → List Buffer
 from_by client place low None rest below later = later (place + 0) (omega (arith, below))
 from_by client place low (Some held) rest below later = (below, later (place + length held.bytes) (omega (arith, below)))
 
-packed_from : (client : ℕ) (own : ℕ → Option Held) (id n place low : ℕ) → low ≤ place → AllFrom low (packed client own id n place)
-unfolding packed
+packed_from : (client : ℕ) (own : ℕ → Option Held) (id n place low : ℕ) → low ≤ place → AllFrom low (buffers_packed client own id n place)
+unfolding buffers_packed
 packed_from client own id zero place low below = tt
 packed_from client own id (suc n) place low below =
-    from_by client place low (own id) (packed client own (id + 1) n) below (λ p under. packed_from client own (id + 1) n p low under)
+    from_by client place low (own id) (buffers_packed client own (id + 1) n) below (λ p under. packed_from client own (id + 1) n p low under)
 
 behind_all : (b : Buffer) (buffers : List Buffer) → AllFrom (b.place + b.size) buffers → ApartFrom b buffers
 behind_all b [] from = tt
 behind_all b (other ∷ others) from = (inl from.0, behind_all b others from.1)
 
 packed_laid : (past : Past) (desk : Desk) (client id n place : ℕ) → Agrees past desk → client < client_count → id + n ≤ most_buffers → place % page_size ≡ 0
-    → first_place ≤ place → place + page_size * pages_sum desk client id n ≤ memory_size → AreLaid (packed client (held_in desk client) id n place)
-unfolding packed pages_sum
+    → first_place ≤ place → place + page_size * pages_sum desk client id n ≤ memory_size → AreLaid (buffers_packed client (held_in desk client) id n place)
+unfolding buffers_packed pages_sum
 packed_laid past desk client id zero place agrees known few whole low room = tt
 packed_laid past desk client id (suc n) place agrees known few whole low room =
     packed_by desk client id n place known whole low room (slot_is past desk client id agrees (record { known = known; small = omega (arith, few) }))
@@ -101,8 +101,8 @@ packed_laid past desk client id (suc n) place agrees known few whole low room =
         → first_place ≤ place → place + page_size * (page_total desk client id + pages_sum desk client (id + 1) n) ≤ memory_size
         → HasNone desk client id ⊎ HasHeld desk client id
         → ((p : ℕ) → p % page_size ≡ 0 → first_place ≤ p → p + page_size * pages_sum desk client (id + 1) n ≤ memory_size
-        → AreLaid (packed client (held_in desk client) (id + 1) n p))
-        → AreLaid (laid_at client place (held_in desk client id) ++ packed client (held_in desk client) (id + 1) n (place + size_of (held_in desk client id)))
+        → AreLaid (buffers_packed client (held_in desk client) (id + 1) n p))
+        → AreLaid (laid_at client place (held_in desk client id) ++ buffers_packed client (held_in desk client) (id + 1) n (place + size_of (held_in desk client id)))
     packed_by desk client id n place known whole low room (inl none) later =
         let same : place + 0 ≡ place = omega arith in
         rw none.is (later (place + 0) (rw same whole) (omega (arith, low)) (omega (arith, room)))
@@ -111,7 +111,7 @@ packed_laid past desk client id (suc n) place agrees known few whole low room =
         let next : ℕ = place + length (bytes_of desk client id) in
         rw held.is (
           well_placed desk client id place known held whole low (omega (arith, room)),
-          behind_all (laid client place (slot_held desk client id)) (packed client (held_in desk client) (id + 1) n (place + length (bytes_of desk client id)))
+          behind_all (buffer_laid client place (slot_held desk client id)) (buffers_packed client (held_in desk client) (id + 1) n (place + length (bytes_of desk client id)))
               (packed_from client (held_in desk client) (id + 1) n (place + length (bytes_of desk client id)) (place + length (bytes_of desk client id)) (omega arith)),
           later (place + length (bytes_of desk client id)) (omega (arith, whole, size)) (omega (arith, low)) (omega (arith, room, size)),
         )
@@ -141,12 +141,12 @@ pages_apart past desk client id other agrees key too order some also false false
 
 places_apart : (desk : Desk) (client id other : ℕ) → HasHeld desk client id → HasHeld desk client other
     → (first_page desk client id + page_total desk client id ≤ first_page desk client other) ⊎ (first_page desk client other + page_total desk client other ≤ first_page desk client id)
-    → AreApart (laid client (place_of (first_page desk client id)) (slot_held desk client id)) (laid client (place_of (first_page desk client other)) (slot_held desk client other))
+    → AreApart (buffer_laid client (place_of (first_page desk client id)) (slot_held desk client id)) (buffer_laid client (place_of (first_page desk client other)) (slot_held desk client other))
 places_apart desk client id other one two (inl below) = let size = one.size in inl (omega (arith, size, below))
 places_apart desk client id other one two (inr above) = let size = two.size in inr (omega (arith, size, above))
 
 lying_apart : (past : Past) (desk : Desk) (client id other n : ℕ) → Agrees past desk → IsKey client id → HasHeld desk client id → id < other → other + n ≤ most_buffers
-    → ApartFrom (laid client (place_of (first_page desk client id)) (slot_held desk client id)) (lying desk client other n)
+    → ApartFrom (buffer_laid client (place_of (first_page desk client id)) (slot_held desk client id)) (lying desk client other n)
 unfolding lying
 lying_apart past desk client id other zero agrees key held order few = tt
 lying_apart past desk client id other (suc n) agrees key held order few =
@@ -156,8 +156,8 @@ lying_apart past desk client id other (suc n) agrees key held order few =
   where
     apart_by : (past : Past) (desk : Desk) (client id other : ℕ) (rest : List Buffer) → Agrees past desk → IsKey client id → IsKey client other → HasHeld desk client id → id < other
         → HasNone desk client other ⊎ HasHeld desk client other
-        → ApartFrom (laid client (place_of (first_page desk client id)) (slot_held desk client id)) rest
-        → ApartFrom (laid client (place_of (first_page desk client id)) (slot_held desk client id)) (laid_at client (place_of (first_page desk client other)) (held_in desk client other) ++ rest)
+        → ApartFrom (buffer_laid client (place_of (first_page desk client id)) (slot_held desk client id)) rest
+        → ApartFrom (buffer_laid client (place_of (first_page desk client id)) (slot_held desk client id)) (laid_at client (place_of (first_page desk client other)) (held_in desk client other) ++ rest)
     apart_by past desk client id other rest agrees key too held order (inl none) later = rw none.is later
     apart_by past desk client id other rest agrees key too held order (inr also) later =
         rw also.is (
@@ -192,42 +192,42 @@ lying_laid past desk client id (suc n) agrees known few =
 one_placeless : (client one two : ℕ) (x : Option Held) (xs ys : List Buffer) → map placeless xs ≡ map placeless ys
     → map placeless (laid_at client one x ++ xs) ≡ map placeless (laid_at client two x ++ ys)
 one_placeless client one two None xs ys same = same
-one_placeless client one two (Some held) xs ys same = ap (λ (rest : List Buffer). placeless (laid client one held) ∷ rest) same
+one_placeless client one two (Some held) xs ys same = ap (λ (rest : List Buffer). placeless (buffer_laid client one held) ∷ rest) same
 
-lists_placeless : (desk : Desk) (client id n place : ℕ) → map placeless (lying desk client id n) ≡ map placeless (packed client (held_in desk client) id n place)
-unfolding lying packed
+lists_placeless : (desk : Desk) (client id n place : ℕ) → map placeless (lying desk client id n) ≡ map placeless (buffers_packed client (held_in desk client) id n place)
+unfolding lying buffers_packed
 lists_placeless desk client id zero place = refl
 lists_placeless desk client id (suc n) place =
     one_placeless client (place_of (first_page desk client id)) place (held_in desk client id) (lying desk client (id + 1) n)
-    (packed client (held_in desk client) (id + 1) n (place + size_of (held_in desk client id)))
+    (buffers_packed client (held_in desk client) (id + 1) n (place + size_of (held_in desk client id)))
     (lists_placeless desk client (id + 1) n (place + size_of (held_in desk client id)))
 
 at_most_one : (client place : ℕ) (x : Option Held) (rest : List Buffer) (n : ℕ) → length rest ≤ n → length (laid_at client place x ++ rest) ≤ suc n
 at_most_one client place None rest n few = omega (arith, few)
 at_most_one client place (Some held) rest n few = omega (arith, few)
 
-packed_few : (client : ℕ) (own : ℕ → Option Held) (id n place : ℕ) → length (packed client own id n place) ≤ n
-unfolding packed
+packed_few : (client : ℕ) (own : ℕ → Option Held) (id n place : ℕ) → length (buffers_packed client own id n place) ≤ n
+unfolding buffers_packed
 packed_few client own id zero place = omega arith
 packed_few client own id (suc n) place =
-    at_most_one client place (own id) (packed client own (id + 1) n (place + size_of (own id))) n (packed_few client own (id + 1) n (place + size_of (own id)))
+    at_most_one client place (own id) (buffers_packed client own (id + 1) n (place + size_of (own id))) n (packed_few client own (id + 1) n (place + size_of (own id)))
 
 files_moved : (desk : Desk) (client : ℕ) (parts : List ℕ) → AreMoved (file_of client (held_in desk client) parts) (lying_file desk client parts)
 unfolding file_of lying_file
 files_moved desk client parts =
     let same = lists_placeless desk client 0 most_buffers first_place in
-    let counts : length (lying desk client 0 most_buffers) ≡ length (packed client (held_in desk client) 0 most_buffers first_place) =
-    sym (count_placeless (lying desk client 0 most_buffers)) ∙ (ap length same ∙ count_placeless (packed client (held_in desk client) 0 most_buffers first_place)) in
+    let counts : length (lying desk client 0 most_buffers) ≡ length (buffers_packed client (held_in desk client) 0 most_buffers first_place) =
+    sym (count_placeless (lying desk client 0 most_buffers)) ∙ (ap length same ∙ count_placeless (buffers_packed client (held_in desk client) 0 most_buffers first_place)) in
     record {
-      head = header_of (length (packed client (held_in desk client) 0 most_buffers first_place));
-      buffers = packed client (held_in desk client) 0 most_buffers first_place;
+      head = header_of (length (buffers_packed client (held_in desk client) 0 most_buffers first_place));
+      buffers = buffers_packed client (held_in desk client) 0 most_buffers first_place;
       others = lying desk client 0 most_buffers;
       tail = job_bytes (contents_from (held_in desk client) 0 most_buffers) (with_client client parts);
       one = refl;
       two = ap (λ (n : ℕ). header_of n ++ (flat_map buffer_text (lying desk client 0 most_buffers)
           ++ job_bytes (contents_from (held_in desk client) 0 most_buffers) (with_client client parts))) counts;
       header = refl;
-      count = head_count (length (packed client (held_in desk client) 0 most_buffers first_place)) (packed_few client (held_in desk client) 0 most_buffers first_place);
+      count = head_count (length (buffers_packed client (held_in desk client) 0 most_buffers first_place)) (packed_few client (held_in desk client) 0 most_buffers first_place);
       same = same;
     }
 
@@ -236,7 +236,7 @@ packed_stands : (past : Past) (desk : Desk) (client : ℕ) (parts : List ℕ) �
 unfolding file_of
 packed_stands past desk client parts agrees known =
     let most = few_pages past desk client agrees known in
-    table_stands (packed client (held_in desk client) 0 most_buffers first_place)
+    table_passes (buffers_packed client (held_in desk client) 0 most_buffers first_place)
     (job_bytes (contents_from (held_in desk client) 0 most_buffers) (with_client client parts))
     (packed_laid past desk client 0 most_buffers first_place agrees known (omega arith) (omega arith) (omega arith) (omega (arith, most)))
     (packed_few client (held_in desk client) 0 most_buffers first_place)
@@ -251,7 +251,7 @@ lying_stands : (past : Past) (desk : Desk) (client : ℕ) (parts : List ℕ) →
     → first_of (table_stage (file_at (lying_file desk client parts))) ≡ None
 unfolding lying_file
 lying_stands past desk client parts agrees known =
-    table_stands (lying desk client 0 most_buffers)
+    table_passes (lying desk client 0 most_buffers)
     (job_bytes (contents_from (held_in desk client) 0 most_buffers) (with_client client parts))
     (lying_laid past desk client 0 most_buffers agrees known (omega arith)) (lying_few desk client 0 most_buffers)
 

@@ -8,7 +8,7 @@ use Rattle.job_format.specs.declared.rule.Refusal.{Refusal}
 use Rattle.phys_mem.specs.Window.{window_of}
 use Rattle.session_pages.specs.Map.{place_of}
 use Rattle.job_session.specs.Own.{Held, Write, Read, Free, Submit, Reply, Done, Bytes, Refused, Outcome, Answered, most_buffers, most_read, with_buffer, write_by, read_by, free_by, submit_by}
-use Rattle.job_session.specs.Desk.{Desk, first_page, page_total, kind_of, bytes_of, held_in, is_live, lies_in, write_in, write_answer, written, read_answer, free_answer, freed, job_answer, submit_answer}
+use Rattle.job_session.specs.Desk.{Desk, first_page, page_total, kind_of, bytes_of, held_in, is_live, lies_in, write_in, write_answer, after_write, read_answer, free_answer, after_free, job_answer, submit_answer}
 use Rattle.job_session.specs.{Own.write_in as own_write_in, Places.Place, Places.is_of, Places.without, Checked.session_rules}
 use Rattle.job_session.specs.Session.{Call, Past, with_own, reply_by, past_by}
 use Rattle.job_session.specs.Replies.{done_reply, read_reply, submitted_reply}
@@ -81,7 +81,7 @@ without_none desk client id (place ∷ places) listed dead =
 
 -- free
 free_step : (past : Past) (desk : Desk) (client id : ℕ) → Agrees past desk → client < client_count → (b : Bool) → is_live desk client id ≡ b
-    → Meets past (record { client = client; command = Free id }) (done_reply (free_answer desk client id)) (freed desk client id)
+    → Meets past (record { client = client; command = Free id }) (done_reply (free_answer desk client id)) (after_free desk client id)
     (free_by (past.own client) id (past.own client id))
 free_step past desk client id agrees known true live =
     let key = live_key desk client id known live in
@@ -94,7 +94,7 @@ free_step past desk client id agrees known false dead =
     )
 
 pub free_meets : (past : Past) (desk : Desk) (client id : ℕ) → Agrees past desk → client < client_count
-    → Meets past (record { client = client; command = Free id }) (done_reply (free_answer desk client id)) (freed desk client id)
+    → Meets past (record { client = client; command = Free id }) (done_reply (free_answer desk client id)) (after_free desk client id)
     (free_by (past.own client) id (past.own client id))
 free_meets past desk client id agrees known = free_step past desk client id agrees known (is_live desk client id) refl
 
@@ -106,7 +106,7 @@ bytes_long past desk client id agrees key =
 write_long : (past : Past) (desk : Desk) (client id at : ℕ) (part : List ℕ) → Agrees past desk → IsKey client id → 1 ≤ page_total desk client id
     → kind_of desk client id ≡ Plain → (b : Bool) → nat_lt (page_size * page_total desk client id) (at + length part) ≡ b
     → Meets past (record { client = client; command = Write id at part }) (done_reply (if not b then Ok tt else Err 2))
-    (written desk client id at part (if not b then Ok tt else Err 2))
+    (after_write desk client id at part (if not b then Ok tt else Err 2))
     (if b then Answered (Refused 2) (past.own client)
     else Answered Done (with_buffer (past.own client) id (Some (record { kind = Plain; bytes = with_bytes (bytes_of desk client id) at part }))))
 write_long past desk client id at part agrees key some plain true is = (refl, same_agrees past desk client agrees)
@@ -117,18 +117,18 @@ write_long past desk client id at part agrees key some plain false is =
       subst (λ (kind : Kind). Agrees (record {
         own = with_own past client (with_buffer (past.own client) id (Some (record { kind = kind; bytes = with_bytes (bytes_of desk client id) at part })));
         places = past.places;
-      }) (written desk client id at part (Ok tt))) plain (write_agrees past desk client id at part agrees lies),
+      }) (after_write desk client id at part (Ok tt))) plain (write_agrees past desk client id at part agrees lies),
     )
 
 write_kind : (past : Past) (desk : Desk) (client id at : ℕ) (part : List ℕ) → Agrees past desk → IsKey client id → 1 ≤ page_total desk client id
     → (kind : Kind) → kind_of desk client id ≡ kind
     → Meets past (record { client = client; command = Write id at part }) (done_reply (write_in desk client id at (length part) kind))
-    (written desk client id at part (write_in desk client id at (length part) kind))
+    (after_write desk client id at part (write_in desk client id at (length part) kind))
     (own_write_in (past.own client) id at part kind (bytes_of desk client id))
 write_kind past desk client id at part agrees key some Code is = (refl, same_agrees past desk client agrees)
 write_kind past desk client id at part agrees key some Plain is =
     subst (λ (n : ℕ). Meets past (record { client = client; command = Write id at part }) (done_reply (write_in desk client id at (length part) Plain))
-    (written desk client id at part (write_in desk client id at (length part) Plain))
+    (after_write desk client id at part (write_in desk client id at (length part) Plain))
     (if nat_lt n (at + length part) then Answered (Refused 2) (past.own client)
     else Answered Done (with_buffer (past.own client) id (Some (record { kind = Plain; bytes = with_bytes (bytes_of desk client id) at part })))))
     (sym (bytes_long past desk client id agrees key))
@@ -136,7 +136,7 @@ write_kind past desk client id at part agrees key some Plain is =
 
 write_step : (past : Past) (desk : Desk) (client id at : ℕ) (part : List ℕ) → Agrees past desk → client < client_count → (b : Bool) → is_live desk client id ≡ b
     → Meets past (record { client = client; command = Write id at part }) (done_reply (write_answer desk client id at (length part)))
-    (written desk client id at part (write_answer desk client id at (length part)))
+    (after_write desk client id at part (write_answer desk client id at (length part)))
     (write_by (past.own client) id at part (past.own client id))
 write_step past desk client id at part agrees known true live =
     let key = live_key desk client id known live in
@@ -147,13 +147,13 @@ write_step past desk client id at part agrees known false dead =
 
 pub write_meets : (past : Past) (desk : Desk) (client id at : ℕ) (part : List ℕ) → Agrees past desk → client < client_count
     → Meets past (record { client = client; command = Write id at part }) (done_reply (write_answer desk client id at (length part)))
-    (written desk client id at part (write_answer desk client id at (length part)))
+    (after_write desk client id at part (write_answer desk client id at (length part)))
     (write_by (past.own client) id at part (past.own client id))
 write_meets past desk client id at part agrees known = write_step past desk client id at part agrees known (is_live desk client id) refl
 
 -- read
-abbrev told : List ℕ → Reply Refusal
-told bytes = Bytes bytes
+abbrev report : List ℕ → Reply Refusal
+report bytes = Bytes bytes
 
 read_long : (past : Past) (desk : Desk) (client id at len : ℕ) → Agrees past desk → (many past_end : Bool)
     → nat_lt (page_size * page_total desk client id) (at + len) ≡ past_end
@@ -165,7 +165,7 @@ read_long past desk client id at len agrees true false is = (refl, same_agrees p
 read_long past desk client id at len agrees false true is = (refl, same_agrees past desk client agrees)
 read_long past desk client id at len agrees false false is =
     let inside : at + len ≤ page_size * page_total desk client id = grind (arith, nat_tests) in (
-      ap told
+      ap report
           (read_window desk.map.memory (place_of (first_page desk client id)) (page_size * page_total desk client id) at len inside),
       same_agrees past desk client agrees,
     )

@@ -1,4 +1,4 @@
--- The same least id, and the same run of pages, by the slots and the page map as by the buffers and the list of places.
+-- Slots and page map give the least id and the run of pages that the buffers and the list of places give.
 use Rattle.std.proofs.Common.{◌≡◌, ◌<◌, ◌≤◌, ◌==◌, ◌&&◌, ◌+◌, not, nat_le, nat_lt, ℕ, zero, suc, Bool, true, false, Option, Some, refl, ◌∙◌, ap, arith}
 use Rattle.std.proofs.lemmas.Bool.Decides.{nat_tests}
 use Rattle.overflow_slots.specs.Search.{first_where}

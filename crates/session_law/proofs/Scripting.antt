@@ -7,7 +7,7 @@ use Rattle.job_session.specs.{Own.Command, Session.Call, Session.Past, Session.n
 use Rattle.job_session.specs.Calls.{last_client, call_by, call_of, command_named}
 use Rattle.job_session.specs.Text.{reply_line, call_reply, call_after, line_reply, line_after, replies}
 use Rattle.std.specs.List.{flat_map}
-use Rattle.session_law.specs.Scripts.{told_of, past_with, told_reply, told_after, onto_calls, calls_in, ScriptsAreOfHistories, ScriptsAreOfCalls}
+use Rattle.session_law.specs.Scripts.{report_of, past_with, line_report, past_after_line, onto_calls, calls_in, ScriptsAreOfHistories, ScriptsAreOfCalls}
 use Rattle.session_law.specs.{History.AreKnown, History.desk_replies, Agree.client_count, Agree.Agrees}
 use Rattle.session_law.proofs.Answering.{calls_are_answered, new_sessions_agree}
 use Rattle.session_law.proofs.Runs.{both_true}
@@ -46,21 +46,21 @@ known line call is =
     omega (arith, small)
 
 line_by : (past : Past) (desk : Desk) (call : Option Call) → ((c : Call) → call ≡ Some c → c.client < client_count) → Agrees past desk
-    → (call_reply desk call ≡ told_of past call) × Agrees (past_with past call) (call_after desk call)
+    → (call_reply desk call ≡ report_of past call) × Agrees (past_with past call) (call_after desk call)
 line_by past desk None small agrees = (refl, agrees)
 line_by past desk (Some call) small agrees =
     let answered = calls_are_answered past desk call (small call refl) agrees in
     (ap reply_line answered.reply, answered.left)
 
 scripts_from : (lines : List (List ℕ)) (past : Past) (desk : Desk) → Agrees past desk
-    → replies_from line_reply line_after desk lines ≡ replies_from told_reply told_after past lines
+    → replies_from line_reply line_after desk lines ≡ replies_from line_report past_after_line past lines
 unfolding replies_from
 scripts_from [] past desk agrees = refl
 scripts_from (line ∷ lines) past desk agrees =
     let here = line_by past desk (call_of line) (known line) agrees in
-    let told = here.0 in
-    let later = scripts_from lines (told_after past line) (line_after desk line) here.1 in
-    λ p. told p ++ later p
+    let report = here.0 in
+    let later = scripts_from lines (past_after_line past line) (line_after desk line) here.1 in
+    λ p. report p ++ later p
 
 pub scripts_are_of_histories : ScriptsAreOfHistories
 unfolding replies
@@ -76,18 +76,18 @@ unfolding calls_in
 all_known [] = tt
 all_known (line ∷ lines) = one_known (call_of line) (calls_in lines) (known line) (all_known lines)
 
-one_told : (desk : Desk) (call : Option Call) (calls : List Call) (rest : List ℕ) → rest ≡ flat_map reply_line (desk_replies (call_after desk call) calls)
+one_reported : (desk : Desk) (call : Option Call) (calls : List Call) (rest : List ℕ) → rest ≡ flat_map reply_line (desk_replies (call_after desk call) calls)
     → (call_reply desk call ++ rest) ≡ flat_map reply_line (desk_replies desk (onto_calls call calls))
 unfolding desk_replies
-one_told desk None calls rest later = later
-one_told desk (Some call) calls rest later = ap (λ (bytes : List ℕ). reply_line (desk_reply desk call) ++ bytes) later
+one_reported desk None calls rest later = later
+one_reported desk (Some call) calls rest later = ap (λ (bytes : List ℕ). reply_line (desk_reply desk call) ++ bytes) later
 
-told_from : (lines : List (List ℕ)) (desk : Desk) → replies_from line_reply line_after desk lines ≡ flat_map reply_line (desk_replies desk (calls_in lines))
+report_from : (lines : List (List ℕ)) (desk : Desk) → replies_from line_reply line_after desk lines ≡ flat_map reply_line (desk_replies desk (calls_in lines))
 unfolding replies_from calls_in desk_replies
-told_from [] desk = refl
-told_from (line ∷ lines) desk =
-    one_told desk (call_of line) (calls_in lines) (replies_from line_reply line_after (line_after desk line) lines) (told_from lines (line_after desk line))
+report_from [] desk = refl
+report_from (line ∷ lines) desk =
+    one_reported desk (call_of line) (calls_in lines) (replies_from line_reply line_after (line_after desk line) lines) (report_from lines (line_after desk line))
 
 pub scripts_are_of_calls : ScriptsAreOfCalls
 unfolding replies
-scripts_are_of_calls text = record { known = all_known (lines_of text); told = told_from (lines_of text) empty }
+scripts_are_of_calls text = record { known = all_known (lines_of text); report = report_from (lines_of text) empty }

@@ -16,7 +16,7 @@ pub record HasNoRoom (past : Past) (client pages : ℕ) : Type 0 where
   pub unused : past.own client id ≡ None
   pub none : (first : ℕ) → IsRoom past.places pages first → ⊥
 
--- No earlier refusal of the call stands, and there is no room for its buffer.
+-- No earlier refusal of the call applies, and there is no room for its buffer.
 abbrev pub IsFullFor : Past → ℕ → Command → Type 0
 IsFullFor past client (Create pages) = (1 ≤ pages) × (pages ≤ most_pages) × HasNoRoom past client pages
 IsFullFor past client (Make bytes) = (shader_refusal bytes ≡ None) × HasNoRoom past client (pages_for bytes)

@@ -36,7 +36,7 @@ abbrev pub RepliesAreOfHistories : Type 0
 RepliesAreOfHistories = (client : ℕ) (calls : List Call) → AreKnown calls → desk_replies_to client empty calls ≡ replies_to client session_rules none_yet calls
 
 -- The replies to a client, but for those that memory is full, are exactly those of its own commands alone, but for the commands that were
--- answered so. Whether memory is full depends on all clients; nothing else that a client is told does.
+-- answered so. Whether memory is full depends on all clients; nothing else that a client learns does.
 abbrev pub ClientsAreApart : Type 0
 ClientsAreApart = (client : ℕ) (calls : List Call) → AreKnown calls
     → other_replies (desk_replies_to client empty calls)

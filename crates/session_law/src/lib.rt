@@ -60,7 +60,7 @@ pub fn memory_is_kept()
     ensures { MemoryIsKept }
 {}
 
-/// A call is replied that memory is full exactly where no earlier refusal of it stands and there is no room for its buffer.
+/// A call is replied that memory is full exactly where no earlier refusal of it applies and there is no room for its buffer.
 pub fn full_is_exact()
     ensures { FullIsExact }
 {}

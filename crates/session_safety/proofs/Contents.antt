@@ -6,10 +6,10 @@ use Rattle.std.specs.{Prelude.slice_index_or, List.flat_map}
 use Rattle.field_words.specs.Words.{u32_at}
 use Rattle.buffer_table.specs.{declared.buffer.Buffer.Buffer, Table.buffer_at, Table.past_end}
 use Rattle.job_format.specs.Offsets.{entry_offset, buffer_count, job_count, job_offset, content_size, content_offset}
-use Rattle.job_format.specs.{Reading.cut, Reading.entry_at, Reading.buffers_at, Reading.contents_at, Reading.file_at, Text.buffer_text}
+use Rattle.job_format.specs.{Reading.bytes_cut, Reading.entry_at, Reading.buffers_at, Reading.contents_at, Reading.file_at, Text.buffer_text}
 use Rattle.job_check.specs.Shaders.{content_of as content_in}
 use Rattle.session_pages.specs.Map.{place_of}
-use Rattle.job_session.specs.Submit.{content_of, laid, laid_at, contents_at as gives, contents_from, with_client, header_of, job_bytes}
+use Rattle.job_session.specs.Submit.{content_of, buffer_laid, laid_at, contents_at as gives, contents_from, with_client, header_of, job_bytes}
 use Rattle.job_session.specs.{Own.Held, Own.most_buffers, Session.Past}
 use Rattle.job_session.specs.Desk.{Desk, first_page, kind_of, bytes_of, held_in}
 use Rattle.places_law.proofs.Words.{drop_past, flat_long}
@@ -33,21 +33,21 @@ before_more (b ∷ buffers) (suc k) below = omega (arith, before_more buffers k 
 pub record IsLying (desk : Desk) (client : ℕ) (b : Buffer) (bytes : List ℕ) : Type 0 where
   pub id : ℕ
   pub small : id < most_buffers
-  pub is : b ≡ laid client (place_of (first_page desk client id)) (slot_held desk client id)
+  pub is : b ≡ buffer_laid client (place_of (first_page desk client id)) (slot_held desk client id)
   pub bytes_are : bytes ≡ content_of (kind_of desk client id) (bytes_of desk client id)
 
 pub front_take : (one rest : List ℕ) → take (length one) (one ++ rest) ≡ one
 front_take [] rest = refl
 front_take (x ∷ one) rest = ap (λ xs. x ∷ xs) (front_take one rest)
 
--- the same of what a slot gives, and of the slots behind it
+-- each buffer of what a slot gives, and of the slots behind it, is that of an id
 step : (desk : Desk) (client id n : ℕ) (x : Option Held) (k : ℕ) (rest : List ℕ) → id < most_buffers → (x ≡ None) ⊎ (x ≡ Some (slot_held desk client id))
     → ((j : ℕ) → j < length (lying desk client (id + 1) n)
     → IsLying desk client (buffer_at (lying desk client (id + 1) n) j)
-    (cut (contents_from (held_in desk client) (id + 1) n ++ rest) (before (lying desk client (id + 1) n) j) (buffer_at (lying desk client (id + 1) n) j).content))
+    (bytes_cut (contents_from (held_in desk client) (id + 1) n ++ rest) (before (lying desk client (id + 1) n) j) (buffer_at (lying desk client (id + 1) n) j).content))
     → k < length (laid_at client (place_of (first_page desk client id)) x ++ lying desk client (id + 1) n)
     → IsLying desk client (buffer_at (laid_at client (place_of (first_page desk client id)) x ++ lying desk client (id + 1) n) k)
-    (cut ((gives x ++ contents_from (held_in desk client) (id + 1) n) ++ rest) (before (laid_at client (place_of (first_page desk client id)) x ++ lying desk client (id + 1) n) k)
+    (bytes_cut ((gives x ++ contents_from (held_in desk client) (id + 1) n) ++ rest) (before (laid_at client (place_of (first_page desk client id)) x ++ lying desk client (id + 1) n) k)
     (buffer_at (laid_at client (place_of (first_page desk client id)) x ++ lying desk client (id + 1) n) k).content)
 unfolding buffer_at
 step desk client id n None k rest small is later below = later k below
@@ -59,7 +59,7 @@ step desk client id n (Some held) zero rest small (inr is) later below =
     record {
       id = id;
       small = small;
-      is = ap (laid client (place_of (first_page desk client id))) same;
+      is = ap (buffer_laid client (place_of (first_page desk client id))) same;
       bytes_are = ap (take (length one)) (append_assoc one c rest) ∙ front_take one (c ++ rest) ∙ ap (λ (h : Held). content_of h.kind h.bytes) same;
     }
 step desk client id n (Some held) (suc k) rest small (inr is) later below =
@@ -77,7 +77,7 @@ slot_cases desk client id (inr held) = inr held.is
 found : (past : Past) (desk : Desk) (client id n k : ℕ) (rest : List ℕ) → Agrees past desk → client < client_count → id + n ≤ most_buffers
     → k < length (lying desk client id n)
     → IsLying desk client (buffer_at (lying desk client id n) k)
-    (cut (contents_from (held_in desk client) id n ++ rest) (before (lying desk client id n) k) (buffer_at (lying desk client id n) k).content)
+    (bytes_cut (contents_from (held_in desk client) id n ++ rest) (before (lying desk client id n) k) (buffer_at (lying desk client id n) k).content)
 unfolding lying contents_from
 found past desk client id zero k rest agrees known few below = absurd (omega (arith, below))
 found past desk client id (suc n) k rest agrees known few below =
@@ -90,9 +90,9 @@ entry_read : (bytes : List ℕ) (n b : ℕ) → b < n → buffer_at (buffers_at 
 unfolding buffers_at buffer_at
 entry_read bytes n b inside = get_or-map-range_with_len (λ k. entry_at bytes (entry_offset k)) 0 n b b past_end inside (zero-add b)
 
-content_read : (bytes : List ℕ) (n b : ℕ) → b < n → slice_index_or (contents_at bytes n) b [] ≡ cut bytes (content_offset bytes b) (content_size bytes b)
+content_read : (bytes : List ℕ) (n b : ℕ) → b < n → slice_index_or (contents_at bytes n) b [] ≡ bytes_cut bytes (content_offset bytes b) (content_size bytes b)
 unfolding contents_at
-content_read bytes n b inside = get_or-map-range_with_len (λ k. cut bytes (content_offset bytes k) (content_size bytes k)) 0 n b b [] inside (zero-add b)
+content_read bytes n b inside = get_or-map-range_with_len (λ k. bytes_cut bytes (content_offset bytes k) (content_size bytes k)) 0 n b b [] inside (zero-add b)
 
 size_read : (bytes : List ℕ) (n b : ℕ) → b < n → content_size bytes b ≡ (buffer_at (buffers_at bytes n) b).content
 unfolding entry_at
@@ -115,10 +115,10 @@ one_job n rest = refl
 long_bytes : (contents parts : List ℕ) → 124 ≤ length parts → job_bytes contents parts ≡ take 124 parts ++ (contents ++ drop 124 parts)
 long_bytes contents parts long = let no : nat_lt (length parts) 124 ≡ false = grind (arith, nat_tests) in rw no refl
 
-contents_stand : (buffers : List Buffer) (contents parts : List ℕ) (k : ℕ) → length buffers ≤ 64 → 124 ≤ length parts
+contents_lie : (buffers : List Buffer) (contents parts : List ℕ) (k : ℕ) → length buffers ≤ 64 → 124 ≤ length parts
     → drop (job_offset (file_with buffers (job_bytes contents parts)) (job_count (file_with buffers (job_bytes contents parts))) + k) (file_with buffers (job_bytes contents parts))
     ≡ drop k (contents ++ drop 124 parts)
-contents_stand buffers contents parts k few long =
+contents_lie buffers contents parts k few long =
     let tail = job_bytes contents parts in
     let entries = flat_map buffer_text buffers in
     let count = count_back (length buffers) (entries ++ tail) few in
@@ -147,18 +147,18 @@ lies_in past desk client number buffers contents parts agrees known buffers_are 
     let there : drop (content_offset bytes number) bytes ≡ drop (before buffers number) (contents ++ drop 124 parts) =
     ap (λ n. drop n bytes) offset
     ∙ ap (λ (bs : List ℕ). drop (job_offset bs (job_count bs) + before buffers number) bs) bytes_are
-    ∙ contents_stand buffers contents parts (before buffers number) few long in
-    let content : slice_index_or (contents_at bytes (buffer_count bytes)) number [] ≡ cut (contents ++ drop 124 parts) (before buffers number) (buffer_at buffers number).content =
+    ∙ contents_lie buffers contents parts (before buffers number) few long in
+    let content : slice_index_or (contents_at bytes (buffer_count bytes)) number [] ≡ bytes_cut (contents ++ drop 124 parts) (before buffers number) (buffer_at buffers number).content =
     content_read bytes (buffer_count bytes) number named
     ∙ ap (λ n. take n (drop (content_offset bytes number) bytes)) size
     ∙ ap (take (buffer_at buffers number).content) there in
-    let slot : IsLying desk client (buffer_at buffers number) (cut (contents ++ drop 124 parts) (before buffers number) (buffer_at buffers number).content) =
-    subst (λ (bs : List Buffer). IsLying desk client (buffer_at bs number) (cut (contents ++ drop 124 parts) (before bs number) (buffer_at bs number).content)) (sym buffers_are)
+    let slot : IsLying desk client (buffer_at buffers number) (bytes_cut (contents ++ drop 124 parts) (before buffers number) (buffer_at buffers number).content) =
+    subst (λ (bs : List Buffer). IsLying desk client (buffer_at bs number) (bytes_cut (contents ++ drop 124 parts) (before bs number) (buffer_at bs number).content)) (sym buffers_are)
     (subst (λ (c : List ℕ). IsLying desk client (buffer_at (lying desk client 0 most_buffers) number)
-    (cut (c ++ drop 124 parts) (before (lying desk client 0 most_buffers) number) (buffer_at (lying desk client 0 most_buffers) number).content)) (sym contents_are)
+    (bytes_cut (c ++ drop 124 parts) (before (lying desk client 0 most_buffers) number) (buffer_at (lying desk client 0 most_buffers) number).content)) (sym contents_are)
     (found past desk client 0 most_buffers number (drop 124 parts) agrees known (omega arith) (omega (arith, below, ap length buffers_are)))) in
     subst (λ (c : List ℕ). IsLying desk client (buffer_at (buffers_at bytes (buffer_count bytes)) number) c) (sym content)
-    (subst (λ (bs : List Buffer). IsLying desk client (buffer_at bs number) (cut (contents ++ drop 124 parts) (before buffers number) (buffer_at buffers number).content)) (sym read) slot)
+    (subst (λ (bs : List Buffer). IsLying desk client (buffer_at bs number) (bytes_cut (contents ++ drop 124 parts) (before buffers number) (buffer_at buffers number).content)) (sym read) slot)
 
 pub lies : (past : Past) (desk : Desk) (client number : ℕ) (parts : List ℕ) → Agrees past desk → client < client_count → 124 ≤ length (with_client client parts)
     → number < length (file_at (lying_file desk client parts)).buffers

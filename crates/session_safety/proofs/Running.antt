@@ -1,6 +1,6 @@
 -- The job of an accepted submit may run over the session's memory.
 use Rattle.std.proofs.Common.{◌≡◌, ℕ, ◌+◌, ◌-◌, ◌*◌, ◌<◌, ◌≤◌, List, ◌++◌, Option, Some, None, Ok, length, drop, append-nil, arith, refl, sym, ◌∙◌, ap, subst}
-use Rattle.field_words.specs.{Sizes.page_size, Questions.first_of, Questions.answered, Writes.with_bytes, Writes.zeros}
+use Rattle.field_words.specs.{Sizes.page_size, Questions.first_of, Questions.with_answers, Writes.with_bytes, Writes.zeros}
 use Rattle.field_words.proofs.{Nones.front_none, Nones.none_answered, Writes.length-with_bytes, Writes.with_bytes-behind}
 use Rattle.phys_mem.specs.Window.{window_of}
 use Rattle.buffer_table.specs.{declared.buffer.Buffer.Buffer, declared.buffer.Kind.Kind, declared.buffer.Kind.TheVariants.Code}
@@ -10,11 +10,11 @@ use Rattle.job_format.specs.{declared.rule.Refusal.Refusal, Faults.format_questi
 use Rattle.job_format.proofs.Passing.{passes_all}
 use Rattle.job_check.specs.{Faults.file_stages, Jobs.job_of, Region.region_of, Shaders.table_of, Shaders.content_of as content_in}
 use Rattle.job_check.specs.Whole.{format_refused, all_questions, refusal_of, questions_within}
-use Rattle.promises.specs.Prepared.{IsFaultless, filled, HasContent, IsPrepared}
+use Rattle.promises.specs.Prepared.{IsFaultless, content_filled, HasContent, IsPrepared}
 use Rattle.accepted_law.proofs.Prepared.{region_within}
 use Rattle.job_safety.proofs.{Prepared.prepared_jobs_law, Safety.bytes_spell, Safety.faultless}
 use Rattle.session_pages.specs.Map.{memory_size, place_of}
-use Rattle.job_session.specs.{Own.most_buffers, Session.Past, Submit.content_of, Submit.laid, Submit.with_client}
+use Rattle.job_session.specs.{Own.most_buffers, Session.Past, Submit.content_of, Submit.buffer_laid, Submit.with_client}
 use Rattle.job_session.specs.Desk.{Desk, first_page, page_total, kind_of, bytes_of, job_answer}
 use Rattle.session_law.specs.{Agree.IsKey, Agree.client_count, Agree.Agrees, Lying.lying, Lying.lying_file}
 use Rattle.session_law.proofs.Bytes.{window_length, window_same}
@@ -23,20 +23,20 @@ use Rattle.session_law.proofs.Writing.{room_in}
 use Rattle.session_safety.specs.Running.{file_in, lists_in, with_lists, IsAccepted, IsReady, SubmitsMayRun, ReadyMemoriesMayRun}
 use Rattle.session_safety.proofs.{Bytes.file_bytes, Contents.IsLying, Contents.front_take, Contents.lies, Contents.whole_entry}
 
--- No rule of the file stands.
+-- No rule of the file is broken.
 none_by : (refusal : Option Refusal) → job_answer refusal ≡ Ok tt → refusal ≡ None
 none_by None is = refl
 none_by (Some refusal) is = absurd (cc)
 
-none_stands : (past : Past) (desk : Desk) (client : ℕ) (parts : List ℕ) → IsAccepted past desk client parts → first_of (all_questions (lying_file desk client parts)) ≡ None
+none_broken : (past : Past) (desk : Desk) (client : ℕ) (parts : List ℕ) → IsAccepted past desk client parts → first_of (all_questions (lying_file desk client parts)) ≡ None
 unfolding refusal_of
-none_stands past desk client parts accepted =
+none_broken past desk client parts accepted =
     none_by (refusal_of (lying_file desk client parts)) (sym (submits_are_of_places past desk client parts accepted.known accepted.agrees) ∙ accepted.accepted)
 
 pub is_faultless : (past : Past) (desk : Desk) (client : ℕ) (parts : List ℕ) → IsAccepted past desk client parts → IsFaultless (file_in desk client parts)
 is_faultless past desk client parts accepted =
     let bytes = lying_file desk client parts in
-    let none = none_stands past desk client parts accepted in
+    let none = none_broken past desk client parts accepted in
     faultless bytes (bytes_spell bytes (file_bytes desk client parts accepted.bytes accepted.parts_bytes) none) none
 
 pub entry_whole : (past : Past) (desk : Desk) (client : ℕ) (parts : List ℕ) → IsAccepted past desk client parts → 124 ≤ length (with_client client parts)
@@ -44,7 +44,7 @@ unfolding questions_within
 entry_whole past desk client parts accepted =
     let bytes = lying_file desk client parts in
     let format = none_answered format_refused (format_questions bytes)
-    (front_none (answered format_refused (format_questions bytes)) (file_stages (file_at bytes)) (none_stands past desk client parts accepted)) in
+    (front_none (with_answers format_refused (format_questions bytes)) (file_stages (file_at bytes)) (none_broken past desk client parts accepted)) in
     let passes = passes_all bytes format in
     whole_entry desk client parts (passes.job 0 (omega (arith, passes.header.some_job))).size
 
@@ -61,7 +61,7 @@ pub slot_long : (past : Past) (desk : Desk) (client id : ℕ) → Agrees past de
 slot_long past desk client id agrees key =
     window_length desk.map.memory (place_of (first_page desk client id)) (page_size * page_total desk client id) (room_in past desk client id agrees key)
 
-filled_whole : (bytes : List ℕ) → filled bytes (length bytes) ≡ bytes
+filled_whole : (bytes : List ℕ) → content_filled bytes (length bytes) ≡ bytes
 unfolding zeros
 filled_whole bytes = let none : length bytes - length bytes ≡ 0 = omega arith in ap (λ n. bytes ++ zeros n) none ∙ append-nil bytes
 
@@ -76,10 +76,10 @@ slot_stands past desk client m b bytes agrees known at kind code =
     let is_code : kind_of desk client id ≡ Code = sym (ap (λ (e : Buffer). e.kind) at.is) ∙ kind in
     let content : bytes ≡ own = at.bytes_are ∙ ap (λ (k : Kind). content_of k own) is_code in
     let long = slot_long past desk client id agrees (record { known = known; small = at.small }) in
-    let has : HasContent m (laid client (place_of (first_page desk client id)) (slot_held desk client id)) own =
+    let has : HasContent m (buffer_laid client (place_of (first_page desk client id)) (slot_held desk client id)) own =
     ap (window_of m (place_of (first_page desk client id))) long ∙ code id at.small is_code ∙ sym (filled_whole own) in
     subst (λ (e : Buffer). HasContent m e bytes) (sym at.is)
-    (subst (λ (c : List ℕ). HasContent m (laid client (place_of (first_page desk client id)) (slot_held desk client id)) c) (sym content) has)
+    (subst (λ (c : List ℕ). HasContent m (buffer_laid client (place_of (first_page desk client id)) (slot_held desk client id)) c) (sym content) has)
 
 is_prepared : (past : Past) (desk : Desk) (client : ℕ) (parts m : List ℕ) → IsAccepted past desk client parts → IsReady desk client parts m → IsPrepared (file_in desk client parts) m
 is_prepared past desk client parts m accepted ready =

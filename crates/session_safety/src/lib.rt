@@ -10,7 +10,7 @@
 ghost use Rattle.session_safety.specs.Running.{SubmitsMayRun, ReadyMemoriesMayRun, SubmitsReachOwn};
 
 /// The job of an accepted submit may run over the session's memory with its relocated lists: in every run each access lies in the client's
-/// buffers that its handles name, its lists or the tile slot, and each write in a Plain buffer of the client's or the slot, whatever others
+/// buffers that its handles name, its lists or the tile slot, and each write in a data buffer of the client's or the slot, whatever others
 /// write meanwhile beside lists and code.
 pub fn submits_may_run()
     ensures { SubmitsMayRun }

@@ -3,7 +3,7 @@ use Rattle.std.proofs.Common.{◌≡◌, ◌≤◌, ◌<◌, ℕ, zero, suc, Boo
 use Rattle.std.proofs.lemmas.List.{length-map}
 use Rattle.qpu_isa.specs.Shader.{ShaderModel, no_sample, position, or_zero, first_position, IsSoundShader}
 use Rattle.qpu_isa.specs.{declared.inst.Sample.Sample, Shader.IsSoundSample as IsSampleSound}
-use Rattle.shader_check.specs.Info.{padded}
+use Rattle.shader_check.specs.Info.{first_four}
 use Rattle.shader_check.proofs.Listed.{Member, AllDifferent, numbers, first_number, written, IsSoundSample, IsSound}
 use Rattle.shader_check.proofs.Members.{member_left, member_right}
 
@@ -40,7 +40,7 @@ different_across (x ∷ xs) ys n all (inl here) two = all.0 (member_right xs ys 
 different_across (x ∷ xs) ys n all (inr there) two = different_across xs ys n all.1 there two
 
 -- the positions of a sample
-pub padded_get : (ns : List ℕ) (n k : ℕ) → get_or (padded ns) n None ≡ Some k → slice_get ns n ≡ Some k
+pub padded_get : (ns : List ℕ) (n k : ℕ) → get_or (first_four ns) n None ≡ Some k → slice_get ns n ≡ Some k
 padded_get ns zero k is = is
 padded_get ns (suc zero) k is = is
 padded_get ns (suc (suc zero)) k is = is
@@ -75,14 +75,14 @@ zero_get (a ∷ ns) = refl
 abbrev pub at_position : List (Option ℕ) → ℕ → Option ℕ
 at_position p n = get_or p n None
 
-pub first_is_number : (s : Sample) → s.p ≡ padded (numbers s.p) → first_position s ≡ first_number s
+pub first_is_number : (s : Sample) → s.p ≡ first_four (numbers s.p) → first_position s ≡ first_number s
 unfolding first_number
 first_is_number s full = ap (λ p. or_zero (at_position p 0)) full ∙ zero_get (numbers s.p)
 
 abbrev pub model : ℕ → List Sample → List ℕ → Bool → ShaderModel
 model uniforms samples words threaded = record { uniforms = uniforms; samples = samples; address_words = words; threaded = threaded }
 
-pub first_member : (samples : List Sample) (i : ℕ) → i < length samples → ((s : Sample) → Member s samples → s.p ≡ padded (numbers s.p))
+pub first_member : (samples : List Sample) (i : ℕ) → i < length samples → ((s : Sample) → Member s samples → s.p ≡ first_four (numbers s.p))
     → Member (first_position (get_or samples i no_sample)) (map first_number samples)
 first_member samples i inside full =
     let here = member_at no_sample samples i inside in
@@ -92,7 +92,7 @@ first_member samples i inside full =
     (member_at 0 (map first_number samples) i (omega (arith, long, inside)))
 
 pub sample_sound : (uniforms : ℕ) (samples : List Sample) (words : List ℕ) (threaded : Bool) (s : Sample) → IsSoundSample uniforms (written samples words) s
-    → ((s : Sample) → Member s samples → s.p ≡ padded (numbers s.p)) → IsSampleSound (model uniforms samples words threaded) s
+    → ((s : Sample) → Member s samples → s.p ≡ first_four (numbers s.p)) → IsSampleSound (model uniforms samples words threaded) s
 unfolding written
 sample_sound uniforms samples words threaded s is all-full =
     let ns = numbers s.p in
@@ -116,7 +116,7 @@ pub sound_shader : (uniforms : ℕ) (samples : List Sample) (words : List ℕ) (
     → IsSoundShader (model uniforms samples words threaded)
 unfolding written
 sound_shader uniforms samples words threaded is =
-    let full : (s : Sample) → Member s samples → s.p ≡ padded (numbers s.p) = λ s member. (is.each s member).full in
+    let full : (s : Sample) → Member s samples → s.p ≡ first_four (numbers s.p) = λ s member. (is.each s member).full in
     let firsts = map first_number samples in
     let long = length-map samples first_number in
     let first-is : (i : ℕ) → i < length samples → get_or firsts i 0 ≡ first_position (get_or samples i no_sample) =

@@ -1,7 +1,7 @@
 -- That a shader's info is sound, by members of lists: the way to the same by index.
 use Rattle.std.proofs.Common.{◌≡◌, ◌≤◌, ◌<◌, ◌⊎◌, ℕ, List, [], ◌∷◌, ◌++◌, map, drop, length, Option, Some, None, slice_index}
 use Rattle.qpu_isa.specs.declared.inst.Sample.{Sample}
-use Rattle.shader_check.specs.Info.{padded}
+use Rattle.shader_check.specs.Info.{first_four}
 
 -- x is one of the list
 abbrev pub Member : {X : Type 0} → X → List X → Type 0
@@ -28,7 +28,7 @@ written samples address_words = address_words ++ map first_number samples
 
 -- A sample has two to four positions, and nothing after a None; all are in the stream; none but the first is of a written word.
 pub record IsSoundSample (uniforms : ℕ) (others : List ℕ) (sample : Sample) : Type 0 where
-  pub full : sample.p ≡ padded (numbers sample.p)
+  pub full : sample.p ≡ first_four (numbers sample.p)
   pub two : 2 ≤ length (numbers sample.p)
   pub below : (n : ℕ) → Member n (numbers sample.p) → n < uniforms
   pub apart : (n : ℕ) → Member n (drop 1 (numbers sample.p)) → Member n others → ⊥

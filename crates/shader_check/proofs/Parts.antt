@@ -7,7 +7,7 @@ use Rattle.shader_flow.specs.{Flow.word, Flow.checked_of, Pending.pending_of, Pe
 use Rattle.uniform_stream.specs.Rules.{s22, is_full}
 use Rattle.clamp_facts.proofs.{Carriers.sets_parts, Carriers.carried_parts, Clamps.clamped_found, Clamps.clamps_parts, Clamps.clamp_min}
 use Rattle.shader_check.specs.Rules.{direct_by_add, direct_by_mul}
-use Rattle.shader_check.specs.Info.{held, asks, sample_tmu, is_direct_sample, clamp_parts, sample_parts}
+use Rattle.shader_check.specs.Info.{setups_held, asks, sample_tmu, is_direct_sample, clamp_parts, sample_parts}
 use Rattle.shader_check.proofs.Roles.{sum_parts, min_parts, sum_or_min, reads_takes, sets_takes, sets_or_reads, address_parts, direct_parts, clamped_parts, address_or_direct}
 use Rattle.shader_check.proofs.Setups.{SetsUp, Numbered, numbered_member, sets_one, not_kept, s_writes, one_tmu}
 use Rattle.shader_check.proofs.{Listed.Member, Clean.IsCleanAt, Clean.IsClean, Members.member_append, Positions.clamp_parts_one}
@@ -16,7 +16,7 @@ use Rattle.shader_check.proofs.Held.{held_is, held_after}
 -- the first of the instruction at i's sample: itself, where it is direct, or a setup write of number 0
 pub data HeadIs (code : List ℕ) (i h : ℕ) : Type 0 where
   Direct : h ≡ i → direct_by_add code i ≡ true → is_add_with_uniform (word code i) ≡ true → HeadIs code i h
-  First : (t : ℕ) → writes_s (word code i) t ≡ true → SetsUp code t h 0 → Member h (held code t i) → h < i → t < 2 → HeadIs code i h
+  First : (t : ℕ) → writes_s (word code i) t ≡ true → SetsUp code t h 0 → Member h (setups_held code t i) → h < i → t < 2 → HeadIs code i h
 
 -- another of a sample: a clamp, or a later setup write
 pub data RestIs (code : List ℕ) (k : ℕ) : Type 0 where
@@ -66,7 +66,7 @@ parts_direct code i inside clean asked direct =
       head = i;
       rest = found.0 ∷ [];
       parts =
-          ap (λ b. if b then i ∷ clamp_parts code i else held code (sample_tmu (word code i)) i ++ (i ∷ [])) direct
+          ap (λ b. if b then i ∷ clamp_parts code i else setups_held code (sample_tmu (word code i)) i ++ (i ∷ [])) direct
           ∙ ap (λ ks. i ∷ ks) (clamp_parts_one code i found.0 reg clamped.1.1 found.2);
       some = omega arith;
       few = omega arith;
@@ -91,7 +91,7 @@ parts_setup code i inside clean asked setup =
     let writes = s_writes (word code i) t tmu.1 in
     let is = held_is code t tmu.0 clean i (omega (arith, inside)) in
     let pending = eqb-false (pending_of code t i) 0 (not_kept (word code i) t (pending_of code t i) tmu.1 setup) in
-    let held-some = not_empty (held code t i) (λ none. pending (sym is.size ∙ none)) in
+    let held-some = not_empty (setups_held code t i) (λ none. pending (sym is.size ∙ none)) in
     let h = held-some.0 in
     let r = held-some.1 in
     let whole = held-some.2 in
@@ -109,7 +109,7 @@ parts_setup code i inside clean asked setup =
       head = h;
       rest = r ++ (i ∷ []);
       parts =
-          ap (λ b. if b then i ∷ clamp_parts code i else held code t i ++ (i ∷ [])) setup
+          ap (λ b. if b then i ∷ clamp_parts code i else setups_held code t i ++ (i ∷ [])) setup
           ∙ ap (λ ks. ks ++ (i ∷ [])) whole;
       some = omega (arith, long-rest);
       few = omega (arith, long-rest, long, less);
@@ -173,6 +173,6 @@ heads_apart code i j h less inside clean (First t sent setup member below small)
 heads_apart code i j h less inside clean (First t sent setup member below small) (First u sent2 setup2 member2 below2 small2) =
     let e = one_tmu code h u t clean setup2.writes setup.writes in
     let d : i + 1 + (j - (i + 1)) ≡ j = omega (arith, less) in
-    let there = subst (λ n. Member h (held code t n)) (sym d) (subst (λ n. Member h (held code n j)) e member2) in
+    let there = subst (λ n. Member h (setups_held code t n)) (sym d) (subst (λ n. Member h (setups_held code n j)) e member2) in
     let after = held_after code t i (omega (arith, less, inside)) sent (j - (i + 1)) (omega (arith, d, inside)) h there in
     omega (arith, after, below)

@@ -1,4 +1,4 @@
--- An instruction that writes registers alone: no rule on facts stands, no sample is asked for, and the TMUs keep what they keep.
+-- An instruction that writes registers alone: no rule on facts is broken, no sample is asked for, and the TMUs keep what they keep.
 use Rattle.std.proofs.Common.{◌≡◌, ◌<◌, ◌+◌, ℕ, Bool, true, false, not, ◌&&◌, ◌||◌, List, None, map, refl, sym, ap, ◌∙◌}
 use Rattle.std.proofs.lemmas.Bool.{and_left}
 use Rattle.field_words.specs.Questions.{first_of}
@@ -7,7 +7,7 @@ use Rattle.shader_flow.specs.{Bounded.indexes, Flow.word, Flow.checked_of, Pendi
 use Rattle.uniform_stream.specs.Quiet.{writes_registers}
 use Rattle.uniform_stream.proofs.QuietWrites.{no_address_write, no_send, no_write, no_add_direct, no_mul_direct}
 use Rattle.shader_check.specs.Rules.{is_exact_address_write, s16, direct_by_add, direct_by_mul, is_clamped_write, s24, fact_questions}
-use Rattle.shader_check.specs.Info.{held, asks, is_sample, sample_of}
+use Rattle.shader_check.specs.Info.{setups_held, asks, is_sample, sample_of}
 use Rattle.shader_check.proofs.Positions.{held_same, samples_same}
 
 neither : (a b : Bool) → a ≡ false → b ≡ false → (a || b) ≡ false
@@ -40,7 +40,7 @@ unfolding fact_questions
 no_fact_fault code i quiet = let first = no_s16 code i quiet in let second = no_s24 code i quiet in rw (first, second) refl
 
 pub quiet_held : (code : List ℕ) (f : ℕ → ℕ) (tmu i : ℕ) → i < checked_of code → writes_registers (word code i) ≡ true
-    → map f (held code tmu i) ≡ map f (held code tmu (i + 1))
+    → map f (setups_held code tmu i) ≡ map f (setups_held code tmu (i + 1))
 quiet_held code f tmu i inside quiet = sym (held_same code f tmu i inside (no_send (word code i) tmu quiet) (no_write (word code i) tmu quiet))
 
 pub quiet_samples : (code : List ℕ) (i : ℕ) → writes_registers (word code i) ≡ true

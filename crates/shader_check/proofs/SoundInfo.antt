@@ -5,7 +5,7 @@ use Rattle.qpu_isa.specs.{declared.inst.Sample.Sample, Terms.is_address_write}
 use Rattle.shader_flow.specs.{Bounded.indexes, Flow.word, Flow.checked_of, Pending.count_of, Pending.takes}
 use Rattle.shader_flow.proofs.Ends.{checked_of-le}
 use Rattle.uniform_stream.specs.Stream.{writes_address, is_open, address_words_of, uniforms_of}
-use Rattle.shader_check.specs.Info.{padded, asks, is_sample, sample_parts, sample_of, samples_of}
+use Rattle.shader_check.specs.Info.{first_four, asks, is_sample, sample_parts, sample_of, samples_of}
 use Rattle.shader_check.specs.Rules.{shader_questions}
 use Rattle.field_words.specs.Questions.{first_of}
 use Rattle.shader_check.proofs.Listed.{Member, AllDifferent, numbers, first_number, written, IsSoundSample, IsSound}
@@ -15,7 +15,7 @@ use Rattle.shader_check.proofs.Clean.{IsCleanAt, IsClean, clean}
 use Rattle.shader_check.proofs.Roles.{count_less, count_one, sum_parts, reads_takes, address_parts}
 
 -- up to four numbers come back
-pub numbers_padded : (ns : List ℕ) → length ns ≤ 4 → numbers (padded ns) ≡ ns
+pub numbers_padded : (ns : List ℕ) → length ns ≤ 4 → numbers (first_four ns) ≡ ns
 unfolding numbers
 numbers_padded [] few = refl
 numbers_padded (a ∷ []) few = refl
@@ -29,15 +29,15 @@ pub sample_numbers : (code : List ℕ) (i : ℕ) → (p : PartsAre code i) → n
 unfolding sample_of
 sample_numbers code i p =
     let short : length (count_of code p.head ∷ map (count_of code) p.rest) ≤ 4 = let long = length-map p.rest (count_of code) in omega (arith, long, p.few) in
-    ap (λ ks. numbers (padded (map (count_of code) ks))) p.parts ∙ numbers_padded (count_of code p.head ∷ map (count_of code) p.rest) short
+    ap (λ ks. numbers (first_four (map (count_of code) ks))) p.parts ∙ numbers_padded (count_of code p.head ∷ map (count_of code) p.rest) short
 
-pub sample_full : (code : List ℕ) (i : ℕ) → (p : PartsAre code i) → (sample_of code i).p ≡ padded (numbers (sample_of code i).p)
+pub sample_full : (code : List ℕ) (i : ℕ) → (p : PartsAre code i) → (sample_of code i).p ≡ first_four (numbers (sample_of code i).p)
 unfolding sample_of
 sample_full code i p =
     let e = ap (λ ks. length (map (count_of code) ks)) p.parts in
     let long = length-map p.rest (count_of code) in
     let short : length (map (count_of code) (sample_parts code i)) ≤ 4 = omega (arith, e, long, p.few) in
-    ap padded (sym (numbers_padded (map (count_of code) (sample_parts code i)) short))
+    ap first_four (sym (numbers_padded (map (count_of code) (sample_parts code i)) short))
 
 pub first_is : (code : List ℕ) (i : ℕ) → (p : PartsAre code i) → first_number (sample_of code i) ≡ count_of code p.head
 unfolding first_number
@@ -235,7 +235,7 @@ sound code clean = record {
   different = all_different code clean;
 }
 
--- the same of what the checker made
+-- what the checker made is sound
 pub info_sound : (code : List ℕ) (uniforms : ℕ) (samples : List Sample) (words : List ℕ) → first_of (shader_questions code) ≡ None
     → uniforms ≡ uniforms_of code → samples ≡ samples_of code → words ≡ address_words_of code → IsSound uniforms samples words
 info_sound code uniforms samples words none e1 e2 e3 =

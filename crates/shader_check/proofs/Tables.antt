@@ -1,8 +1,8 @@
--- The first that stands of a union of sorted tables is the least of the firsts.
+-- The first that is broken of a union of sorted tables is the least of the firsts.
 use Rattle.std.proofs.Common.{◌≡◌, ◌≤◌, ℕ, Bool, true, false, List, [], ◌∷◌, Option, Some, None, min, if◌then◌else◌, refl, sym, ap, inl, inr, arith, ◌∙◌, nat_lt, nat_le}
 use Rattle.std.proofs.lemmas.Bool.{and_parts, leb-true, cases_Bool}
 use Rattle.field_words.specs.Questions.{Question, Ask, first_of}
-use Rattle.shader_check.specs.{Merge.lesser, Merge.rises, Merge.inserted, Merge.merged, Rules.index_questions, Rules.fact_questions}
+use Rattle.shader_check.specs.{Merge.lesser, Merge.rises, Merge.question_inserted, Merge.tables_merged, Rules.index_questions, Rules.fact_questions}
 use Rattle.shader_flow.specs.Rules.{flow_questions}
 use Rattle.uniform_stream.specs.Rules.{stream_questions}
 
@@ -27,20 +27,20 @@ lesser_join (Some a) (Some b) None = refl
 lesser_join (Some a) (Some b) (Some c) = let e : min (min a b) c ≡ min a (min b c) = omega arith in ap Some e
 
 -- it is the lesser of two tables' least
-least_inserted : (b : Bool) (m : ℕ) (table : List (Question ℕ)) → least_in (inserted b m table) ≡ lesser (alone b m) (least_in table)
+least_inserted : (b : Bool) (m : ℕ) (table : List (Question ℕ)) → least_in (question_inserted b m table) ≡ lesser (alone b m) (least_in table)
 least_inserted b m [] = refl
 least_inserted b m (Ask c k ∷ later) =
     elim (cases_Bool (nat_lt m k)) [
-      | inl before ↦ ap (λ t. least_in (if t then Ask b m ∷ (Ask c k ∷ later) else Ask c k ∷ inserted b m later)) before
+      | inl before ↦ ap (λ t. least_in (if t then Ask b m ∷ (Ask c k ∷ later) else Ask c k ∷ question_inserted b m later)) before
       | inr after ↦
-          ap (λ t. least_in (if t then Ask b m ∷ (Ask c k ∷ later) else Ask c k ∷ inserted b m later)) after
+          ap (λ t. least_in (if t then Ask b m ∷ (Ask c k ∷ later) else Ask c k ∷ question_inserted b m later)) after
           ∙ (ap (lesser (alone c k)) (least_inserted b m later) ∙ lesser_swap (alone c k) (alone b m) (least_in later))
     ]
 
-least_merged : (one two : List (Question ℕ)) → least_in (merged one two) ≡ lesser (least_in one) (least_in two)
+least_merged : (one two : List (Question ℕ)) → least_in (tables_merged one two) ≡ lesser (least_in one) (least_in two)
 least_merged [] two = refl
 least_merged (Ask b m ∷ later) two =
-    least_inserted b m (merged later two)
+    least_inserted b m (tables_merged later two)
     ∙ (ap (lesser (alone b m)) (least_merged later two) ∙ sym (lesser_join (alone b m) (least_in later) (least_in two)))
 
 -- and in a table that rises the first is the least
@@ -72,5 +72,5 @@ index_first code i =
     ap (λ o. lesser (first_of facts) (lesser o (first_of flows))) (first_least 0 streams refl)
     ∙ (ap (λ o. lesser (first_of facts) (lesser (least_in streams) o)) (first_least 0 flows refl)
     ∙ (ap (lesser (first_of facts)) (sym (least_merged streams flows))
-    ∙ (ap (λ o. lesser o (least_in (merged streams flows))) (first_least 0 facts refl)
-    ∙ (sym (least_merged facts (merged streams flows)) ∙ sym (first_least 0 (index_questions code i) refl)))))
+    ∙ (ap (λ o. lesser o (least_in (tables_merged streams flows))) (first_least 0 facts refl)
+    ∙ (sym (least_merged facts (tables_merged streams flows)) ∙ sym (first_least 0 (index_questions code i) refl)))))

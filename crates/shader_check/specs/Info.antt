@@ -1,20 +1,20 @@
 -- What an accepted shader takes and reads.
 use Rattle.std.specs.Prelude.{◌≡◌, ℕ, zero, suc, Bool, ◌&&◌, ◌||◌, List, [], ◌∷◌, ◌++◌, map, Option, Some, None, slice_get, nat_lt, if◌then◌else◌, option_to_list}
 use Rattle.qpu_isa.specs.{declared.inst.Reg.Reg, declared.inst.Sample.Sample, declared.inst.ShaderInfo.ShaderInfo}
-use Rattle.qpu_isa.specs.{Terms.writes_s, Terms.first_register, Setups.is_direct, Setups.kept}
+use Rattle.qpu_isa.specs.{Terms.writes_s, Terms.first_register, Setups.is_direct, Setups.setups_kept}
 use Rattle.shader_flow.specs.{Bounded.indexes, Flow.word, Flow.checked_of, Flow.is_threaded, Pending.count_of, Pending.pending_of}
 use Rattle.shader_flow.specs.Site.{SiteModel}
 use Rattle.uniform_stream.specs.Stream.{uniforms_of, address_words_of}
 use Rattle.clamp_facts.specs.{Facts.fact_at, Readings.clamp_in}
 
 -- the instructions whose setup words a TMU keeps before the instruction at i, upwards
-unfoldable pub held : List ℕ → ℕ → ℕ → List ℕ
-held code tmu zero = []
-held code tmu (suc i) = if nat_lt i (checked_of code) then kept (word code i) tmu i (held code tmu i) else held code tmu i
+unfoldable pub setups_held : List ℕ → ℕ → ℕ → List ℕ
+setups_held code tmu zero = []
+setups_held code tmu (suc i) = if nat_lt i (checked_of code) then setups_kept (word code i) tmu i (setups_held code tmu i) else setups_held code tmu i
 
 -- the uniforms of these
 abbrev pub held_words : List ℕ → ℕ → ℕ → List ℕ
-held_words code tmu i = map (count_of code) (held code tmu i)
+held_words code tmu i = map (count_of code) (setups_held code tmu i)
 
 -- how many setup words the TMUs keep before an instruction
 pub record ArePending (site : SiteModel) (pending0 pending1 : ℕ) : Type 0 where
@@ -51,15 +51,15 @@ clamp_parts code i = clamp_list code i (first_register (word code i))
 -- Any other takes one at each setup write, of which the write of S is the last.
 unfoldable pub sample_parts : List ℕ → ℕ → List ℕ
 sample_parts code i =
-    if is_direct_sample code i then i ∷ clamp_parts code i else held code (sample_tmu (word code i)) i ++ (i ∷ [])
+    if is_direct_sample code i then i ∷ clamp_parts code i else setups_held code (sample_tmu (word code i)) i ++ (i ∷ [])
 
 -- the first four numbers of a list, and None after its end
-abbrev pub padded : List ℕ → List (Option ℕ)
-padded numbers = slice_get numbers 0 ∷ slice_get numbers 1 ∷ slice_get numbers 2 ∷ slice_get numbers 3 ∷ []
+abbrev pub first_four : List ℕ → List (Option ℕ)
+first_four numbers = slice_get numbers 0 ∷ slice_get numbers 1 ∷ slice_get numbers 2 ∷ slice_get numbers 3 ∷ []
 
 -- the sample that the instruction at i asks for, with the positions of its uniforms
 unfoldable pub sample_of : List ℕ → ℕ → Sample
-sample_of code i = record { p = padded (map (count_of code) (sample_parts code i)); direct = is_direct_sample code i }
+sample_of code i = record { p = first_four (map (count_of code) (sample_parts code i)); direct = is_direct_sample code i }
 
 -- the samples of the instructions before one, and all in program order
 abbrev pub samples_before : List ℕ → ℕ → List Sample

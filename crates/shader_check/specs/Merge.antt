@@ -12,15 +12,15 @@ lesser (Some a) (Some b) = Some (min a b)
 -- the numbers rise, from n on
 abbrev pub rises : ℕ → List (Question ℕ) → Bool
 rises n [] = true
-rises n (Ask stands number ∷ later) = nat_le n number && rises number later
+rises n (Ask broken number ∷ later) = nat_le n number && rises number later
 
 -- a question put at its place
-abbrev pub inserted : Bool → ℕ → List (Question ℕ) → List (Question ℕ)
-inserted stands number [] = Ask stands number ∷ []
-inserted stands number (Ask other m ∷ later) =
-    if nat_lt number m then Ask stands number ∷ (Ask other m ∷ later) else Ask other m ∷ inserted stands number later
+abbrev pub question_inserted : Bool → ℕ → List (Question ℕ) → List (Question ℕ)
+question_inserted broken number [] = Ask broken number ∷ []
+question_inserted broken number (Ask other m ∷ later) =
+    if nat_lt number m then Ask broken number ∷ (Ask other m ∷ later) else Ask other m ∷ question_inserted broken number later
 
 -- two sorted tables as one
-abbrev pub merged : List (Question ℕ) → List (Question ℕ) → List (Question ℕ)
-merged [] table = table
-merged (Ask stands number ∷ later) table = inserted stands number (merged later table)
+abbrev pub tables_merged : List (Question ℕ) → List (Question ℕ) → List (Question ℕ)
+tables_merged [] table = table
+tables_merged (Ask broken number ∷ later) table = question_inserted broken number (tables_merged later table)

@@ -1,6 +1,6 @@
 -- The rules on facts and on the whole shader, and all rules in the order of refusal.
 use Rattle.std.specs.Prelude.{ℕ, ◌+◌, ◌*◌, ◌==◌, Bool, not, ◌&&◌, ◌||◌, List, [], ◌∷◌, ◌++◌, length, nat_le}
-use Rattle.field_words.specs.Questions.{Question, Ask, each, answered}
+use Rattle.field_words.specs.Questions.{Question, Ask, each, with_answers}
 use Rattle.qpu_isa.specs.Terms.{add_names, has_small, is_address_write, is_add_packed, is_add_with_uniform, first_register, passes, reads_upper, names_upper}
 use Rattle.qpu_isa.specs.{Word.sig_of, Word.ws_of, Word.cond_add_of, Setups.adds_direct, Setups.muls_direct}
 use Rattle.shader_flow.specs.Rules.{s3, s4, s5, s6, s7, s8, s9, s10, s11, s12, s13, s27}
@@ -87,14 +87,14 @@ index_questions code i =
 unfoldable pub whole_questions : List ℕ → List (Question ℕ)
 whole_questions code = Ask (s1 code) 1 ∷ Ask (s2 code) 2 ∷ Ask (s26 code) 26 ∷ []
 
--- a rule's number with the index where it stands
+-- a rule's number with the index where it is broken
 unfoldable pub fault_at : ℕ → ℕ → ShaderFault
 fault_at i number = record { number = number; index = i }
 
 -- the questions of one instruction, and all rules in the order of refusal: by index, then by number; the rules on the whole
 -- shader stand past its last word
 unfoldable pub questions_at : List ℕ → ℕ → List (Question ShaderFault)
-questions_at code i = answered (fault_at i) (index_questions code i)
+questions_at code i = with_answers (fault_at i) (index_questions code i)
 
 unfoldable pub shader_questions : List ℕ → List (Question ShaderFault)
-shader_questions code = each (questions_at code) 0 (checked_of code) ++ answered (fault_at (length code)) (whole_questions code)
+shader_questions code = each (questions_at code) 0 (checked_of code) ++ with_answers (fault_at (length code)) (whole_questions code)

@@ -35,11 +35,11 @@ fn uniforms(code: &[u64], flow: &Flow, count: u32) -> u32
     count
 }
 
-/// Checks a shader of at most 8,192 words. A fault is the first rule that stands, by index and then by number, of all rules at
-/// all checked instructions and on the whole shader; else it is told what the shader takes and reads. `NoMemory` may come at
+/// Checks a shader of at most 8,192 words. A fault is the first broken rule, by index and then by number, of all rules at
+/// all checked instructions and on the whole shader; else what the shader takes and reads is reported. `NoMemory` may come at
 /// any time and says nothing of the shader.
 ///
-/// What is told is sound, which the emission of uniforms rests on: all positions lie in the stream, and the words that the
+/// What is reported is sound, which the emission of uniforms rests on: all positions lie in the stream, and the words that the
 /// validator writes there (address words, and the first of each sample) are apart from each other and from all others that
 /// it tests.
 ///

@@ -1,7 +1,7 @@
 //! The rules on facts at one instruction, and the least of all rules there.
 ghost use Rattle.std.specs.Prelude.{◌≡◌, ◌<◌, ◌≤◌, ◌+◌, ◌*◌, ◌==◌, ℕ, true, length};
 ghost use Rattle.field_words.specs.Questions.{first_of};
-ghost use Rattle.qpu_isa.specs.Told.{IsRegister};
+ghost use Rattle.qpu_isa.specs.Report.{IsRegister};
 ghost use Rattle.shader_flow.specs.Flow.{word, IsFlow};
 ghost use Rattle.shader_flow.specs.Pending.{count_of};
 ghost use Rattle.uniform_stream.specs.Stream.{IsStream};
@@ -38,7 +38,7 @@ fn adds_address(word: u64) -> bool
     (!ws(word) && add_names(word, 40)) && (cond_add(word) == 1 && !is_add_packed(word))
 }
 
-/// What the rules and the samples are told of an instruction: what is known there, and how many setup words the TMUs keep.
+/// What the rules and the samples learn of an instruction: what is known there, and how many setup words the TMUs keep.
 #[derive(Drop)]
 pub(crate) struct Here<'a> {
     pub(crate) known: Known<'a>,
@@ -172,7 +172,7 @@ fn breaks_s24<L: Ledger>(here: &Here, steps: &mut Steps<L>) -> bool
     (direct_by_add(here) && !is_clamped_write(&here.known, steps)) || direct_by_mul(here)
 }
 
-// The first of the rules on facts that stands. Where registers alone are written none does.
+// The first of the rules on facts that is broken. Where registers alone are written none is.
 #[tactic(auto, unfolding(crate::specs::Rules::fact_questions))]
 fn fact_fault<L: Ledger>(here: &Here, steps: &mut Steps<L>) -> Option<u8>
     ensures value { result ≡ first_of (fact_questions here.now.code here.now.at) }
@@ -226,7 +226,7 @@ fn lesser(a: Option<u8>, b: Option<u8>) -> Option<u8>
     }
 }
 
-/// The number of the first of all rules that stands at the instruction `at`. At most two steps.
+/// The number of the first of all rules that is broken at the instruction `at`. At most two steps.
 pub(crate) fn index_fault<L: Ledger>(
     code: &[u64],
     flow: &Flow,

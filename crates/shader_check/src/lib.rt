@@ -2,7 +2,7 @@
 //!
 //! A shader from a stranger may branch, switch threads, set its uniforms' address and read memory. The rules S1 to S27 refuse
 //! whatever the checker can't follow: `Rules` in `specs/` has those on facts and on the whole shader, and all of them in the
-//! order of refusal; the crates below have the others. `Info` says what is told of an accepted shader.
+//! order of refusal; the crates below have the others. `Info` says what is reported of an accepted shader.
 #![tactic(auto)]
 
 mod check;

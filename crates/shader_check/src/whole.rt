@@ -44,7 +44,7 @@ fn breaks_s2(code: &[u64], flow: &Flow) -> bool
     code.len() <= flow.end as usize + 2
 }
 
-/// The number of the first of the rules on the whole shader that stands.
+/// The number of the first of the rules on the whole shader that is broken.
 #[tactic(auto, unfolding(crate::specs::Rules::whole_questions, crate::specs::Rules::s1))]
 pub(crate) fn whole_fault(code: &[u64], flow: &Flow) -> Option<u8>
     requires { IsFlow code.now flow.now }

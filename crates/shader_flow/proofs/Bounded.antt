@@ -47,7 +47,7 @@ some_below_same zero p q same = refl
 some_below_same (suc n) p q same =
     ap (λ a. a || p n) (some_below_same n p q (λ k below. same k (omega arith))) ∙ ap (λ b. some_below n q || b) (same n (omega arith))
 
--- the same from an index on
+-- one test from an index on is true where that of k is
 pub some_in_here : (from to k : ℕ) (p : ℕ → Bool) → from ≤ k → k < to → p k ≡ true → some_in from to p ≡ true
 unfolding some_in
 some_in_here from to k p after below here =

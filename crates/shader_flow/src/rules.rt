@@ -165,7 +165,7 @@ fn breaks_s27(site: &Site) -> bool
     is_load_imm(site.word()) && !(mode == 0 || mode == 1 || mode == 3)
 }
 
-// The first of the rules on branches that stands.
+// The first of the rules on branches that is broken.
 #[tactic(auto, unfolding(crate::specs::Rules::branch_questions))]
 fn branch_fault(site: &Site) -> Option<u8>
     ensures { result ≡ first_of (branch_questions site.now.code site.now.at) }
@@ -197,7 +197,7 @@ fn branch_fault(site: &Site) -> Option<u8>
     None
 }
 
-// The first of the rules on switches that stands.
+// The first of the rules on switches that is broken.
 #[tactic(auto, unfolding(crate::specs::Rules::switch_questions))]
 fn switch_fault(site: &Site) -> Option<u8>
     ensures { result ≡ first_of (switch_questions site.now.code site.now.at) }
@@ -211,7 +211,7 @@ fn switch_fault(site: &Site) -> Option<u8>
     None
 }
 
-// The first of all these rules that stands. A branch is no switch and no load, so few rules are asked.
+// The first of all these rules that is broken. A branch is no switch and no load, so few rules are asked.
 fn site_fault(site: &Site) -> Option<u8>
     ensures { result ≡ first_of (flow_questions site.now.code site.now.at) }
 {
@@ -230,8 +230,8 @@ fn site_fault(site: &Site) -> Option<u8>
     None
 }
 
-/// The number of the first of the rules S3 to S13 and S27 that stands at the instruction `at`; `None` where none of them
-/// does. They keep a shader inside its own words: each branch goes where the checker can follow it, and no branch or
+/// The number of the first of the rules S3 to S13 and S27 that is broken at the instruction `at`; `None` where none of them
+/// is. They keep a shader inside its own words: each branch goes where the checker can follow it, and no branch or
 /// switch comes while another is on its way.
 pub fn flow_fault(code: &[u64], flow: &Flow, at: u32) -> Option<u8>
     requires inside { at < length code.now }

@@ -14,7 +14,7 @@ accesses_tile word =
     sig_of word == 8
     || ((names_address word 44 || names_address word 45) || (names_address word 46 || names_address word 47))
 
--- the same, or a wait for the scoreboard
+-- such a read or write, or a wait for the scoreboard
 unfoldable pub locks : ℕ → Bool
 locks word = sig_of word == 4 || accesses_tile word
 

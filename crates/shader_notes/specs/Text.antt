@@ -1,4 +1,4 @@
--- What a person is told of notes: a line for each, in the order of their kinds.
+-- What a person reads of notes: a line for each, in the order of their kinds.
 use Rattle.std.specs.{Prelude.ℕ, Prelude.Bool, Prelude.false, Prelude.◌||◌, Prelude.List, Prelude.[], Prelude.◌∷◌, Prelude.◌++◌, Prelude.codes, Prelude.Option, Prelude.None, Prelude.Some, Prelude.is_some, Prelude.if◌then◌else◌, Prelude.decimal, List.list_any}
 use Rattle.shader_notes.specs.{declared.note.Note.Note, declared.note.Notes.Notes}
 use Rattle.shader_notes.specs.declared.note.Note.TheVariants.{LastUnmarked, MarkedEarly, LockedEarly, TileAtStart, EndWrites, Register14, DepthLast, ReadEarly, RotatedEarly}

@@ -1,8 +1,8 @@
--- What holds where no rule stands.
+-- What holds where no rule is broken.
 use Rattle.std.proofs.Common.{◌≡◌, ℕ, ◌+◌, ◌*◌, ◌==◌, ◌<◌, ◌≤◌, false, not, ◌&&◌, [], ◌∷◌, ◌++◌, nat_lt, length, Some, None, is_some, arith}
 use Rattle.std.proofs.lemmas.Bool.{ltb-false}
-use Rattle.field_words.specs.Questions.{Ask, first_of, each, answered}
-use Rattle.field_words.proofs.{Questions.none_stands, Nones.front_none, Nones.rest_none, Nones.each_none, Nones.none_answered}
+use Rattle.field_words.specs.Questions.{Ask, first_of, each, with_answers}
+use Rattle.field_words.proofs.{Questions.none_broken, Nones.front_none, Nones.rest_none, Nones.each_none, Nones.none_answered}
 use Rattle.qpu_isa.specs.Shader.{ShaderModel, sample_at}
 use Rattle.emitted_facts.specs.Records.{attribute_size, attribute_stride, is_single, address_word}
 use Rattle.packets.specs.StateWord.{attribute_count}
@@ -14,7 +14,7 @@ use Rattle.shader_records.specs.{Faults.uniform_fault, Faults.sample_fault, Inpu
 pub source_inside : (input : InputModel) (at state most : ℕ) → first_of (record_questions input at state most) ≡ None → at + source_size state ≤ length input.records
 unfolding record_questions cut_questions
 source_inside input at state most none =
-    let n = none_stands (cut_questions input at state) (front_none (cut_questions input at state) (names_questions input at state ++ body_questions input at state most) none) in
+    let n = none_broken (cut_questions input at state) (front_none (cut_questions input at state) (names_questions input at state ++ body_questions input at state most) none) in
     ltb-false (length input.records) (at + source_size state) n.1.0
 
 names_none : (input : InputModel) (at state most : ℕ) → first_of (record_questions input at state most) ≡ None → first_of (names_questions input at state) ≡ None
@@ -38,7 +38,7 @@ pub code_fine : (input : InputModel) (at state most s : ℕ) → first_of (recor
 unfolding names_questions code_questions
 code_fine input at state most s none below =
     let all = front_none (each (code_questions input at) 0 3) (each (handle_questions input at) 0 (attribute_count state)) (names_none input at state most none) in
-    let n = none_stands (code_questions input at s) (each_none (code_questions input at) 0 3 s all (omega arith) (omega arith)) in
+    let n = none_broken (code_questions input at s) (each_none (code_questions input at) 0 3 s all (omega arith) (omega arith)) in
     record { named = n.0; single = n.1.0 }
 
 -- the flags agree with the fragment shader
@@ -46,7 +46,7 @@ pub flags_fine : (input : InputModel) (at state most : ℕ) → first_of (record
     → disagrees (is_single (record_word input at state)) (is_threaded (shader_used input at 0)) ≡ false
 unfolding body_questions fixed_questions
 flags_fine input at state most none =
-    let n = none_stands (fixed_questions input at state) (front_none (fixed_questions input at state) (each (attribute_questions input at state most) 0 (attribute_count state)) (body_none input at state most none)) in
+    let n = none_broken (fixed_questions input at state) (front_none (fixed_questions input at state) (each (attribute_questions input at state most) 0 (attribute_count state)) (body_none input at state most none)) in
     n.0
 
 -- of attribute t
@@ -60,8 +60,8 @@ unfolding names_questions handle_questions body_questions attribute_questions
 attribute_fine input at state most t none below =
     let handles = rest_none (each (code_questions input at) 0 3) (each (handle_questions input at) 0 (attribute_count state)) (names_none input at state most none) in
     let bodies = rest_none (fixed_questions input at state) (each (attribute_questions input at state most) 0 (attribute_count state)) (body_none input at state most none) in
-    let h = none_stands (handle_questions input at t) (each_none (handle_questions input at) 0 (attribute_count state) t handles (omega arith) (omega arith)) in
-    let b = none_stands (attribute_questions input at state most t) (each_none (attribute_questions input at state most) 0 (attribute_count state) t bodies (omega arith) (omega arith)) in
+    let h = none_broken (handle_questions input at t) (each_none (handle_questions input at) 0 (attribute_count state) t handles (omega arith) (omega arith)) in
+    let b = none_broken (attribute_questions input at state most t) (each_none (attribute_questions input at state most) 0 (attribute_count state) t bodies (omega arith) (omega arith)) in
     record { named = h.0; first = b.0; others = b.1.0 }
 
 pub address_fine : (input : InputModel) (at state most t : ℕ) → first_of (record_questions input at state most) ≡ None → t < attribute_count state
@@ -81,7 +81,7 @@ pub use_inside : (input : InputModel) (from : ℕ) (shader : ShaderModel) → fi
     → from + 4 * (length shader.samples + shader.uniforms) ≤ length input.uniforms
 unfolding use_questions
 use_inside input from shader none =
-    let n = none_stands (use_questions input from (Some shader)) none in
+    let n = none_broken (use_questions input from (Some shader)) none in
     ltb-false (length input.uniforms) (from + 4 * (length shader.samples + shader.uniforms)) n.0
 
 samples_none : (input : InputModel) (from : ℕ) (shader : ShaderModel) → first_of (use_questions input from (Some shader)) ≡ None
@@ -90,11 +90,11 @@ unfolding use_questions
 samples_none input from shader none = rest_none (Ask (nat_lt (length input.uniforms) (from + 4 * (length shader.samples + shader.uniforms))) (uniform_fault from) ∷ []) (each (sample_questions input from shader) 0 (length shader.samples)) none
 
 later_none : (input : InputModel) (from : ℕ) (shader : ShaderModel) (i : ℕ) → first_of (sample_questions input from shader i) ≡ None
-    → first_of (answered (sample_fault (first_word_at shader from i)) (setup_questions (sample_at shader i) (source_word input from shader) (size_in input.table (sample_number input from i)))) ≡ None
+    → first_of (with_answers (sample_fault (first_word_at shader from i)) (setup_questions (sample_at shader i) (source_word input from shader) (size_in input.table (sample_number input from i)))) ≡ None
 unfolding sample_questions
 later_none input from shader i none =
     rest_none (Ask (not (is_some (sample_number input from i))) (sample_fault (from + 4 * i) 1) ∷ [])
-    (answered (sample_fault (first_word_at shader from i)) (setup_questions (sample_at shader i) (source_word input from shader) (size_in input.table (sample_number input from i)))) none
+    (with_answers (sample_fault (first_word_at shader from i)) (setup_questions (sample_at shader i) (source_word input from shader) (size_in input.table (sample_number input from i)))) none
 
 pub record IsSampleFine (input : InputModel) (from : ℕ) (shader : ShaderModel) (i : ℕ) : Type 0 where
   pub named : not (is_some (sample_number input from i)) ≡ false
@@ -104,7 +104,7 @@ pub sample_fine : (input : InputModel) (from : ℕ) (shader : ShaderModel) (i : 
     → IsSampleFine input from shader i
 unfolding use_questions sample_questions
 sample_fine input from shader i none below =
-    let n = none_stands (sample_questions input from shader i) (each_none (sample_questions input from shader) 0 (length shader.samples) i (samples_none input from shader none) (omega arith) (omega arith)) in
+    let n = none_broken (sample_questions input from shader i) (each_none (sample_questions input from shader) 0 (length shader.samples) i (samples_none input from shader none) (omega arith) (omega arith)) in
     record {
       named = n.0;
       fits = none_answered (sample_fault (first_word_at shader from i)) (setup_questions (sample_at shader i) (source_word input from shader) (size_in input.table (sample_number input from i))) (later_none input from shader i (each_none (sample_questions input from shader) 0 (length shader.samples) i (samples_none input from shader none) (omega arith) (omega arith)));

@@ -96,7 +96,7 @@ unfolding stream_offset uniform_source
 stream_le input zero = omega arith
 stream_le input (suc k) = let e = stream_le input k in let g = given_le input (record_source input k) 3 in omega (arith, e, g)
 
--- Where no rule stands, the sources lie inside.
+-- Where no rule is broken, the sources lie inside.
 use_end : (input : InputModel) (from : ℕ) (shader : Option ShaderModel) → from ≤ length input.uniforms → first_of (use_questions input from shader) ≡ None
     → from + taken_by shader ≤ length input.uniforms
 use_end input from None inside none = omega arith
@@ -139,7 +139,7 @@ pub no_uniforms : (window : List ℕ) (base : ℕ) (input : InputModel) (first :
 unfolding uniforms_text
 no_uniforms window base input first fits = sym (with_nothing window base fits)
 
--- All that a state takes and gives lies inside, where no rule stands.
+-- All that a state takes and gives lies inside, where no rule is broken.
 pub record IsStateInside (input : InputModel) (k : ℕ) : Type 0 where
   pub handles : record_source input k + 12 ≤ length input.records
   pub source : record_source input k + source_size (state_at input k).word ≤ length input.records

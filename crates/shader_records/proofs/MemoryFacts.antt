@@ -16,16 +16,16 @@ use Rattle.shader_records.proofs.StreamFacts.{stream_fits, word_fits}
 use Rattle.shader_records.proofs.Shaders.{shaped}
 
 -- A text that stands among others, which go before it and behind it.
-pub record StandsIn (whole text : List ℕ) (at : ℕ) : Type 0 where
+pub record LiesIn (whole text : List ℕ) (at : ℕ) : Type 0 where
   pub before : List ℕ
   pub behind : List ℕ
   pub is : whole ≡ before ++ (text ++ behind)
   pub long : length before ≡ at
 
-last_one : (front text : List ℕ) (at : ℕ) → length front ≡ at → StandsIn (front ++ text) text at
+last_one : (front text : List ℕ) (at : ℕ) → length front ≡ at → LiesIn (front ++ text) text at
 last_one front text at long = record { before = front; behind = []; is = ap (λ t. front ++ t) (sym (append-nil text)); long = long }
 
-one_more : (whole text more : List ℕ) (at : ℕ) → StandsIn whole text at → StandsIn (whole ++ more) text at
+one_more : (whole text more : List ℕ) (at : ℕ) → LiesIn whole text at → LiesIn (whole ++ more) text at
 one_more whole text more at stands =
     record {
       before = stands.before;
@@ -38,23 +38,23 @@ one_more whole text more at stands =
     }
 
 -- The records, the streams of states and the streams of a state's shaders stand one after the other.
-pub record_stands : (input : InputModel) (first n k : ℕ) → k < n
-    → StandsIn (records_text input first n) (record_text input (record_source input k) (state_at input k).word (first + stream_offset input k)) (record_offset input k)
+pub record_lies : (input : InputModel) (first n k : ℕ) → k < n
+    → LiesIn (records_text input first n) (record_text input (record_source input k) (state_at input k).word (first + stream_offset input k)) (record_offset input k)
 unfolding records_text
-record_stands input first zero k below = absurd (omega arith)
-record_stands input first (suc n) k below =
+record_lies input first zero k below = absurd (omega arith)
+record_lies input first (suc n) k below =
     elim (cases_lt k n) [
       | inl earlier ↦
           one_more (records_text input first n) (record_text input (record_source input k) (state_at input k).word (first + stream_offset input k))
-          (record_text input (record_source input n) (state_at input n).word (first + stream_offset input n)) (record_offset input k) (record_stands input first n k earlier)
+          (record_text input (record_source input n) (state_at input n).word (first + stream_offset input n)) (record_offset input k) (record_lies input first n k earlier)
       | inr past ↦
           let same : n ≡ k = omega arith in
-          subst (λ m. StandsIn (records_text input first n ++ record_text input (record_source input n) (state_at input n).word (first + stream_offset input n)) (record_text input (record_source input m) (state_at input m).word (first + stream_offset input m)) (record_offset input m)) same
+          subst (λ m. LiesIn (records_text input first n ++ record_text input (record_source input n) (state_at input n).word (first + stream_offset input n)) (record_text input (record_source input m) (state_at input m).word (first + stream_offset input m)) (record_offset input m)) same
           (last_one (records_text input first n) (record_text input (record_source input n) (state_at input n).word (first + stream_offset input n)) (record_offset input n) (length_records input first n))
     ]
 
 pub streams_stand : (input : InputModel) (first n k : ℕ) → k < n
-    → StandsIn (uniforms_text input first n) (streams_text input (record_source input k) (uniform_source input k) (first + stream_offset input k) 3) (stream_offset input k)
+    → LiesIn (uniforms_text input first n) (streams_text input (record_source input k) (uniform_source input k) (first + stream_offset input k) 3) (stream_offset input k)
 unfolding uniforms_text
 streams_stand input first zero k below = absurd (omega arith)
 streams_stand input first (suc n) k below =
@@ -64,12 +64,12 @@ streams_stand input first (suc n) k below =
           (streams_text input (record_source input n) (uniform_source input n) (first + stream_offset input n) 3) (stream_offset input k) (streams_stand input first n k earlier)
       | inr past ↦
           let same : n ≡ k = omega arith in
-          subst (λ m. StandsIn (uniforms_text input first n ++ streams_text input (record_source input n) (uniform_source input n) (first + stream_offset input n) 3) (streams_text input (record_source input m) (uniform_source input m) (first + stream_offset input m) 3) (stream_offset input m)) same
+          subst (λ m. LiesIn (uniforms_text input first n ++ streams_text input (record_source input n) (uniform_source input n) (first + stream_offset input n) 3) (streams_text input (record_source input m) (uniform_source input m) (first + stream_offset input m) 3) (stream_offset input m)) same
           (last_one (uniforms_text input first n) (streams_text input (record_source input n) (uniform_source input n) (first + stream_offset input n) 3) (stream_offset input n) (length_uniforms input first n))
     ]
 
 pub stream_stands : (input : InputModel) (at from first n s : ℕ) → s < n
-    → StandsIn (streams_text input at from first n) (stream_text input (from + taken_before input at s) (first + given_before input at s) (shader_used input at s)) (given_before input at s)
+    → LiesIn (streams_text input at from first n) (stream_text input (from + taken_before input at s) (first + given_before input at s) (shader_used input at s)) (given_before input at s)
 unfolding streams_text
 stream_stands input at from first zero s below = absurd (omega arith)
 stream_stands input at from first (suc n) s below =
@@ -79,12 +79,12 @@ stream_stands input at from first (suc n) s below =
           (stream_text input (from + taken_before input at n) (first + given_before input at n) (shader_used input at n)) (given_before input at s) (stream_stands input at from first n s earlier)
       | inr past ↦
           let same : n ≡ s = omega arith in
-          subst (λ m. StandsIn (streams_text input at from first n ++ stream_text input (from + taken_before input at n) (first + given_before input at n) (shader_used input at n)) (stream_text input (from + taken_before input at m) (first + given_before input at m) (shader_used input at m)) (given_before input at m)) same
+          subst (λ m. LiesIn (streams_text input at from first n ++ stream_text input (from + taken_before input at n) (first + given_before input at n) (shader_used input at n)) (stream_text input (from + taken_before input at m) (first + given_before input at m) (shader_used input at m)) (given_before input at m)) same
           (last_one (streams_text input at from first n) (stream_text input (from + taken_before input at n) (first + given_before input at n) (shader_used input at n)) (given_before input at n) (length_streams input at from first n))
     ]
 
 -- A text that stands in one that stands in memory stands there too.
-pub piece_in : (memory whole text : List ℕ) (place at : ℕ) → IsPiece memory place (length whole) whole → StandsIn whole text at → IsPiece memory (place + at) (length text) text
+pub piece_in : (memory whole text : List ℕ) (place at : ℕ) → IsPiece memory place (length whole) whole → LiesIn whole text at → IsPiece memory (place + at) (length text) text
 piece_in memory whole text place at piece stands =
     let before : List ℕ = stands.before in
     let behind : List ℕ = stands.behind in
@@ -94,7 +94,7 @@ piece_in memory whole text place at piece stands =
     subst (λ t. IsPiece memory place (at + (length text + length behind)) t) stands.is (subst (λ n. IsPiece memory place n whole) sum piece) in
     front_piece memory (place + at) (length text) (length behind) text behind refl (rest_piece memory place at (length text + length behind) before (text ++ behind) stands.long all)
 
-stands_of_piece : (whole text : List ℕ) (at n : ℕ) → IsPiece whole at n text → StandsIn whole text at
+stands_of_piece : (whole text : List ℕ) (at n : ℕ) → IsPiece whole at n text → LiesIn whole text at
 stands_of_piece whole text at n piece =
     let inside = piece.inside in
     record {
@@ -174,7 +174,7 @@ record_in_memory input records first memory k i fits none below room emitted ins
     let fine = state_fine input k none below in
     let given = (state_inside input k none below).given in
     let whole = (emitted_in state).2 in
-    let piece = piece_in memory (emitted_records input first) (record_text input at state here) records (record_offset input k) emitted.records_are (record_stands input first (length input.states) k below) in
+    let piece = piece_in memory (emitted_records input first) (record_text input at state here) records (record_offset input k) emitted.records_are (record_lies input first (length input.states) k below) in
     word_in_memory memory (records + record_offset input k) (emitted_word input at state (stream_place input at here)) (record_room state / 4) i piece (omega (arith, whole, inside))
     (word_fits input at state (state_at input k).max_index (stream_place input at here) i fits
     (λ s small. let rises = given_rises input at s small in omega (arith, rises, given, room)) fine.of_record)

@@ -2,7 +2,7 @@
 use Rattle.std.proofs.Common.{◌≡◌, ℕ, suc, ◌+◌, ◌^◌, ◌==◌, ◌<◌, ◌≤◌, Bool, true, false, ◌||◌, length, Option, Some, None, is_some, if◌then◌else◌, add-zero, refl, sym, ap, arith, ◌∙◌, zero, ◌*◌, ◌/◌, ◌%◌, ◌-◌, ◌&&◌, nat_lt, nat_le, not, List, inl, inr}
 use Rattle.std.proofs.lemmas.Bool.{ltb-false, eqb-true, ltb-true, cases_lt}
 use Rattle.field_words.specs.{Questions.first_of, Words.u32_at}
-use Rattle.field_words.proofs.{Questions.none_stands, Numbers.u32_fits}
+use Rattle.field_words.proofs.{Questions.none_broken, Numbers.u32_fits}
 use Rattle.qpu_isa.specs.Shader.{ShaderModel, or_zero, sample_at, first_position, position, address_at, IsSoundShader, IsSoundSample}
 use Rattle.qpu_isa.specs.declared.inst.Sample.{Sample}
 use Rattle.texture_layouts.specs.Setup.{base_of, texture_of, faces_of, size_below}
@@ -10,7 +10,7 @@ use Rattle.texture_layouts.specs.Fits.{texture_questions, direct_questions}
 use Rattle.texture_layouts.proofs.Inside.{in_buffer}
 use Rattle.emitted_facts.specs.Facts.{setup, word_or_zero, IsSampleIn, IsStream}
 use Rattle.shader_records.specs.Sources.{sample_number, source_word, place_in, size_in, handles_size, code_number, attribute_number, record_word}
-use Rattle.shader_records.specs.Emission.{moved, moved_word, is_address, addressed_word, stream_word_of, shader_word, attribute_word, emitted_word}
+use Rattle.shader_records.specs.Emission.{place_added, moved_word, is_address, addressed_word, stream_word_of, shader_word, attribute_word, emitted_word}
 use Rattle.shader_records.specs.{Inputs.InputModel, Inputs.IsShaped, Rules.setup_questions, Rules.use_questions, Rules.record_questions}
 use Rattle.shader_records.specs.Named.{AreInMemory, IsDataIn}
 use Rattle.shader_records.proofs.Fine.{sample_fine, address_fits}
@@ -34,7 +34,7 @@ texture_base p0 p1 p2 p3 size fits none =
 pub direct_base : (base bound size : ℕ) → first_of (direct_questions base bound size) ≡ None → base + bound + 4 ≤ size
 unfolding direct_questions
 direct_base base bound size none =
-    let n = none_stands (direct_questions base bound size) none in
+    let n = none_broken (direct_questions base bound size) none in
     ltb-false size (base + bound + 4) n.1.0
 
 setup_base : (direct : Bool) (p0 p1 p2 p3 size : ℕ) → p0 < 2 ^ 32
@@ -78,26 +78,26 @@ if_there false a k x y other = if_other a k x y other
 -- One sample more is moved: word k changes where it is the sample's first.
 pub moved_here : (input : InputModel) (from : ℕ) (shader : ShaderModel) (n : ℕ)
     → moved_word input from shader (n + 1) (first_position (sample_at shader n)) ≡ source_word input from shader (first_position (sample_at shader n)) + place_in input.table (sample_number input from n)
-unfolding moved_word moved
+unfolding moved_word place_added
 moved_here input from shader n =
     let first : ℕ = first_position (sample_at shader n) in
-    ap (λ m. source_word input from shader first + moved input from shader m first) (next n)
-    ∙ ap (λ x. source_word input from shader first + x) (if_same first (place_in input.table (sample_number input from n)) (moved input from shader n first))
+    ap (λ m. source_word input from shader first + place_added input from shader m first) (next n)
+    ∙ ap (λ x. source_word input from shader first + x) (if_same first (place_in input.table (sample_number input from n)) (place_added input from shader n first))
 
 pub moved_others : (input : InputModel) (from : ℕ) (shader : ShaderModel) (n k : ℕ) → (k ≡ first_position (sample_at shader n) → ⊥)
     → moved_word input from shader n k ≡ moved_word input from shader (n + 1) k
-unfolding moved_word moved
+unfolding moved_word place_added
 moved_others input from shader n k other =
     let first : ℕ = first_position (sample_at shader n) in
-    sym (ap (λ m. source_word input from shader k + moved input from shader m k) (next n)
-    ∙ ap (λ x. source_word input from shader k + x) (if_other first k (place_in input.table (sample_number input from n)) (moved input from shader n k) other))
+    sym (ap (λ m. source_word input from shader k + place_added input from shader m k) (next n)
+    ∙ ap (λ x. source_word input from shader k + x) (if_other first k (place_in input.table (sample_number input from n)) (place_added input from shader n k) other))
 
 -- no sample is moved yet
 pub moved_none : (input : InputModel) (from : ℕ) (shader : ShaderModel) (k : ℕ) → source_word input from shader k ≡ moved_word input from shader 0 k
-unfolding moved_word moved
+unfolding moved_word place_added
 moved_none input from shader k = sym (add-zero (source_word input from shader k))
 
--- The same of address words.
+-- an address word is its place in the stream
 pub addressed_here : (input : InputModel) (from : ℕ) (shader : ShaderModel) (stream n : ℕ) → stream ≡ addressed_word input from shader stream (n + 1) (address_at shader n)
 unfolding addressed_word is_address
 addressed_here input from shader stream n =
@@ -132,8 +132,8 @@ source_fits input from shader k fits = u32_fits input.uniforms (from + 4 * lengt
 
 -- What is added to a word is nothing, or the place of the buffer of a sample whose first word it is.
 moved_one : (input : InputModel) (from : ℕ) (shader : ShaderModel) (n k : ℕ) (b : Bool) → (first_position (sample_at shader n) == k) ≡ b → AreInMemory input → IsShaped shader
-    → first_of (use_questions input from (Some shader)) ≡ None → suc n ≤ length shader.samples → source_word input from shader k + moved input from shader n k < 2 ^ 32
-    → source_word input from shader k + (if b then place_in input.table (sample_number input from n) else moved input from shader n k) < 2 ^ 32
+    → first_of (use_questions input from (Some shader)) ≡ None → suc n ≤ length shader.samples → source_word input from shader k + place_added input from shader n k < 2 ^ 32
+    → source_word input from shader k + (if b then place_in input.table (sample_number input from n) else place_added input from shader n k) < 2 ^ 32
 moved_one input from shader n k false is fits shaped none upto before = before
 moved_one input from shader n k true is fits shaped none upto before =
     let same : first_position (sample_at shader n) ≡ k = eqb-true (first_position (sample_at shader n)) k is in
@@ -143,8 +143,8 @@ moved_one input from shader n k true is fits shaped none upto before =
     omega (arith, here, base, limit)
 
 moved_fits : (input : InputModel) (from : ℕ) (shader : ShaderModel) (n k : ℕ) → AreInMemory input → IsShaped shader
-    → first_of (use_questions input from (Some shader)) ≡ None → n ≤ length shader.samples → source_word input from shader k + moved input from shader n k < 2 ^ 32
-unfolding moved
+    → first_of (use_questions input from (Some shader)) ≡ None → n ≤ length shader.samples → source_word input from shader k + place_added input from shader n k < 2 ^ 32
+unfolding place_added
 moved_fits input from shader zero k fits shaped none upto = let s = source_fits input from shader k fits in omega (arith, s)
 moved_fits input from shader (suc n) k fits shaped none upto =
     moved_one input from shader n k (first_position (sample_at shader n) == k) refl fits shaped none upto (moved_fits input from shader n k fits shaped none (omega arith))
@@ -157,7 +157,7 @@ pub stream_fits : (input : InputModel) (from : ℕ) (shader : ShaderModel) (stre
     → first_of (use_questions input from (Some shader)) ≡ None → stream < 2 ^ 32 → stream_word_of input from shader stream k < 2 ^ 32
 unfolding addressed_word moved_word
 stream_fits input from shader stream k fits shaped none place =
-    either (is_address shader (length shader.address_words) k) stream (source_word input from shader k + moved input from shader (length shader.samples) k) place
+    either (is_address shader (length shader.address_words) k) stream (source_word input from shader k + place_added input from shader (length shader.samples) k) place
     (moved_fits input from shader (length shader.samples) k fits shaped none (omega arith))
 
 -- The words of a record.
@@ -231,27 +231,27 @@ is_none_of shader (suc n) k none =
 -- What is added to a word.
 added_first : (input : InputModel) (from : ℕ) (shader : ShaderModel) (n i : ℕ) → i < n
     → ((j : ℕ) → i < j → j < n → first_position (sample_at shader i) ≡ first_position (sample_at shader j) → ⊥)
-    → moved input from shader n (first_position (sample_at shader i)) ≡ place_in input.table (sample_number input from i)
-unfolding moved
+    → place_added input from shader n (first_position (sample_at shader i)) ≡ place_in input.table (sample_number input from i)
+unfolding place_added
 added_first input from shader zero i below apart = absurd (omega arith)
 added_first input from shader (suc n) i below apart =
     let first : ℕ = first_position (sample_at shader i) in
     elim (cases_lt i n) [
       | inl before ↦
-          if_other (first_position (sample_at shader n)) first (place_in input.table (sample_number input from n)) (moved input from shader n first) (apart n before (omega arith))
+          if_other (first_position (sample_at shader n)) first (place_in input.table (sample_number input from n)) (place_added input from shader n first) (apart n before (omega arith))
           ∙ added_first input from shader n i before (λ j above small. apart j above (omega arith))
       | inr past ↦
           let same : n ≡ i = omega arith in
-          ap (λ m. if first_position (sample_at shader m) == first then place_in input.table (sample_number input from m) else moved input from shader n first) same
-          ∙ if_same first (place_in input.table (sample_number input from i)) (moved input from shader n first)
+          ap (λ m. if first_position (sample_at shader m) == first then place_in input.table (sample_number input from m) else place_added input from shader n first) same
+          ∙ if_same first (place_in input.table (sample_number input from i)) (place_added input from shader n first)
     ]
 
 added_none : (input : InputModel) (from : ℕ) (shader : ShaderModel) (n k : ℕ) → ((i : ℕ) → i < n → first_position (sample_at shader i) ≡ k → ⊥)
-    → moved input from shader n k ≡ 0
-unfolding moved
+    → place_added input from shader n k ≡ 0
+unfolding place_added
 added_none input from shader zero k none = refl
 added_none input from shader (suc n) k none =
-    if_other (first_position (sample_at shader n)) k (place_in input.table (sample_number input from n)) (moved input from shader n k) (λ e. none n (omega arith) (sym e))
+    if_other (first_position (sample_at shader n)) k (place_in input.table (sample_number input from n)) (place_added input from shader n k) (λ e. none n (omega arith) (sym e))
     ∙ added_none input from shader n k (λ i below. none i (omega arith))
 
 -- So a sample's first word is moved by its buffer's place, and its other words are those of the source.
@@ -263,7 +263,7 @@ stream_first input from shader stream i sound below =
     let first : ℕ = first_position (sample_at shader i) in
     let n : ℕ = length shader.samples in
     let other = is_none_of shader (length shader.address_words) first (λ j small same. sound.apart i j below small (sym same)) in
-    ap (λ b. if b then stream else source_word input from shader first + moved input from shader n first) other
+    ap (λ b. if b then stream else source_word input from shader first + place_added input from shader n first) other
     ∙ ap (λ x. source_word input from shader first + x) (added_first input from shader n i below (λ j above small. sound.firsts i j above small))
 
 stream_other : (input : InputModel) (from : ℕ) (shader : ShaderModel) (stream i n k : ℕ) → IsSoundShader shader → i < length shader.samples → 1 ≤ n
@@ -273,7 +273,7 @@ unfolding addressed_word moved_word
 stream_other input from shader stream i n k sound below later here =
     let sample = sound.samples i below in
     let other = is_none_of shader (length shader.address_words) k (λ j small same. sample.no_address n k later here j small same) in
-    ap (λ b. if b then stream else source_word input from shader k + moved input from shader (length shader.samples) k) other
+    ap (λ b. if b then stream else source_word input from shader k + place_added input from shader (length shader.samples) k) other
     ∙ ap (λ x. source_word input from shader k + x) (added_none input from shader (length shader.samples) k (λ j small same. sample.no_first n k later here j small same))
     ∙ add-zero (source_word input from shader k)
 
@@ -297,7 +297,7 @@ setup_first input from shader stream i sound below =
     ∙ stream_first input from shader stream i sound below
     ∙ ap (λ x. x + place_in input.table (sample_number input from i)) (sym (first_setup (source_word input from shader) (position sample 0) (first_position sample) refl some))
 
--- A handle that names a Plain buffer.
+-- A handle that names a data buffer.
 pub named_data : (table : TableModel) (handles : List ℕ) (handle : ℕ) (o : Option ℕ) → data_of table handles handle ≡ o → not (is_some o) ≡ false
     → IsDataIn table handles (place_in table o) (size_in table o)
 named_data table handles handle None is some = cc

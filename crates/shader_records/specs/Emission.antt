@@ -8,13 +8,13 @@ use Rattle.shader_records.specs.Inputs.{InputModel}
 
 -- what is added to word k for the samples below n: the place of the buffer of the sample whose first
 -- word it is
-unfoldable pub moved : InputModel → ℕ → ShaderModel → ℕ → ℕ → ℕ
-moved input from shader zero k = 0
-moved input from shader (suc n) k =
-    if first_position (sample_at shader n) == k then place_in input.table (sample_number input from n) else moved input from shader n k
+unfoldable pub place_added : InputModel → ℕ → ShaderModel → ℕ → ℕ → ℕ
+place_added input from shader zero k = 0
+place_added input from shader (suc n) k =
+    if first_position (sample_at shader n) == k then place_in input.table (sample_number input from n) else place_added input from shader n k
 
 unfoldable pub moved_word : InputModel → ℕ → ShaderModel → ℕ → ℕ → ℕ
-moved_word input from shader n k = source_word input from shader k + moved input from shader n k
+moved_word input from shader n k = source_word input from shader k + place_added input from shader n k
 
 -- word k is one of the first n address words
 unfoldable pub is_address : ShaderModel → ℕ → ℕ → Bool

@@ -9,7 +9,7 @@ use Rattle.shader_records.specs.Emission.{emitted_records, emitted_uniforms}
 abbrev pub streams_place : Layout → ℕ
 streams_place layout = layout.place + layout.uniforms
 
--- The emitted records and uniforms stand at their offsets, no other byte changed, and their lengths are told.
+-- The emitted records and uniforms stand at their offsets, no other byte changed, and their lengths are reported.
 pub record IsEmitted (input : InputModel) (layout : Layout) (old new : List ℕ) (info : RecordInfo) : Type 0 where
   pub records : info.records ≡ length (emitted_records input (streams_place layout))
   pub uniforms : info.uniforms ≡ length (emitted_uniforms input (streams_place layout))

@@ -43,13 +43,13 @@ pub record IsShapedSample (shader : ShaderModel) (sample : Sample) : Type 0 wher
   pub first : is_some (position sample 0) ≡ true
   pub below : (n k : ℕ) → position sample n ≡ Some k → k < shader.uniforms
 
--- All that the check asks of what is told of a shader: its samples are like this, and its address words are in the stream. Two of these
+-- All that the check asks of what is reported of a shader: its samples are like this, and its address words are in the stream. Two of these
 -- words may be one, as in no sound shader.
 pub record IsShaped (shader : ShaderModel) : Type 0 where
   pub samples : (i : ℕ) → i < length shader.samples → IsShapedSample shader (sample_at shader i)
   pub below : (j : ℕ) → j < length shader.address_words → address_at shader j < shader.uniforms
 
--- There is one entry for each buffer, and what is told of a shader there has this shape.
+-- There is one entry for each buffer, and what is reported of a shader there has this shape.
 pub record AreShaped (table : TableModel) (shaders : List (Option ShaderModel)) : Type 0 where
   pub count : length shaders ≡ length table.buffers
   pub each : (number : ℕ) (shader : ShaderModel) → shader_in shaders number ≡ Some shader → IsShaped shader

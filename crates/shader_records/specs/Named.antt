@@ -5,7 +5,7 @@ use Rattle.buffer_table.specs.{Table.TableModel, Table.buffer_at, Table.most_pla
 use Rattle.qpu_isa.specs.Shader.{ShaderModel}
 use Rattle.shader_records.specs.{Inputs.InputModel, Inputs.shader_in, Emission.emitted_records, Emission.emitted_uniforms}
 
--- an interval of memory is a Plain buffer that a handle names
+-- an interval of memory is a data buffer that a handle names
 pub record IsDataIn (table : TableModel) (handles : List ℕ) (place size : ℕ) : Type 0 where
   pub handle : ℕ
   pub number : ℕ

@@ -2,7 +2,7 @@
 -- of refusal: state by state; in a state the record and then its shaders' uniforms, shader by shader and
 -- sample by sample. A fault names a place in the job's records or in its uniforms.
 use Rattle.std.specs.Prelude.{◌≡◌, ℕ, ◌+◌, ◌*◌, ◌/◌, ◌-◌, ◌==◌, Bool, not, ◌&&◌, nat_lt, List, [], ◌∷◌, ◌++◌, length, is_some, Option, Some, None, if◌then◌else◌}
-use Rattle.field_words.specs.Questions.{Question, Ask, each, answered, first_of}
+use Rattle.field_words.specs.Questions.{Question, Ask, each, with_answers, first_of}
 use Rattle.qpu_isa.specs.{declared.inst.Sample.Sample, Shader.ShaderModel, Shader.sample_at, Shader.first_position}
 use Rattle.texture_layouts.specs.Fits.{texture_questions, direct_questions}
 use Rattle.emitted_facts.specs.{Records.attribute_size, Records.attribute_stride, Records.is_single, Records.address_word, Facts.setup}
@@ -24,7 +24,7 @@ code_questions input at s =
     Ask (not (is_some (code_number input at s))) (record_fault NoCode (at + 4 * s))
     ∷ (Ask (not (s == 0) && is_threaded (shader_used input at s)) (record_fault ThreadedVertex (at + 4 * s)) ∷ [])
 
--- A4: an attribute's handle names no Plain buffer.
+-- A4: an attribute's handle names no data buffer.
 unfoldable pub handle_questions : InputModel → ℕ → ℕ → List (Question RecordFault)
 handle_questions input at t = Ask (not (is_some (attribute_number input at t))) (record_fault NoData (at + (12 + 4 * t))) ∷ []
 
@@ -69,11 +69,11 @@ whole_questions input at state most = names_questions input at state ++ body_que
 unfoldable pub record_questions : InputModel → ℕ → ℕ → ℕ → List (Question RecordFault)
 record_questions input at state most = cut_questions input at state ++ whole_questions input at state most
 
--- none of them stands
+-- none of them is broken
 abbrev pub IsFineRecord : InputModel → ℕ → ℕ → ℕ → Type 0
 IsFineRecord input at state most = first_of (record_questions input at state most) ≡ None
 
--- U1: a sample's handle names no Plain buffer. U2 to U9: the sample doesn't fit the buffer.
+-- U1: a sample's handle names no data buffer. U2 to U9: the sample doesn't fit the buffer.
 unfoldable pub setup_questions : Sample → (ℕ → ℕ) → ℕ → List (Question ℕ)
 setup_questions sample word size =
     if sample.direct
@@ -87,7 +87,7 @@ first_word_at shader from i = from + 4 * length shader.samples + 4 * first_posit
 unfoldable pub sample_questions : InputModel → ℕ → ShaderModel → ℕ → List (Question RecordFault)
 sample_questions input from shader i =
     Ask (not (is_some (sample_number input from i))) (sample_fault (from + 4 * i) (number_of NoTexture))
-    ∷ answered (sample_fault (first_word_at shader from i)) (setup_questions (sample_at shader i) (source_word input from shader) (size_in input.table (sample_number input from i)))
+    ∷ with_answers (sample_fault (first_word_at shader from i)) (setup_questions (sample_at shader i) (source_word input from shader) (size_in input.table (sample_number input from i)))
 
 -- A8: fewer bytes of uniforms are left than a shader takes. Then the rules of its samples.
 unfoldable pub use_questions : InputModel → ℕ → Option ShaderModel → List (Question RecordFault)
@@ -96,7 +96,7 @@ use_questions input from (Some shader) =
     Ask (nat_lt (length input.uniforms) (from + 4 * (length shader.samples + shader.uniforms))) (uniform_fault from)
     ∷ each (sample_questions input from shader) 0 (length shader.samples)
 
--- none of them stands
+-- none of them is broken
 abbrev pub IsFineUse : InputModel → ℕ → Option ShaderModel → Type 0
 IsFineUse input from shader = first_of (use_questions input from shader) ≡ None
 

@@ -63,7 +63,7 @@ abbrev pub given_by : Option ShaderModel → ℕ
 given_by None = 0
 given_by (Some shader) = 4 * shader.uniforms
 
--- the same of the shaders of a record before shader s
+-- those bytes of the shaders of a record before shader s
 unfoldable pub taken_before : InputModel → ℕ → ℕ → ℕ
 taken_before input at zero = 0
 taken_before input at (suc s) = taken_before input at s + taken_by (shader_used input at s)

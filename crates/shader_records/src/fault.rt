@@ -3,7 +3,7 @@
 use job_format::Stage;
 use thiserror::Error;
 
-/// The first rule of records and uniforms that stands: its stage (A or U), its number, and the place in
+/// The first broken rule of records and uniforms: its stage (A or U), its number, and the place in
 /// bytes, counted in the job's uniforms or else in its records.
 #[derive(Clone, Copy, Debug, PartialEq, Eq, Error)]
 #[error("{stage}{number} at byte {at} of the {}", self.part())]

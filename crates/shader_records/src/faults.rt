@@ -69,7 +69,7 @@ fn state_fault(inputs: &Inputs, k: usize, at: usize, from: usize) -> Result<usiz
     }
 }
 
-/// The first rule that stands, state by state.
+/// The first broken rule, state by state.
 #[tactic(auto, unfolding(crate::specs::Rules::all_questions), using(field_words::proofs::Questions::each_on, field_words::proofs::Questions::each_stop, field_words::proofs::Questions::each_end, crate::proofs::Steps::record_zero, crate::proofs::Steps::uniforms_zero, crate::proofs::Steps::record_next))]
 pub(crate) fn first_fault(inputs: &Inputs) -> Option<RecordFault>
     requires fits { Fits inputs.now }

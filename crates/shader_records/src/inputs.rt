@@ -117,7 +117,7 @@ impl<'a> Inputs<'a> {
         copy_words(self.records, from, count, out, at);
     }
 
-    /// The same of the uniforms.
+    /// Puts `count` words of the uniforms, from the place `from` on, at a place of the window.
     pub(crate) fn copy_uniforms(&self, from: usize, count: usize, out: &mut [u8], at: usize)
         requires fits { Fits self.now }
         requires inside { from + 4 * count ≤ length self.now.uniforms }

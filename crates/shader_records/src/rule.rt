@@ -12,7 +12,7 @@ pub enum RecordRule {
     RecordCutOff,
     /// The handle of a shader's code names no Code buffer.
     NoCode,
-    /// The handle of an attribute names no Plain buffer.
+    /// The handle of an attribute names no data buffer.
     NoData,
     /// The fragment shader switches threads and the flags say that it doesn't, or the other way round.
     ThreadsDisagree,
@@ -26,7 +26,7 @@ pub enum RecordRule {
     AttributeOutside,
     /// An attribute of the vertex with the greatest index does.
     VertexOutside,
-    /// The handle of a sample names no Plain buffer.
+    /// The handle of a sample names no data buffer.
     NoTexture,
 }
 

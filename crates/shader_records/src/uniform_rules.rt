@@ -171,7 +171,7 @@ fn shader_fault(inputs: &Inputs, from: usize, info: &ShaderInfo) -> Result<usize
     }
 }
 
-/// The same of shader `s` of a record, of which there may be none.
+/// The first broken rule of shader `s` of a record, of which there may be none.
 #[tactic(auto, unfolding(crate::specs::Rules::use_questions))]
 pub(crate) fn use_fault(
     inputs: &Inputs,

@@ -34,7 +34,7 @@ word_step jobs m u k thread word at safe =
     let who : Who = record { unit = TheQpu k; job = thread.job } in
     subst (λ w. AllSafe jobs who m (word_plan thread w [])) at.word_is (thread_step jobs m u k thread at.at safe).1
 
--- an instruction that the machine calls wild
+-- an instruction that the machine calls undefined
 wild_refused : (jobs : List Rights) (m : List ℕ) (u : Units) (k : ℕ) (thread : Thread) (word : ℕ) → IsAtInstruction m u k thread word → is_wild thread word ≡ true → Safe ready turn jobs m u → ⊥
 unfolding word_plan
 wild_refused jobs m u k thread word at wild safe =

@@ -4,8 +4,8 @@ use Rattle.std.specs.Prelude.{Option, if◌then◌else◌}
 use Rattle.packets.specs.declared.packet.Packet.TheVariants.{WaitOnSemaphore, BranchToSubList, StoreTileColor, StoreTileColorAndEnd, StoreFullResolution, LoadFullResolution, StoreTileBuffer, LoadTileBuffer, TileRenderingMode, ClearColors, TileCoordinates}
 use Rattle.packets.specs.{declared.packet.Packet.Packet, Length.bin_length, Length.bin_taken, Length.render_taken}
 use Rattle.machine_plan.specs.{declared.who.Who.Who, Memory.bytes_at, Plan.Plan, Plan.Wilds, Regions.Rights, World.Safe}
-use Rattle.list_machine.specs.Binner.{is_unknown, packet_plan as bin_packet_plan, read_plan, begin_plan, drawn, draw_plan}
-use Rattle.list_machine.specs.Renderer.{beyond, acted, act, packet_plan as render_packet_plan, wait_plan, tile_by, enter_plan, branch_plan, tile_plan}
+use Rattle.list_machine.specs.Binner.{is_unknown, packet_plan as bin_packet_plan, read_plan, begin_plan, plan_of_draw, draw_plan}
+use Rattle.list_machine.specs.Renderer.{beyond, plan_of_packet, act, packet_plan as render_packet_plan, wait_plan, tile_by, enter_plan, branch_plan, tile_plan}
 use Rattle.list_machine.specs.Surfaces.{names_none, whole_read, cover_written, cover_read, frame_written, general_written, general_read, waiting_read}
 use Rattle.list_machine.specs.{declared.state.Frame.Frame, declared.state.Load.Load, declared.surface.Cover.Cover}
 use Rattle.list_machine.specs.declared.state.Load.TheVariants.{Full, General}
@@ -17,7 +17,7 @@ use Rattle.job_safety.proofs.Packets.{AllSafe, bin_step, render_step, opcode_is,
 use Rattle.strength_law.specs.Packets.{BinningsBlindAreUnsafe, IsPrimitive, PrimitivesEarlyAreUnsafe, IsRefusedPacket, BranchesNowhere, LoadsTwice, frame_cover, general_cover, StoresNothing, WaitsForNothing, LoadsNothing, LoadsAt, LoadsPastAreUnsafe}
 use Rattle.strength_law.proofs.Vertices.{MayReach}
 
--- no plan is safe that is wild
+-- no plan is safe that is undefined
 wild_is : {R : Type 0} (jobs : List Rights) (who : Who) (m : List ℕ) (plan : Plan R) → plan ≡ Wilds → AllSafe jobs who m plan → ⊥
 wild_is jobs who m plan is all = (subst (AllSafe jobs who m) is all).0.tame refl
 
@@ -41,7 +41,7 @@ unfolding bin_packet_plan is_unknown bin_length
 primitive_plan s packet (inl is) = rw is refl
 primitive_plan s packet (inr is) = rw is refl
 
--- a plan that is wild in both cases
+-- a plan that is undefined in both cases
 wild_either : {R : Type 0} (first : Bool) (plan : Plan R) → plan ≡ Wilds → (if first then plan else Wilds) ≡ Wilds
 wild_either true plan same = same
 wild_either false plan same = refl
@@ -49,7 +49,7 @@ wild_either false plan same = refl
 early_plan : (s : Lists) (packet : List ℕ) → (s.binner.kept.started ≡ false) ⊎ (s.binner.kept.word ≡ None) → draw_plan s packet ≡ Wilds
 unfolding draw_plan
 early_plan s packet (inl is) = rw is refl
-early_plan s packet (inr is) = wild_either s.binner.kept.started (drawn s s.binner.kept.word packet) (ap (λ word. drawn s word packet) is)
+early_plan s packet (inr is) = wild_either s.binner.kept.started (plan_of_draw s s.binner.kept.word packet) (ap (λ word. plan_of_draw s word packet) is)
 
 pub primitives_early_law : PrimitivesEarlyAreUnsafe
 primitives_early_law jobs m u j lists at opcode early safe =
@@ -65,7 +65,7 @@ act_step : (jobs : List Rights) (m : List ℕ) (u : Units) (j : ℕ) (lists : Li
 unfolding render_packet_plan bytes_at
 act_step jobs m u j lists packet at safe =
     let s : Lists = beyond lists (render_taken (slice_index m lists.renderer.place)) in
-    subst (λ p. AllSafe jobs (renderer_of j) m (acted s [] p)) at.packet_is (render_step jobs m u j lists at.at safe).1
+    subst (λ p. AllSafe jobs (renderer_of j) m (plan_of_packet s [] p)) at.packet_is (render_step jobs m u j lists at.at safe).1
 
 refused_where : (Undefined : Lists → Packet → Type 0) → ((lists : Lists) (packet : Packet) → Undefined lists packet → (len : ℕ) → act (beyond lists len) [] packet ≡ Wilds) → IsRefusedPacket Undefined
 refused_where Undefined wild jobs m u j lists packet at is safe =

@@ -6,20 +6,20 @@ use Rattle.field_words.specs.declared.access.Actor.TheVariants.{Binner as TheBin
 use Rattle.field_words.specs.Words.{u32_at}
 use Rattle.packets.specs.StateWord.{attribute_count, is_extended}
 use Rattle.machine_plan.specs.{declared.launch.Free.Free, declared.launch.Launch.Launch, declared.who.Who.Who, Choice.word_at}
-use Rattle.machine_plan.specs.{Glance.glanced, Glance.Now, Memory.bytes_at, Memory.stored, World.Safe, World.mapped, World.followed}
-use Rattle.machine_plan.specs.Plan.{Plan, Done, Wilds, Reads, Looks, Writes, carried}
+use Rattle.machine_plan.specs.{Glance.glance_result, Glance.Now, Memory.bytes_at, Memory.bytes_stored, World.Safe, World.plan_mapped, World.plan_followed}
+use Rattle.machine_plan.specs.Plan.{Plan, Done, Wilds, Reads, Looks, Writes, outcome_of}
 use Rattle.machine_plan.specs.Regions.{Every, Rights, rights_of, Inside, IsSafeAccess}
 use Rattle.list_machine.specs.declared.state.Program.TheVariants.{Fragment, Vertex, Coordinate}
 use Rattle.list_machine.specs.Binner.{binner_plan, binner_by, work_plan, binner_ready, binner_may, work_may, fetched_with, started_with}
 use Rattle.list_machine.specs.Fetch.{index_size, index_in, index_plan, draws_nothing, record_place, attribute_place, extension_place, data_size, data_place, data_plan, extended_plan, attribute_plan, attributes_plan, indexed_plan, fetch_plan}
-use Rattle.list_machine.specs.Renderer.{item_at, at_item, fetched, vertex_plan, program_plan, choice_plan, found_plan, plan_in, renderer_plan, ready_in, renderer_ready}
+use Rattle.list_machine.specs.Renderer.{item_at, at_item, item_fetched, vertex_plan, program_plan, choice_plan, found_plan, plan_in, renderer_plan, ready_in, renderer_ready}
 use Rattle.list_machine.specs.{declared.state.Found.Found, declared.state.Primitive.Primitive, declared.state.Program.Program}
 use Rattle.list_machine.specs.{declared.state.SubList.SubList, declared.state.Work.Work}
 use Rattle.list_machine.specs.Lists.{Lists, turned_to, binner_of, renderer_of}
 use Rattle.list_machine.specs.Start.{can_start, launch_plan, start_as, start_plan, is_threaded}
 use Rattle.list_law.specs.Uses.{attribute_at, extension_at}
 use Rattle.qpu_machine.specs.Qpu.{free_in}
-use Rattle.machine.specs.Step.{Event, with_lists, ready, turn, enabled, is_ahead, binner_may as may_bin, renderer_may}
+use Rattle.machine.specs.Step.{Event, with_lists, ready, turn, is_enabled, is_ahead, binner_may as may_bin, renderer_may}
 use Rattle.machine.specs.State.{Units, renderer_job}
 use Rattle.job_safety.proofs.{Packets.AllSafe, Steps.first_step, Steps.mapped_accesses}
 use Rattle.strength_law.specs.Vertices.{IsAtWork, IsAtListed, ItemReadsPastAreUnsafe, BinnerFetches, RendererFetches, Fetches, index_place, index_of, IndexesPastAreUnsafe, IsOfAttribute, AttributesPastAreUnsafe, BinnerStarts, choice_of, threaded_by, RendererStarts, IsOfRecord, RecordsPastAreUnsafe}
@@ -35,12 +35,12 @@ at_work lists free words work is = ap (λ w. binner_by lists w free words) is
 
 work_step : (jobs : List Rights) (m : List ℕ) (u : Units) (j : ℕ) (lists : Lists) (work : Work) (words : List ℕ) → IsAtWork m u j lists work → Safe ready turn jobs m u
     → AllSafe jobs (binner_of j) m (work_plan lists work (free_in u.qpus) words)
-unfolding turn ready enabled
+unfolding turn ready is_enabled
 work_step jobs m u j lists work words at safe =
     let e : Event = record { unit = TheBinner; words = words } in
-    let is : (carried (turn u e).who (turn u e).plan m).accesses ≡ (carried (binner_of j) (work_plan lists work (free_in u.qpus) words) m).accesses =
+    let is : (outcome_of (turn u e).who (turn u e).plan m).accesses ≡ (outcome_of (binner_of j) (work_plan lists work (free_in u.qpus) words) m).accesses =
     rw at.job_is (mapped_accesses (with_lists u j) (binner_of j) (binner_plan lists (free_in u.qpus) words) m
-    ∙ ap (λ plan. (carried (binner_of j) plan m).accesses) (at_work lists (free_in u.qpus) words work at.work_is)) in
+    ∙ ap (λ plan. (outcome_of (binner_of j) plan m).accesses) (at_work lists (free_in u.qpus) words work at.work_is)) in
     subst (Every (IsSafeAccess jobs)) is (first_step jobs m u e at.may safe)
 
 -- the renderer at an item
@@ -49,33 +49,33 @@ at_listed : (lists : Lists) (free : Free) (words : List ℕ) (sub : SubList) (fo
 unfolding renderer_plan
 at_listed lists free words sub found inside is = ap (λ s. plan_in lists free words s) inside ∙ ap (λ f. found_plan lists free words sub f) is
 
-may_go_on : (lists : Lists) (m : List ℕ) (sub : SubList) → lists.renderer.inside ≡ Some sub → IsTrue (glanced (renderer_ready lists) m)
+may_go_on : (lists : Lists) (m : List ℕ) (sub : SubList) → lists.renderer.inside ≡ Some sub → IsTrue (glance_result (renderer_ready lists) m)
 unfolding renderer_ready
-may_go_on lists m sub inside = ap (λ s. glanced (ready_in lists s) m) inside
+may_go_on lists m sub inside = ap (λ s. glance_result (ready_in lists s) m) inside
 
 listed_step : (jobs : List Rights) (m : List ℕ) (u : Units) (j : ℕ) (lists : Lists) (sub : SubList) (found : Found) (words : List ℕ) → IsAtListed u j lists sub found → Safe ready turn jobs m u
     → AllSafe jobs (renderer_of j) m (found_plan lists (free_in u.qpus) words sub (Some found))
 unfolding turn ready
 listed_step jobs m u j lists sub found words at safe =
     let e : Event = record { unit = TheRenderer; words = words } in
-    let may : IsTrue (glanced (ready u e) m) = subst (λ job. IsTrue (glanced (renderer_may job) m)) (sym at.job_is) (may_go_on lists m sub at.inside_is) in
-    let is : (carried (turn u e).who (turn u e).plan m).accesses ≡ (carried (renderer_of j) (found_plan lists (free_in u.qpus) words sub (Some found)) m).accesses =
+    let may : IsTrue (glance_result (ready u e) m) = subst (λ job. IsTrue (glance_result (renderer_may job) m)) (sym at.job_is) (may_go_on lists m sub at.inside_is) in
+    let is : (outcome_of (turn u e).who (turn u e).plan m).accesses ≡ (outcome_of (renderer_of j) (found_plan lists (free_in u.qpus) words sub (Some found)) m).accesses =
     rw at.job_is (mapped_accesses (with_lists u j) (renderer_of j) (renderer_plan lists (free_in u.qpus) words) m
-    ∙ ap (λ plan. (carried (renderer_of j) plan m).accesses) (at_listed lists (free_in u.qpus) words sub found at.inside_is at.found_is)) in
+    ∙ ap (λ plan. (outcome_of (renderer_of j) plan m).accesses) (at_listed lists (free_in u.qpus) words sub found at.inside_is at.found_is)) in
     subst (Every (IsSafeAccess jobs)) is (first_step jobs m u e may safe)
 
 pub item_reads_past_law : ItemReadsPastAreUnsafe
 item_reads_past_law jobs m u j lists sub found at past safe = past (listed_step jobs m u j lists sub found [] at safe).0.inside
 
 -- a plan before another one, and one whose result is handed on
-front_safe : {R T : Type 0} (jobs : List Rights) (who : Who) (plan : Plan R) (further : R → Plan T) (m : List ℕ) → AllSafe jobs who m (followed plan further) → AllSafe jobs who m plan
+front_safe : {R T : Type 0} (jobs : List Rights) (who : Who) (plan : Plan R) (further : R → Plan T) (m : List ℕ) → AllSafe jobs who m (plan_followed plan further) → AllSafe jobs who m plan
 front_safe jobs who (Done r) further m all = tt
 front_safe jobs who Wilds further m all = all
 front_safe jobs who (Reads place len next) further m all = (all.0, front_safe jobs who (next (bytes_at m place len)) further m all.1)
 front_safe jobs who (Looks place len next) further m all = front_safe jobs who (next (bytes_at m place len)) further m all
-front_safe jobs who (Writes place bytes next) further m all = (all.0, front_safe jobs who next further (stored m place bytes) all.1)
+front_safe jobs who (Writes place bytes next) further m all = (all.0, front_safe jobs who next further (bytes_stored m place bytes) all.1)
 
-unmapped : {R T : Type 0} (jobs : List Rights) (put : R → T) (who : Who) (plan : Plan R) (m : List ℕ) → AllSafe jobs who m (mapped put plan) → AllSafe jobs who m plan
+unmapped : {R T : Type 0} (jobs : List Rights) (put : R → T) (who : Who) (plan : Plan R) (m : List ℕ) → AllSafe jobs who m (plan_mapped put plan) → AllSafe jobs who m plan
 unmapped jobs put who plan m all = subst (Every (IsSafeAccess jobs)) (mapped_accesses put who plan m) all
 
 -- the index
@@ -85,24 +85,24 @@ index_read jobs who m p number indexed all =
     (subst (λ b. AllSafe jobs who m (if b then Reads (index_place p number) (index_size p) (λ bytes. Done (index_in p bytes)) else Done ((p.address + number) % 2 ^ 32))) indexed all).0.inside
 
 index_by : (jobs : List Rights) (who : Who) (m : List ℕ) (p : Primitive) (number : ℕ) (further : ℕ → Plan ℕ) (indexed : Bool)
-    → AllSafe jobs who m (followed (if indexed then Reads (index_place p number) (index_size p) (λ bytes. Done (index_in p bytes)) else Done ((p.address + number) % 2 ^ 32)) further)
+    → AllSafe jobs who m (plan_followed (if indexed then Reads (index_place p number) (index_size p) (λ bytes. Done (index_in p bytes)) else Done ((p.address + number) % 2 ^ 32)) further)
     → AllSafe jobs who m (further (if indexed then index_in p (bytes_at m (index_place p number) (index_size p)) else (p.address + number) % 2 ^ 32))
 index_by jobs who m p number further true all = all.1
 index_by jobs who m p number further false all = all
 
-index_done : (jobs : List Rights) (who : Who) (m : List ℕ) (p : Primitive) (number : ℕ) (further : ℕ → Plan ℕ) → AllSafe jobs who m (followed (index_plan p number) further) → AllSafe jobs who m (further (index_of m p number))
+index_done : (jobs : List Rights) (who : Who) (m : List ℕ) (p : Primitive) (number : ℕ) (further : ℕ → Plan ℕ) → AllSafe jobs who m (plan_followed (index_plan p number) further) → AllSafe jobs who m (further (index_of m p number))
 unfolding index_plan
 index_done jobs who m p number further all = index_by jobs who m p number further p.indexed all
 
 -- an attribute
 extended_by : (jobs : List Rights) (who : Who) (m : List ℕ) (state index attribute : ℕ) (further : ℕ → Plan ℕ) (bytes : List ℕ) (extended : Bool)
-    → AllSafe jobs who m (followed (if extended then Reads (extension_place state attribute) 4 (λ extension. data_plan bytes (u32_at extension 0) index) else data_plan bytes 0 index) further)
+    → AllSafe jobs who m (plan_followed (if extended then Reads (extension_place state attribute) 4 (λ extension. data_plan bytes (u32_at extension 0) index) else data_plan bytes 0 index) further)
     → MayReach jobs who (data_place bytes (if extended then u32_at (bytes_at m (extension_place state attribute) 4) 0 else 0) index) (data_size bytes) × AllSafe jobs who m (further index)
 unfolding data_plan
 extended_by jobs who m state index attribute further bytes true all = (all.1.0.inside, all.1.1)
 extended_by jobs who m state index attribute further bytes false all = (all.0.inside, all.1)
 
-attribute_done : (jobs : List Rights) (who : Who) (m : List ℕ) (state index attribute : ℕ) (further : ℕ → Plan ℕ) → AllSafe jobs who m (followed (attribute_plan state index attribute) further)
+attribute_done : (jobs : List Rights) (who : Who) (m : List ℕ) (state index attribute : ℕ) (further : ℕ → Plan ℕ) → AllSafe jobs who m (plan_followed (attribute_plan state index attribute) further)
     → MayReach jobs who (data_place (attribute_at m state attribute) (extension_at m state attribute) index) (data_size (attribute_at m state attribute)) × AllSafe jobs who m (further index)
 unfolding attribute_plan extended_plan
 attribute_done jobs who m state index attribute further all = extended_by jobs who m state index attribute further (attribute_at m state attribute) (is_extended state) all.1
@@ -119,7 +119,7 @@ unfolding extended_plan
 extension_read jobs who m state index attribute bytes is all =
     (subst (λ b. AllSafe jobs who m (if b then Reads (extension_place state attribute) 4 (λ extension. data_plan bytes (u32_at extension 0) index) else data_plan bytes 0 index)) is all).0.inside
 
-attribute_reached : (jobs : List Rights) (who : Who) (m : List ℕ) (state index attribute : ℕ) (further : ℕ → Plan ℕ) → AllSafe jobs who m (followed (attribute_plan state index attribute) further)
+attribute_reached : (jobs : List Rights) (who : Who) (m : List ℕ) (state index attribute : ℕ) (further : ℕ → Plan ℕ) → AllSafe jobs who m (plan_followed (attribute_plan state index attribute) further)
     → IsReached jobs who m state index attribute
 unfolding attribute_plan
 attribute_reached jobs who m state index attribute further all =
@@ -172,7 +172,7 @@ bin_fetched : (jobs : List Rights) (m : List ℕ) (u : Units) (j : ℕ) (p : Pri
 unfolding work_plan
 bin_fetched jobs m u j p state number is safe =
     let w : Work = is.work in
-    let plan : work_plan is.lists w (free_in u.qpus) [] ≡ mapped (fetched_with is.lists w) (fetch_plan w.primitive w.word w.done) = rw (is.none_due, more_is w.done w.primitive.length is.more) refl in
+    let plan : work_plan is.lists w (free_in u.qpus) [] ≡ plan_mapped (fetched_with is.lists w) (fetch_plan w.primitive w.word w.done) = rw (is.none_due, more_is w.done w.primitive.length is.more) refl in
     unmapped jobs (fetched_with is.lists w) (binner_of j) (fetch_plan w.primitive w.word w.done) m (subst (AllSafe jobs (binner_of j) m) plan (work_step jobs m u j is.lists w [] is.at safe))
 
 render_fetched : (jobs : List Rights) (m : List ℕ) (u : Units) (j : ℕ) (p : Primitive) (state number : ℕ) (is : RendererFetches u j p state number) → Safe ready turn jobs m u
@@ -181,8 +181,8 @@ unfolding choice_plan vertex_plan
 render_fetched jobs m u j p state number is safe =
     let here : Lists = at_item is.lists is.sub.tile is.found.number in
     let fetch : Plan ℕ = fetch_plan is.found.item.primitive is.found.item.word (word_at is.words 1 % is.found.item.primitive.length) in
-    let plan : choice_plan is.lists (free_in u.qpus) is.words is.sub is.found ≡ mapped (fetched here) fetch = rw (is.chosen, some_is is.found.item.primitive.length is.some) refl in
-    unmapped jobs (fetched here) (renderer_of j) fetch m (subst (AllSafe jobs (renderer_of j) m) plan (listed_step jobs m u j is.lists is.sub is.found is.words is.at safe).1)
+    let plan : choice_plan is.lists (free_in u.qpus) is.words is.sub is.found ≡ plan_mapped (item_fetched here) fetch = rw (is.chosen, some_is is.found.item.primitive.length is.some) refl in
+    unmapped jobs (item_fetched here) (renderer_of j) fetch m (subst (AllSafe jobs (renderer_of j) m) plan (listed_step jobs m u j is.lists is.sub is.found is.words is.at safe).1)
 
 vertex_fetched : (jobs : List Rights) (m : List ℕ) (u : Units) (j : ℕ) (p : Primitive) (state number : ℕ) → Fetches m u j p state number → Safe ready turn jobs m u → IsFetched jobs m j p state number
 vertex_fetched jobs m u j p state number (inl is) safe = record {
@@ -244,7 +244,7 @@ start_reads jobs who m Vertex free state can all = started jobs who m Vertex fal
 start_reads jobs who m Coordinate free state can all = started jobs who m Coordinate false free state can all
 
 -- the binner may step where its program can start
-unheld : (m : List ℕ) (held may : Bool) → IsTrue (glanced (if held then Now false else Now may) m) → may ≡ true
+unheld : (m : List ℕ) (held may : Bool) → IsTrue (glance_result (if held then Now false else Now may) m) → may ≡ true
 unheld m true may is = absurd cc
 unheld m false may is = is
 
@@ -253,13 +253,13 @@ unfolding work_may
 may_start lists free w due = rw due refl
 
 due_can : (m : List ℕ) (u : Units) (j : ℕ) (lists : Lists) (w : Work) → IsAtWork m u j lists w → w.due ≡ true → can_start false (free_in u.qpus) ≡ true
-unfolding enabled binner_ready
+unfolding is_enabled binner_ready
 due_can m u j lists w at due =
     let held : Bool = is_ahead j (renderer_job u) in
-    let picked : IsTrue (glanced (if held then Now false else Now (binner_may lists lists.binner.work (free_in u.qpus))) m) =
-    subst (λ job. IsTrue (glanced (may_bin u job) m)) at.job_is at.may in
-    let may : IsTrue (glanced (if held then Now false else Now (binner_may lists (Some w) (free_in u.qpus))) m) =
-    subst (λ x. IsTrue (glanced (if held then Now false else Now (binner_may lists x (free_in u.qpus))) m)) at.work_is picked in
+    let picked : IsTrue (glance_result (if held then Now false else Now (binner_may lists lists.binner.work (free_in u.qpus))) m) =
+    subst (λ job. IsTrue (glance_result (may_bin u job) m)) at.job_is at.may in
+    let may : IsTrue (glance_result (if held then Now false else Now (binner_may lists (Some w) (free_in u.qpus))) m) =
+    subst (λ x. IsTrue (glance_result (if held then Now false else Now (binner_may lists x (free_in u.qpus))) m)) at.work_is picked in
     sym (may_start lists (free_in u.qpus) w due) ∙ unheld m held (binner_may lists (Some w) (free_in u.qpus)) may
 
 bin_starts : (jobs : List Rights) (m : List ℕ) (u : Units) (j : ℕ) (program : Program) (state : ℕ) (is : BinnerStarts m u j program state) → Safe ready turn jobs m u
@@ -267,12 +267,12 @@ bin_starts : (jobs : List Rights) (m : List ℕ) (u : Units) (j : ℕ) (program 
 unfolding work_plan
 bin_starts jobs m u j program state is safe =
     let w : Work = is.work in
-    let plan : work_plan is.lists w (free_in u.qpus) [] ≡ mapped (started_with is.lists w) (start_plan Coordinate (free_in u.qpus) w.word) = rw is.due refl in
+    let plan : work_plan is.lists w (free_in u.qpus) [] ≡ plan_mapped (started_with is.lists w) (start_plan Coordinate (free_in u.qpus) w.word) = rw is.due refl in
     start_reads jobs (binner_of j) m Coordinate (free_in u.qpus) w.word (due_can m u j is.lists w is.at is.due)
     (unmapped jobs (started_with is.lists w) (binner_of j) (start_plan Coordinate (free_in u.qpus) w.word) m (subst (AllSafe jobs (binner_of j) m) plan (work_step jobs m u j is.lists w [] is.at safe)))
 
 chosen_start : (lists : Lists) (free : Free) (words : List ℕ) (sub : SubList) (found : Found) (program : Program) → word_at words 0 % 4 ≡ choice_of program
-    → choice_plan lists free words sub found ≡ mapped (turned_to (at_item lists sub.tile found.number)) (start_plan program free found.item.word)
+    → choice_plan lists free words sub found ≡ plan_mapped (turned_to (at_item lists sub.tile found.number)) (start_plan program free found.item.word)
 unfolding choice_plan program_plan
 chosen_start lists free words sub found Vertex is = rw is refl
 chosen_start lists free words sub found Fragment is = rw is refl

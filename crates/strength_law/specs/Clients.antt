@@ -15,7 +15,7 @@ pub record IsOwnBuffer (f : FileModel) (j place size : ℕ) : Type 0 where
   pub place_is : place ≡ (buffer_at f.buffers number).place
   pub size_is : size ≡ (buffer_at f.buffers number).size
 
--- Where no rule stands, what each job may reach is its slot, its four emitted lists, and buffers of its own client.
+-- Where no rule is broken, what each job may reach is its slot, its four emitted lists, and buffers of its own client.
 abbrev pub RightsAreOwn : Type 0
 RightsAreOwn =
     (f : FileModel) → first_of (place_stages f) ≡ None → OfEachJob f (λ j. (place size : ℕ) → IsOneOf (rights_at f j).region place size

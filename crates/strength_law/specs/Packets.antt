@@ -3,7 +3,7 @@ use Rattle.std.specs.Prelude.{◌≡◌, ◌⊎◌, ℕ, false, List, slice_inde
 use Rattle.packets.specs.declared.packet.Packet.TheVariants.{StoreTileColor, StoreTileColorAndEnd, StoreTileBuffer, LoadFullResolution, LoadTileBuffer, BranchToSubList, TileCoordinates}
 use Rattle.packets.specs.{declared.packet.Packet.Packet, Opcode.start_tile_binning, Opcode.indexed_primitive_list, Opcode.array_primitive_list}
 use Rattle.machine_plan.specs.{Regions.Rights, World.Safe}
-use Rattle.list_machine.specs.{declared.state.Frame.Frame, declared.state.Load.Load, declared.surface.Cover.Cover, Cover.cover_for, Surfaces.aligned, Surfaces.names_none, Surfaces.whole_size}
+use Rattle.list_machine.specs.{declared.state.Frame.Frame, declared.state.Load.Load, declared.surface.Cover.Cover, Cover.cover_for, Surfaces.aligned_address, Surfaces.names_none, Surfaces.whole_size}
 use Rattle.list_machine.specs.{declared.state.Load.TheVariants.Full, declared.state.Load.TheVariants.General, Lists.Lists, Renderer.tile_by}
 use Rattle.texture_layouts.specs.Format.{general_style, frame_style}
 use Rattle.machine.specs.{State.Units, Step.ready, Step.turn}
@@ -54,9 +54,9 @@ abbrev pub frame_cover : Option Frame → ℕ → ℕ → Option Cover
 frame_cover None x y = None
 frame_cover (Some frame) x y = cover_for (frame_style frame.bits) (Some frame) frame.address x y
 
--- the same of a load or store by bits of its own
+-- the surface of a load or store by bits of its own
 abbrev pub general_cover : ℕ → ℕ → Option Frame → ℕ → ℕ → Option Cover
-general_cover bits address frame x y = cover_for (general_style bits) frame (aligned address) x y
+general_cover bits address frame x y = cover_for (general_style bits) frame (aligned_address address) x y
 
 -- a store of no surface
 abbrev pub StoresNothing : Lists → Packet → Type 0
@@ -79,7 +79,7 @@ LoadsNothing lists other = ⊥
 -- the load that waits reads these bytes at tile (x, y)
 abbrev pub LoadsAt : Option Load → Option Frame → ℕ → ℕ → ℕ → ℕ → Type 0
 LoadsAt None frame x y place len = ⊥
-LoadsAt (Some (Full address)) frame x y place len = (place ≡ aligned address) × (len ≡ whole_size)
+LoadsAt (Some (Full address)) frame x y place len = (place ≡ aligned_address address) × (len ≡ whole_size)
 LoadsAt (Some (General bits address)) frame x y place len = (names_none bits ≡ false) × IsPart (general_cover bits address frame x y) place len
 
 -- The coordinates of a tile do the load that waits, some part of which doesn't lie in the job's region.

@@ -10,13 +10,13 @@ use Rattle.list_machine.specs.{declared.state.Found.Found, declared.state.Primit
 use Rattle.list_machine.specs.{declared.state.SubList.SubList, declared.state.Work.Work, Renderer.item_at, Start.code_offset, Start.can_start, Start.is_threaded}
 use Rattle.list_law.specs.Uses.{attribute_at, extension_at}
 use Rattle.qpu_machine.specs.Qpu.{free_in}
-use Rattle.machine.specs.{State.Units, State.binner_job, State.renderer_job, Step.ready, Step.turn, Step.enabled}
+use Rattle.machine.specs.{State.Units, State.binner_job, State.renderer_job, Step.ready, Step.turn, Step.is_enabled}
 use Rattle.job_safety.specs.Strength.{IsPast}
 
 -- The binner may step for job j, and has this primitive in work.
 pub record IsAtWork (m : List ℕ) (u : Units) (j : ℕ) (lists : Lists) (work : Work) : Type 0 where
   pub job_is : binner_job u ≡ Some (record { number = j; item = lists })
-  pub may : IsTrue (enabled (record { memory = m; units = u }) TheBinner)
+  pub may : IsTrue (is_enabled (record { memory = m; units = u }) TheBinner)
   pub work_is : lists.binner.work ≡ Some work
 
 -- The renderer stands at this item of a tile's list, for job j.

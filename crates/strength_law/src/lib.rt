@@ -75,7 +75,7 @@ pub fn undefined_textures_are_unsafe()
     ensures { TexturesUndefinedAreUnsafe }
 {}
 
-/// Of a file in which no rule stands, what each job may reach is its tile slot, its four emitted lists, and buffers of its own client.
+/// Of a file in which no rule is broken, what each job may reach is its tile slot, its four emitted lists, and buffers of its own client.
 #[tactic(auto, using(crate::proofs::Clients::rights_own_law))]
 pub fn rights_are_own()
     ensures { RightsAreOwn }

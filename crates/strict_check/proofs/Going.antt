@@ -5,7 +5,7 @@ use Rattle.std.specs.Result.{IsErrAnd}
 use Rattle.field_words.specs.{Questions.Question, Questions.first_of, Questions.GoesOn, Words.u32_at}
 use Rattle.field_words.proofs.Questions.{passes, stops, answered_none, answered_some}
 use Rattle.packets.specs.{Opcode.gl_shader_state, StateWord.attribute_count}
-use Rattle.bin_list.specs.{Packets.opcode, Packets.front_packet, Packets.behind, Packets.cut, Packets.packets, States.greatest, States.state, States.states_of}
+use Rattle.bin_list.specs.{Packets.opcode, Packets.front_packet, Packets.behind, Packets.front_packets, Packets.packets, States.greatest, States.state, States.states_of}
 use Rattle.bin_list.proofs.Walk.{cut_step, cut_nothing}
 use Rattle.job_format.specs.{declared.rule.Refusal.Refusal, Model.FileModel}
 use Rattle.job_check.specs.Jobs.{job_of, states_in}
@@ -16,8 +16,8 @@ use Rattle.strict_check.specs.Stages.{use_questions, record_at, selection_refuse
 -- What leaves by a `?` is the fault that it was.
 pub leaves : {X F : Type 0} (questions : List (Question F)) (P : X → Type 0) (result : Result X F) (fault : F) → IsErrAnd result (λ e. e ≡ fault)
     → first_of questions ≡ Some fault → GoesOn questions P result
-leaves questions P (Ok made) fault is stands = absurd is
-leaves questions P (Err other) fault is stands = stands ∙ sym (ap Some is)
+leaves questions P (Ok made) fault is broken = absurd is
+leaves questions P (Err other) fault is broken = broken ∙ sym (ap Some is)
 
 -- The rules of a record where its shaders break none.
 selected : (f : FileModel) (j at word : ℕ) (records : List ℕ) (from count : ℕ) → records ≡ (job_of f j).records → from ≡ record_at at word → count ≡ attribute_count word
@@ -27,24 +27,24 @@ selected f j at word records from count records_are from_is count_is =
     ∙ ap (λ p. first_of (selection_questions (job_of f j).records p count)) from_is
     ∙ ap (λ n. first_of (selection_questions (job_of f j).records (record_at at word) n)) count_is)
 
-pub record_stands : (f : FileModel) (j at word : ℕ) (records : List ℕ) (from count place : ℕ) → records ≡ (job_of f j).records → from ≡ record_at at word
+pub record_broken : (f : FileModel) (j at word : ℕ) (records : List ℕ) (from count place : ℕ) → records ≡ (job_of f j).records → from ≡ record_at at word
     → count ≡ attribute_count word → first_of (use_questions f j at) ≡ None → first_of (selection_questions records from count) ≡ Some place
     → first_of (record_questions f j at word) ≡ Some (selection_refused f j from place)
 unfolding record_questions
-record_stands f j at word records from count place records_are from_is count_is none stands =
+record_broken f j at word records from count place records_are from_is count_is none broken =
     passes (use_questions f j at) _ none
     ∙ answered_some (selection_refused f j (record_at at word)) (selection_questions (job_of f j).records (record_at at word) (attribute_count word)) place
-    (selected f j at word records from count records_are from_is count_is ∙ stands)
+    (selected f j at word records from count records_are from_is count_is ∙ broken)
     ∙ sym (ap (λ p. Some (selection_refused f j p place)) from_is)
 
 pub record_passes : (f : FileModel) (j at word : ℕ) (records : List ℕ) (from count : ℕ) → records ≡ (job_of f j).records → from ≡ record_at at word
     → count ≡ attribute_count word → first_of (use_questions f j at) ≡ None → first_of (selection_questions records from count) ≡ None
     → first_of (record_questions f j at word) ≡ None
 unfolding record_questions
-record_passes f j at word records from count records_are from_is count_is none stands =
+record_passes f j at word records from count records_are from_is count_is none broken =
     passes (use_questions f j at) _ none
     ∙ answered_none (selection_refused f j (record_at at word)) (selection_questions (job_of f j).records (record_at at word) (attribute_count word))
-    (selected f j at word records from count records_are from_is count_is ∙ stands)
+    (selected f j at word records from count records_are from_is count_is ∙ broken)
 
 -- How far it has come: where T holds, what is asked of the states of the bytes that are left decides; and the place of the next source is
 -- small.
@@ -52,7 +52,7 @@ pub record IsUnderway (T : Type 0) (f : FileModel) (j : ℕ) (rest : List ℕ) (
   pub fuel : ℕ
   pub enough : length rest ≤ fuel
   pub near : at + 176 * length rest ≤ 176 * length (job_of f j).bin
-  pub none : T → first_of (records_from f j at (states_of (cut fuel rest))) ≡ first_of (records_stage f j)
+  pub none : T → first_of (records_from f j at (states_of (front_packets fuel rest))) ≡ first_of (records_stage f j)
 
 pub begins : (T : Type 0) (f : FileModel) (j : ℕ) (list : List ℕ) → list ≡ (job_of f j).bin → IsUnderway T f j list 0
 unfolding records_stage states_in packets
@@ -60,7 +60,7 @@ begins T f j list is = record {
   fuel = length list;
   enough = omega arith;
   near = omega (arith, ap length is);
-  none = λ holds. ap (λ l. first_of (records_from f j 0 (states_of (cut (length l) l)))) is;
+  none = λ holds. ap (λ l. first_of (records_from f j 0 (states_of (front_packets (length l) l)))) is;
 }
 
 -- the states of a list whose first packet is one, or isn't
@@ -72,32 +72,32 @@ past : (p : List ℕ) (later : List (List ℕ)) → (opcode p == gl_shader_state
 past p later is = ap (λ b. if b then state (u32_at p 1) (greatest later) ∷ states_of later else states_of later) is
 
 -- what is asked of the bytes that are left, at a packet
-left : (T : Type 0) (f : FileModel) (j : ℕ) (rest : List ℕ) (at : ℕ) (u : IsUnderway T f j rest at) (holds : T) (n : ℕ) → cut u.fuel rest ≡ front_packet rest ∷ cut n (behind rest)
-    → first_of (records_stage f j) ≡ first_of (records_from f j at (states_of (front_packet rest ∷ cut n (behind rest))))
+left : (T : Type 0) (f : FileModel) (j : ℕ) (rest : List ℕ) (at : ℕ) (u : IsUnderway T f j rest at) (holds : T) (n : ℕ) → front_packets u.fuel rest ≡ front_packet rest ∷ front_packets n (behind rest)
+    → first_of (records_stage f j) ≡ first_of (records_from f j at (states_of (front_packet rest ∷ front_packets n (behind rest))))
 left T f j rest at u holds n is = sym (u.none holds) ∙ ap (λ l. first_of (records_from f j at (states_of l))) is
 
--- the same at a state
-at_state : (T : Type 0) (f : FileModel) (j : ℕ) (rest : List ℕ) (at : ℕ) (u : IsUnderway T f j rest at) (holds : T) (n : ℕ) → cut u.fuel rest ≡ front_packet rest ∷ cut n (behind rest)
+-- what is asked of the bytes that are left, at a state
+at_state : (T : Type 0) (f : FileModel) (j : ℕ) (rest : List ℕ) (at : ℕ) (u : IsUnderway T f j rest at) (holds : T) (n : ℕ) → front_packets u.fuel rest ≡ front_packet rest ∷ front_packets n (behind rest)
     → (opcode (front_packet rest) == gl_shader_state) ≡ true
     → first_of (records_stage f j)
-    ≡ first_of (record_questions f j at (u32_at (front_packet rest) 1) ++ records_from f j (at + source_size (u32_at (front_packet rest) 1)) (states_of (cut n (behind rest))))
+    ≡ first_of (record_questions f j at (u32_at (front_packet rest) 1) ++ records_from f j (at + source_size (u32_at (front_packet rest) 1)) (states_of (front_packets n (behind rest))))
 at_state T f j rest at u holds n is test =
-    left T f j rest at u holds n is ∙ ap (λ l. first_of (records_from f j at l)) (here (front_packet rest) (cut n (behind rest)) test)
+    left T f j rest at u holds n is ∙ ap (λ l. first_of (records_from f j at l)) (here (front_packet rest) (front_packets n (behind rest)) test)
 
 pub stops_at : (T : Type 0) (f : FileModel) (j : ℕ) (rest packet : List ℕ) (at word : ℕ) (refusal : Refusal) → IsUnderway T f j rest at → T → 1 ≤ length rest
     → packet ≡ front_packet rest → (opcode packet == gl_shader_state) ≡ true → word ≡ u32_at packet 1
     → first_of (record_questions f j at word) ≡ Some refusal → first_of (records_stage f j) ≡ Some refusal
-stops_at T f j rest packet at word refusal u holds some is test word_is stands =
+stops_at T f j rest packet at word refusal u holds some is test word_is broken =
     let step = cut_step u.fuel rest some u.enough in
     let same = word_is ∙ ap (λ p. u32_at p 1) is in
     at_state T f j rest at u holds step.0 step.1.is (sym (ap (λ p. opcode p == gl_shader_state) is) ∙ test)
-    ∙ stops (record_questions f j at (u32_at (front_packet rest) 1)) _ refusal (sym (ap (λ w. first_of (record_questions f j at w)) same) ∙ stands)
+    ∙ stops (record_questions f j at (u32_at (front_packet rest) 1)) _ refusal (sym (ap (λ w. first_of (record_questions f j at w)) same) ∙ broken)
 
 pub goes_on : (T : Type 0) (f : FileModel) (j : ℕ) (rest packet later : List ℕ) (at word size : ℕ) → IsUnderway T f j rest at → 1 ≤ length rest
     → packet ≡ front_packet rest → later ≡ behind rest → 1 ≤ length packet → length packet + length later ≤ length rest
     → (opcode packet == gl_shader_state) ≡ true → word ≡ u32_at packet 1 → (T → first_of (record_questions f j at word) ≡ None)
     → size ≡ source_size word → size ≤ 176 → IsUnderway T f j later (at + size)
-goes_on T f j rest packet later at word size u some is rest_is long fits test word_is stands size_is limit =
+goes_on T f j rest packet later at word size u some is rest_is long fits test word_is broken size_is limit =
     let step = cut_step u.fuel rest some u.enough in
     let same = word_is ∙ ap (λ p. u32_at p 1) is in
     record {
@@ -105,9 +105,9 @@ goes_on T f j rest packet later at word size u some is rest_is long fits test wo
       enough = omega (arith, step.1.enough, ap length rest_is);
       near = omega (arith, u.near, fits, long, limit);
       none = λ holds.
-          ap (λ l. first_of (records_from f j (at + size) (states_of (cut step.0 l)))) rest_is
-          ∙ ap (λ n. first_of (records_from f j (at + n) (states_of (cut step.0 (behind rest))))) (size_is ∙ ap source_size same)
-          ∙ sym (passes (record_questions f j at (u32_at (front_packet rest) 1)) _ (sym (ap (λ w. first_of (record_questions f j at w)) same) ∙ stands holds))
+          ap (λ l. first_of (records_from f j (at + size) (states_of (front_packets step.0 l)))) rest_is
+          ∙ ap (λ n. first_of (records_from f j (at + n) (states_of (front_packets step.0 (behind rest))))) (size_is ∙ ap source_size same)
+          ∙ sym (passes (record_questions f j at (u32_at (front_packet rest) 1)) _ (sym (ap (λ w. first_of (record_questions f j at w)) same) ∙ broken holds))
           ∙ sym (at_state T f j rest at u holds step.0 step.1.is (sym (ap (λ p. opcode p == gl_shader_state) is) ∙ test));
     }
 
@@ -122,8 +122,8 @@ passes_by T f j rest packet later at u some is rest_is fits test =
       enough = omega (arith, step.1.enough, ap length rest_is);
       near = omega (arith, u.near, fits);
       none = λ holds.
-          ap (λ l. first_of (records_from f j at (states_of (cut step.0 l)))) rest_is
-          ∙ sym (ap (λ l. first_of (records_from f j at l)) (past (front_packet rest) (cut step.0 (behind rest)) (sym (ap (λ p. opcode p == gl_shader_state) is) ∙ test)))
+          ap (λ l. first_of (records_from f j at (states_of (front_packets step.0 l)))) rest_is
+          ∙ sym (ap (λ l. first_of (records_from f j at l)) (past (front_packet rest) (front_packets step.0 (behind rest)) (sym (ap (λ p. opcode p == gl_shader_state) is) ∙ test)))
           ∙ sym (left T f j rest at u holds step.0 step.1.is);
     }
 

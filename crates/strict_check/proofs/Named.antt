@@ -44,10 +44,10 @@ code_passes f b x findings below are none =
     answered_none (code_refused f b) (code_questions_in (buffer_at f.buffers b).kind (content_of f b))
     (sym (fault_is f b x below) ∙ sym (ap (λ l. (get_or l b x).fault) are) ∙ none)
 
-pub code_stands : (f : FileModel) (b : ℕ) (x : Findings) (findings : List Findings) (fault : StrictFault) → b < length f.buffers → findings ≡ all_findings f
+pub code_broken : (f : FileModel) (b : ℕ) (x : Findings) (findings : List Findings) (fault : StrictFault) → b < length f.buffers → findings ≡ all_findings f
     → (get_or findings b x).fault ≡ Some fault → first_of (code_stage f b) ≡ Some (code_refused f b fault)
 unfolding code_stage
-code_stands f b x findings fault below are some =
+code_broken f b x findings fault below are some =
     answered_some (code_refused f b) (code_questions_in (buffer_at f.buffers b).kind (content_of f b)) fault
     (sym (fault_is f b x below) ∙ sym (ap (λ l. (get_or l b x).fault) are) ∙ some)
 

@@ -15,7 +15,7 @@ findings_of code = record { fault = first_of (strict_questions code); uses = use
 abbrev pub findings_nothing : Findings
 findings_nothing = record { fault = None; uses = uses_nothing }
 
--- of the shader in buffer b, nothing of a Plain one; and all by buffer
+-- of the shader in buffer b, nothing of a data buffer; and all by buffer
 unfoldable pub findings_at : FileModel → ℕ → Findings
 findings_at f b = record { fault = first_of (code_questions_in (buffer_at f.buffers b).kind (content_of f b)); uses = uses_at f b }
 

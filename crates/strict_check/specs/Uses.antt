@@ -14,7 +14,7 @@ uses_of code = record { vpm = has_vpm_part code; tile = has_tile_part code }
 abbrev pub uses_nothing : Uses
 uses_nothing = record { vpm = false; tile = false }
 
--- those of buffer b, nothing of a Plain one
+-- those of buffer b, nothing of a data buffer
 abbrev pub uses_in : Kind → List ℕ → Uses
 uses_in Plain content = uses_nothing
 uses_in Code content = uses_of (words_of content)

@@ -47,7 +47,7 @@ pub fn check_strict_findings(file: &FileParts, findings: &[Findings]) -> Result<
     Ok(())
 }
 
-/// The same of a file whose shaders are looked at first.
+/// The strict rules of a file whose shaders are looked at first.
 ///
 /// # Errors
 /// The first rule that is broken, in this order, with its place in the file; or want of memory.

@@ -58,7 +58,7 @@ pub fn findings_in(alloc: Global, bytes: &[u8]) -> Result<Findings, NoMemory>
     }
 }
 
-/// The same of buffer `b`, nothing where it is a Plain one.
+/// What is found of the shader in buffer `b`, nothing where it is a data buffer.
 #[tactic(auto, unfolding(crate::specs::Findings::findings_of, crate::specs::Findings::findings_at, crate::specs::Uses::uses_at, buffer_table::specs::Table::buffer_at))]
 fn findings_at(alloc: Global, file: &FileParts, b: usize) -> Result<Findings, NoMemory>
     requires well_formed { IsWellFormed (parts_view file.now) }

@@ -27,7 +27,7 @@ fn code_refusal(file: &FileParts, b: usize, fault: &StrictFault) -> Refusal
 }
 
 /// E1 to E7 of the shader in buffer `b`.
-#[tactic(auto, using(crate::proofs::Named::code_passes, crate::proofs::Named::code_stands))]
+#[tactic(auto, using(crate::proofs::Named::code_passes, crate::proofs::Named::code_broken))]
 fn code_stage(file: &FileParts, b: usize, findings: &[Findings]) -> Result<(), Refusal>
     requires well_formed { IsWellFormed (parts_view file.now) }
     requires inside { b < length file.now.buffers.items }

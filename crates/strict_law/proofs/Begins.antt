@@ -1,6 +1,6 @@
 -- What strict jobs begin with.
 use Rattle.std.proofs.Common.{◌≡◌, ◌<◌, ℕ, zero, suc, ◌+◌, not, Bool, false, List, [], ◌∷◌, length, map, replicate, refl, sym, subst, arith}
-use Rattle.field_words.specs.Pieces.{joined as joined_bytes}
+use Rattle.field_words.specs.Pieces.{joined_texts as joined_bytes}
 use Rattle.packets.specs.Packet.{slots_text}
 use Rattle.emitted_facts.specs.Records.{is_single, code_word, stream_word}
 use Rattle.emitted_facts.proofs.Records.{header_in}
@@ -41,9 +41,9 @@ programs_strict : (rights : List Rights) (plains : ℕ → List Interval) (first
 programs_strict rights plains first m j word packet draws has =
     let begins = draws.begins in
     let room = header_in word in
-    let stays : (i : ℕ) → i < 9 → words_in m word i ≡ words_in first word i = λ i below. word_stays rights first m j word i begins.record_stands begins.record_fixed has (omega (arith, room, below)) in
+    let stays : (i : ℕ) → i < 9 → words_in m word i ≡ words_in first word i = λ i below. word_stays rights first m j word i begins.record_lies begins.record_fixed has (omega (arith, room, below)) in
     let single : not (is_single (words_in m word)) ≡ not (is_single (words_in first word)) = single_stays (words_in m word) (words_in first word) (stays 0 (omega arith)) in
-    emitted_programs (rights_of rights j).region (LaunchStrict (IsHomeOf rights first j)) m word (record_stays rights first m j word begins.record_fixed has begins.record_stands)
+    emitted_programs (rights_of rights j).region (LaunchStrict (IsHomeOf rights first j)) m word (record_stays rights first m j word begins.record_fixed has begins.record_lies)
     (program_strict rights plains first m j word (not (is_single (words_in m word))) (not (is_single (words_in first word))) 0 single (stays 1 (omega arith)) (stays 2 (omega arith)) begins.fragment draws.fragment)
     (program_strict rights plains first m j word false false 1 refl (stays 4 (omega arith)) (stays 5 (omega arith)) begins.vertex draws.vertex)
     (program_strict rights plains first m j word false false 2 refl (stays 7 (omega arith)) (stays 8 (omega arith)) begins.coordinate draws.coordinate)

@@ -2,16 +2,16 @@
 use Rattle.std.proofs.Common.{◌≡◌, ◌≢◌, ◌≤◌, ◌<◌, ℕ, ◌+◌, ◌%◌, ◌==◌, true, false, List, [], ◌∷◌, length, slice_index, Option, Some, None, if◌then◌else◌, refl, sym, ◌∙◌, ap, subst, arith}
 use Rattle.std.proofs.{lemmas.Grind.common_steps, lemmas.Bool.Decides.nat_tests}
 use Rattle.std.specs.Prelude.{nat_lt}
-use Rattle.field_words.specs.{Pieces.joined, Questions.first_of}
+use Rattle.field_words.specs.{Pieces.joined_texts, Questions.first_of}
 use Rattle.packets.specs.declared.packet.Packet.TheVariants.{WaitOnSemaphore, BranchToSubList, StoreTileColor, StoreTileColorAndEnd, StoreFullResolution, LoadFullResolution, StoreTileBuffer, LoadTileBuffer, TileRenderingMode, ClearColors, TileCoordinates}
-use Rattle.packets.specs.{declared.config.Config.Config, declared.packet.Packet.Packet, Length.bin_length, Length.bin_taken, Length.render_taken, Packet.decoded}
+use Rattle.packets.specs.{declared.config.Config.Config, declared.packet.Packet.Packet, Length.bin_length, Length.bin_taken, Length.render_taken, Packet.packet_decoded}
 use Rattle.bin_list.specs.Packets.{opcode}
 use Rattle.bin_walks.specs.Walks.{Walks}
-use Rattle.machine_plan.specs.{declared.who.Who.Who, declared.launch.Free.Free, Choice.word_at, Glance.glanced, Memory.bytes_at, Plan.Done, Plan.Wilds, World.mapped}
+use Rattle.machine_plan.specs.{declared.who.Who.Who, declared.launch.Free.Free, Choice.word_at, Glance.glance_result, Memory.bytes_at, Plan.Done, Plan.Wilds, World.plan_mapped}
 use Rattle.list_machine.specs.Lists.{Lists, Turned, turned_to, quiet, past, with_work}
 use Rattle.list_machine.specs.Blocks.{tiles_of, spot_of, put_plan}
-use Rattle.list_machine.specs.Binner.{configured, with_word, started, halted, read_plan, fetched_with, started_with, chosen_tile, tile_plan, item_plan, work_plan, binner_by, binner_plan, binner_may, binner_ready}
-use Rattle.list_machine.specs.Renderer.{beyond, with_inside, enter_plan, tile_by, branch_plan, tile_plan as render_tile_plan, at_tile, act, acted, packet_plan, item_at, at_item, fetched, vertex_plan, program_plan, choice_plan, found_plan, plan_in, renderer_plan}
+use Rattle.list_machine.specs.Binner.{config_set, with_word, after_start, after_halt, read_plan, fetched_with, started_with, chosen_tile, tile_plan, item_plan, work_plan, binner_by, binner_plan, binner_may, binner_ready}
+use Rattle.list_machine.specs.Renderer.{beyond, with_inside, enter_plan, tile_by, branch_plan, tile_plan as render_tile_plan, at_tile, act, plan_of_packet, packet_plan, item_at, at_item, item_fetched, vertex_plan, program_plan, choice_plan, found_plan, plan_in, renderer_plan}
 use Rattle.list_machine.specs.{declared.state.Found.Found, declared.state.Item.Item, declared.state.Program.Program, declared.state.SubList.SubList, declared.state.Work.Work, Fetch.fetch_plan, Start.start_plan}
 use Rattle.list_machine.specs.declared.state.{Load.TheVariants.Full, Load.TheVariants.General, Program.TheVariants.Coordinate, Program.TheVariants.Fragment, Program.TheVariants.Vertex}
 use Rattle.list_machine.specs.Surfaces.{whole_written}
@@ -49,7 +49,7 @@ packet_is K place end m packet packets here rest =
     let whole = rest.whole in
     let long : length packet ≡ bin_length (opcode packet) = whole.0.whole in
     let known : bin_length (opcode packet) ≢ 0 = whole.0.known in
-    let bytes : bytes_at m place (length packet) ≡ packet = bytes_front m place packet (joined packets) (rest.stands m here) in
+    let bytes : bytes_at m place (length packet) ≡ packet = bytes_front m place packet (joined_texts packets) (rest.stands m here) in
     let some = taken_is packet long known in
     let first : slice_index m place ≡ opcode packet = byte_front m place packet (omega (arith, long, known)) bytes in
     sym (ap (λ n. bytes_at m place n) (ap bin_taken first ∙ some) ∙ bytes)
@@ -66,7 +66,7 @@ list_done K executed place end packet packets left =
 
 read_goes : (who : Who) (K : List ℕ → Type 0) (executed : List (List ℕ)) (s : Lists) (m : List ℕ) (rest : List (List ℕ)) → K m → BinLeft K executed s.binner.place s.binner.end rest → s.binner.place < s.binner.end
     → Comes who (ListsGo K (packet_at m s.binner.place ∷ executed)) (read_plan s) m
-unfolding configured with_word started halted
+unfolding config_set with_word after_start after_halt
 read_goes who K executed s m [] here left below = absurd (none_left s.binner.place s.binner.end left.bin.ends below)
 read_goes who K executed s m (packet ∷ packets) here left below =
     let place : ℕ = s.binner.place in
@@ -93,9 +93,9 @@ work_stays who B s k free words m here =
     let Q : Turned → Type 0 = λ turned. P turned.lists in
     let L = AnyLook in
     let G = AnyAccess in
-    keeps_if who L G (λ i turned. Q turned) m k.due (mapped (started_with s k) (start_plan Coordinate free k.word)) (if nat_lt k.done k.primitive.length then mapped (fetched_with s k) (fetch_plan k.primitive k.word k.done) else mapped quiet (item_plan s s.binner.kept.config k words))
+    keeps_if who L G (λ i turned. Q turned) m k.due (plan_mapped (started_with s k) (start_plan Coordinate free k.word)) (if nat_lt k.done k.primitive.length then plan_mapped (fetched_with s k) (fetch_plan k.primitive k.word k.done) else plan_mapped quiet (item_plan s s.binner.kept.config k words))
     (λ due. comes_any who Q (started_with s k) (λ launch. here) (start_plan Coordinate free k.word) m)
-    (λ off. keeps_if who L G (λ i turned. Q turned) m (nat_lt k.done k.primitive.length) (mapped (fetched_with s k) (fetch_plan k.primitive k.word k.done)) (mapped quiet (item_plan s s.binner.kept.config k words))
+    (λ off. keeps_if who L G (λ i turned. Q turned) m (nat_lt k.done k.primitive.length) (plan_mapped (fetched_with s k) (fetch_plan k.primitive k.word k.done)) (plan_mapped quiet (item_plan s s.binner.kept.config k words))
     (λ more. comes_any who Q (fetched_with s k) (λ index. here) (fetch_plan k.primitive k.word k.done) m)
     (λ all. comes_into who quiet P Q (λ next same. same) (item_plan s s.binner.kept.config k words) m (item_stays who B s s.binner.kept.config k words m here)))
 
@@ -107,7 +107,7 @@ binner_by_goes who K executed s None free words m here left ready =
     comes_into who quiet (ListsGo K after) (λ turned. ListsGo K after turned.lists) (λ next goes. goes) (read_plan s) m (read_goes who K executed s m left.0 here left.1 below)
 binner_by_goes who K executed s (Some k) free words m here left ready = work_stays who (BinGoes K executed) s k free words m left
 
-pub binner_goes : (who : Who) (K : List ℕ → Type 0) (executed : List (List ℕ)) (s : Lists) (free : Free) (words m : List ℕ) → K m → ListsGo K executed s → glanced (binner_ready s free) m ≡ true
+pub binner_goes : (who : Who) (K : List ℕ → Type 0) (executed : List (List ℕ)) (s : Lists) (free : Free) (words m : List ℕ) → K m → ListsGo K executed s → glance_result (binner_ready s free) m ≡ true
     → Comes who (λ turned. ListsGo K (executed_by s.binner.work s.binner.place m executed) turned.lists) (binner_plan s free words) m
 unfolding binner_plan binner_ready
 binner_goes who K executed s free words m here left ready = binner_by_goes who K executed s s.binner.work free words m here left ready
@@ -136,7 +136,7 @@ act_stays who B s words m (TileRenderingMode address width height bits) here = h
 act_stays who B s words m (ClearColors first second z stencil) here = here
 act_stays who B s words m (TileCoordinates x y) here = waiting_loaded who (λ next. B next.binner.place next.binner.end) s.renderer.waiting s.renderer.frame x y (at_tile s x y) m here
 
-acted_stays : (who : Who) (B : ℕ → ℕ → Type 0) (s : Lists) (words m : List ℕ) (packet : Option Packet) → B s.binner.place s.binner.end → Comes who (λ next. B next.binner.place next.binner.end) (acted s words packet) m
+acted_stays : (who : Who) (B : ℕ → ℕ → Type 0) (s : Lists) (words m : List ℕ) (packet : Option Packet) → B s.binner.place s.binner.end → Comes who (λ next. B next.binner.place next.binner.end) (plan_of_packet s words packet) m
 acted_stays who B s words m None here = tt
 acted_stays who B s words m (Some packet) here = act_stays who B s words m packet here
 
@@ -144,7 +144,7 @@ slot_stays : (who : Who) (B : ℕ → ℕ → Type 0) (s : Lists) (words m : Lis
 unfolding packet_plan
 slot_stays who B s words m here =
     let len : ℕ = render_taken (slice_index (bytes_at m s.renderer.place 1) 0) in
-    (tt, (tt, acted_stays who B (beyond s len) words m (decoded (bytes_at m s.renderer.place len)) here))
+    (tt, (tt, acted_stays who B (beyond s len) words m (packet_decoded (bytes_at m s.renderer.place len)) here))
 
 program_stays : (who : Who) (B : ℕ → ℕ → Type 0) (s : Lists) (program : Program) (free : Free) (item : Item) (m : List ℕ) → B s.binner.place s.binner.end → Comes who (λ turned. B turned.lists.binner.place turned.lists.binner.end) (program_plan s program free item) m
 unfolding program_plan
@@ -155,7 +155,7 @@ unfolding vertex_plan
 vertex_stays who B s item words m here =
     let Q : Turned → Type 0 = λ turned. B turned.lists.binner.place turned.lists.binner.end in
     let plan = fetch_plan item.primitive item.word (word_at words 1 % item.primitive.length) in
-    keeps_if who AnyLook AnyAccess (λ k turned. Q turned) m (item.primitive.length == 0) (Done (quiet s)) (mapped (fetched s) plan) (λ on. here) (λ off. comes_any who Q (fetched s) (λ index. here) plan m)
+    keeps_if who AnyLook AnyAccess (λ k turned. Q turned) m (item.primitive.length == 0) (Done (quiet s)) (plan_mapped (item_fetched s) plan) (λ on. here) (λ off. comes_any who Q (item_fetched s) (λ index. here) plan m)
 
 choice_stays : (who : Who) (B : ℕ → ℕ → Type 0) (s : Lists) (free : Free) (words m : List ℕ) (sub : SubList) (found : Found) → B s.binner.place s.binner.end
     → Comes who (λ turned. B turned.lists.binner.place turned.lists.binner.end) (choice_plan s free words sub found) m

@@ -2,13 +2,13 @@
 use Rattle.std.proofs.Common.{◌≡◌, ◌≢◌, ◌<◌, ℕ, ◌+◌, Bool, true, false, IsTrue, List, [], ◌∷◌, ◌++◌, length, Option, Some, None, IfSome, inl, inr, refl, sym, subst, arith, if◌then◌else◌}
 use Rattle.std.proofs.lemmas.List.{length-append}
 use Rattle.std.specs.Prelude.{◌⊎◌, option_map}
-use Rattle.machine_plan.specs.{declared.launch.Free.Free, declared.launch.Launch.Launch, Glance.glanced}
+use Rattle.machine_plan.specs.{declared.launch.Free.Free, declared.launch.Launch.Launch, Glance.glance_result}
 use Rattle.machine_plan.specs.Regions.{Every, Inside, IsSafeAccess, rights_of}
 use Rattle.machine_plan.proofs.{Plans.keeps_weaker, Worlds.keeps_result}
 use Rattle.list_machine.specs.Binner.{binner_ready, binner_plan}
 use Rattle.list_machine.specs.Lists.{Lists, Turned, binner_of, renderer_of}
 use Rattle.list_machine.specs.Renderer.{renderer_ready, renderer_plan}
-use Rattle.qpu_machine.specs.{declared.state.Qpu.Qpu, declared.state.Thread.Thread, Bounds.finished0, Bounds.finished1, Qpu.queued}
+use Rattle.qpu_machine.specs.{declared.state.Qpu.Qpu, declared.state.Thread.Thread, Bounds.finished0, Bounds.finished1, Qpu.queue_count}
 use Rattle.qpu_law.specs.Home.{Home}
 use Rattle.machine.specs.State.{Units, item_at, job_start, no_job}
 use Rattle.machine.specs.Step.{Event, may, step, ready, turn, unit_turn}
@@ -17,7 +17,7 @@ use Rattle.machine_law.proofs.Owes.{put_each}
 use Rattle.ends_law.proofs.Plans.{AnyLook, AnyAccess, Comes, keeps_both}
 use Rattle.day_law.specs.Day.{MayHappen, AllMayHappen}
 use Rattle.promises.specs.Days.{Admitted, Day, Files, Happening, Steps, Changes, Finds, Admits, Retires, Resets, HasNoneOf, HasNoWork, Job}
-use Rattle.promises.specs.Days.{admitted_at, after, dawn, found_at, found_in, happen, rights_in, stopped, with_files}
+use Rattle.promises.specs.Days.{admitted_at, after, dawn, found_at, found_in, happen, rights_in, units_stopped, with_files}
 use Rattle.day_law.proofs.Own.{solo, Holds, IsQuiet, every_nth, binner_done, renderer_done, if_some, facts}
 use Rattle.day_law.proofs.Lists.{each_goes, each_but, each_append, still_at, last_at, without, without_long, without_others}
 use Rattle.day_law.proofs.{Known.IsKnown, Known.keeps, Keeping.all_quiet, Keeping.happens, Days.dawn_known}
@@ -50,7 +50,7 @@ turned_own jobs j turned below own = record {
   launch = if_some (LaunchStrict (OwnHome (admitted_at jobs j))) (LaunchStrict (IsOf jobs j)) turned.launch (λ launch known. launch_own jobs j launch below known) own.launch;
 }
 
-binner_says : (jobs : List Admitted) (m : List ℕ) → Every (Holds m) jobs → (j : ℕ) (s : Lists) (free : Free) (words : List ℕ) → OfJob jobs j s → glanced (binner_ready s free) m ≡ true
+binner_says : (jobs : List Admitted) (m : List ℕ) → Every (Holds m) jobs → (j : ℕ) (s : Lists) (free : Free) (words : List ℕ) → OfJob jobs j s → glance_result (binner_ready s free) m ≡ true
     → Comes (binner_of j) (JobTurned (OfJob jobs) (IsOf jobs) j) (binner_plan s free words) m
 unfolding binner_ready
 binner_says jobs m holds j s free words (inl quiet) on = absurd (binner_done s s.binner.work free quiet.binner on)
@@ -60,7 +60,7 @@ binner_says jobs m holds j s free words (inr known) on =
     (λ p n h. h) (λ a h. h) (λ k turned own. turned_own jobs j turned known.0 own) (binner_plan s free words) m
     (binner_one (solo one) one.first 0 (binner_of j) s free words m (every_nth (Holds m) jobs j known.0 holds) known.1 on)
 
-renderer_says : (jobs : List Admitted) (m : List ℕ) → Every (Holds m) jobs → (j : ℕ) (s : Lists) (free : Free) (words : List ℕ) → OfJob jobs j s → glanced (renderer_ready s) m ≡ true
+renderer_says : (jobs : List Admitted) (m : List ℕ) → Every (Holds m) jobs → (j : ℕ) (s : Lists) (free : Free) (words : List ℕ) → OfJob jobs j s → glance_result (renderer_ready s) m ≡ true
     → Comes (renderer_of j) (JobTurned (OfJob jobs) (IsOf jobs) j) (renderer_plan s free words) m
 unfolding renderer_ready
 renderer_says jobs m holds j s free words (inl quiet) on = absurd (renderer_done s s.renderer.inside m quiet.renderer on)
@@ -122,8 +122,8 @@ qpu_goes IsHere IsThere N goes order0 order1 q first other left = record {
   first1 = left.first1;
   other0 = left.other0;
   other1 = left.other1;
-  first = slot_goes IsHere IsThere N goes (queued false q.queue0.items) (queued false q.queue1.items) left.first0 left.first1 q.first first left.first;
-  other = slot_goes IsHere IsThere N goes (queued true q.queue0.items) (queued true q.queue1.items) left.other0 left.other1 q.other other left.other;
+  first = slot_goes IsHere IsThere N goes (queue_count false q.queue0.items) (queue_count false q.queue1.items) left.first0 left.first1 q.first first left.first;
+  other = slot_goes IsHere IsThere N goes (queue_count true q.queue0.items) (queue_count true q.queue1.items) left.other0 left.other1 q.other other left.other;
   beside = left.beside;
   rests = left.rests;
   in0 = left.in0;
@@ -220,11 +220,11 @@ qpu_found IsHere true files q order0 order1 left =
       other0 = left.other0;
       other1 = left.other1;
       first = left.first;
-      other = slot_found IsHere files (queued true q.queue0.items) (queued true q.queue1.items) left.other0 left.other1 q.other left.other;
+      other = slot_found IsHere files (queue_count true q.queue0.items) (queue_count true q.queue1.items) left.other0 left.other1 q.other left.other;
       beside = beside_both q.first q.other q.first (option_map (with_files files) q.other) (like_same q.first) (like_found files q.other) left.beside;
       rests = rests_found true q.second files q.first q.other left.rests;
-      in0 = subst (λ n. InOrder q.second order0 left.first0 (queued false q.queue0.items + finished0 q.first) left.other0 (queued true q.queue0.items + n)) has.0 left.in0;
-      in1 = subst (λ n. InOrder q.second order1 left.first1 (queued false q.queue1.items + finished1 q.first) left.other1 (queued true q.queue1.items + n)) has.1 left.in1;
+      in0 = subst (λ n. InOrder q.second order0 left.first0 (queue_count false q.queue0.items + finished0 q.first) left.other0 (queue_count true q.queue0.items + n)) has.0 left.in0;
+      in1 = subst (λ n. InOrder q.second order1 left.first1 (queue_count false q.queue1.items + finished1 q.first) left.other1 (queue_count true q.queue1.items + n)) has.1 left.in1;
     }
 qpu_found IsHere false files q order0 order1 left =
     let has = has_found files q.first in
@@ -233,12 +233,12 @@ qpu_found IsHere false files q order0 order1 left =
       first1 = left.first1;
       other0 = left.other0;
       other1 = left.other1;
-      first = slot_found IsHere files (queued false q.queue0.items) (queued false q.queue1.items) left.first0 left.first1 q.first left.first;
+      first = slot_found IsHere files (queue_count false q.queue0.items) (queue_count false q.queue1.items) left.first0 left.first1 q.first left.first;
       other = left.other;
       beside = beside_both q.first q.other (option_map (with_files files) q.first) q.other (like_found files q.first) (like_same q.other) left.beside;
       rests = rests_found false q.second files q.first q.other left.rests;
-      in0 = subst (λ n. InOrder q.second order0 left.first0 (queued false q.queue0.items + n) left.other0 (queued true q.queue0.items + finished0 q.other)) has.0 left.in0;
-      in1 = subst (λ n. InOrder q.second order1 left.first1 (queued false q.queue1.items + n) left.other1 (queued true q.queue1.items + finished1 q.other)) has.1 left.in1;
+      in0 = subst (λ n. InOrder q.second order0 left.first0 (queue_count false q.queue0.items + n) left.other0 (queue_count true q.queue0.items + finished0 q.other)) has.0 left.in0;
+      in1 = subst (λ n. InOrder q.second order1 left.first1 (queue_count false q.queue1.items + n) left.other1 (queue_count true q.queue1.items + finished1 q.other)) has.1 left.in1;
     }
 
 finds : (jobs : List Admitted) (orders : Orders) (u : Units) (k : ℕ) (second : Bool) (files : Files) (found : Option Qpu) → IfSome found (QpuStrict (IsOf jobs) (orders k 0) (orders k 1)) → UnitsStrict (OfJob jobs) (IsOf jobs) orders u
@@ -263,7 +263,7 @@ happens_strict d (Finds k second files) orders known strict may_find begins =
 happens_strict d (Admits job) orders known strict may_admit begins = admits d job orders known strict begins
 happens_strict d (Retires j) orders known strict none begins = retires d j orders strict none
 happens_strict d Resets orders known strict may_reset begins = record {
-  jobs = each_goes (facts []).OfJob (OfJob d.jobs) 0 (stopped d.state.units).jobs (λ j s from quiet. stays_quiet d.jobs j s quiet) (all_quiet [] 0 d.state.units.jobs);
+  jobs = each_goes (facts []).OfJob (OfJob d.jobs) 0 (units_stopped d.state.units).jobs (λ j s from quiet. stays_quiet d.jobs j s quiet) (all_quiet [] 0 d.state.units.jobs);
   qpus = idle_strict (IsOf d.jobs) 0 12;
 }
 

@@ -2,7 +2,7 @@
 use Rattle.std.proofs.Common.{◌≡◌, ◌≢◌, ◌<◌, ℕ, ◌+◌, ◌==◌, Bool, true, IsTrue, Option, Some, None, List, [], ◌∷◌, ◌++◌, length, inl, inr, refl, sym, ◌∙◌, subst, arith, if◌then◌else◌}
 use Rattle.std.proofs.lemmas.{Bool.eq-eqb, Bool.true≢false, Bool.ne_eqb, List.length-append}
 use Rattle.std.specs.Prelude.{◌⊎◌}
-use Rattle.machine_plan.specs.{declared.launch.Free.Free, Glance.glanced}
+use Rattle.machine_plan.specs.{declared.launch.Free.Free, Glance.glance_result}
 use Rattle.machine_plan.specs.Regions.{Every, Inside, IsSafeAccess, rights_of}
 use Rattle.machine_plan.proofs.Worlds.{keeps_result}
 use Rattle.list_machine.specs.{Binner.has_binner_work, Binner.binner_ready, Binner.binner_plan, Renderer.renderer_ready, Renderer.renderer_plan}
@@ -14,7 +14,7 @@ use Rattle.machine_law.specs.Units.{UnitsFine}
 use Rattle.ends_law.proofs.Plans.{Comes, keeps_both, weaker}
 use Rattle.day_law.specs.Day.{MayHappen, AllMayHappen}
 use Rattle.promises.specs.Days.{Admitted, Day, Files, Happening, Steps, Changes, Finds, Admits, Retires, Resets, HasNoWork, Job, admitted_at, after}
-use Rattle.promises.specs.Days.{dawn, found_at, happen, rights_in, stopped}
+use Rattle.promises.specs.Days.{dawn, found_at, happen, rights_in, units_stopped}
 use Rattle.day_law.proofs.Own.{solo, Holds, IsQuiet, every_nth, binner_done, renderer_done, facts}
 use Rattle.day_law.proofs.Lists.{each_goes, each_but, each_append, still_at, last_at, without, without_long, without_others}
 use Rattle.day_law.proofs.{Known.IsKnown, Known.keeps, Keeping.all_quiet, Keeping.happens, Days.dawn_known}
@@ -31,7 +31,7 @@ abbrev OfJob : List Admitted → ℕ → List (List ℕ) → Lists → Type 0
 OfJob jobs j executed s = IsQuiet s ⊎ ((j < length jobs) × OwnLists (admitted_at jobs j) executed s)
 
 -- What that says in a memory that each job holds.
-binner_says : (jobs : List Admitted) (m : List ℕ) → Every (Holds m) jobs → (j : ℕ) (executed : List (List ℕ)) (s : Lists) (free : Free) (words : List ℕ) → OfJob jobs j executed s → glanced (binner_ready s free) m ≡ true
+binner_says : (jobs : List Admitted) (m : List ℕ) → Every (Holds m) jobs → (j : ℕ) (executed : List (List ℕ)) (s : Lists) (free : Free) (words : List ℕ) → OfJob jobs j executed s → glance_result (binner_ready s free) m ≡ true
     → Comes (binner_of j) (λ turned. OfJob jobs j (executed_by s.binner.work s.binner.place m executed) turned.lists) (binner_plan s free words) m
 unfolding binner_ready
 binner_says jobs m holds j executed s free words (inl quiet) on = absurd (binner_done s s.binner.work free quiet.binner on)
@@ -41,7 +41,7 @@ binner_says jobs m holds j executed s free words (inr known) on =
     weaker (binner_of j) (λ turned. OwnLists one next turned.lists) (λ turned. OfJob jobs j next turned.lists) (λ turned own. inr (known.0, own)) (binner_plan s free words) m
     (binner_goes (binner_of j) (λ k. Holds k one) executed s free words m (every_nth (Holds m) jobs j known.0 holds) known.1 on)
 
-renderer_says : (jobs : List Admitted) (m : List ℕ) (j : ℕ) (executed : List (List ℕ)) (s : Lists) (free : Free) (words : List ℕ) → OfJob jobs j executed s → glanced (renderer_ready s) m ≡ true
+renderer_says : (jobs : List Admitted) (m : List ℕ) (j : ℕ) (executed : List (List ℕ)) (s : Lists) (free : Free) (words : List ℕ) → OfJob jobs j executed s → glance_result (renderer_ready s) m ≡ true
     → Comes (renderer_of j) (λ turned. OfJob jobs j executed turned.lists) (renderer_plan s free words) m
 unfolding renderer_ready
 renderer_says jobs m j executed s free words (inl quiet) on = absurd (renderer_done s s.renderer.inside m quiet.renderer on)
@@ -128,7 +128,7 @@ happens_bins d (Finds k second files) executed known goes may_find begins = find
 happens_bins d (Admits job) executed known goes may_admit begins = admits d job executed known goes begins
 happens_bins d (Retires j) executed known goes none begins = retires d j executed goes none
 happens_bins d Resets executed known goes may_reset begins =
-    each_goes (facts []).OfJob (λ j s. OfJob d.jobs j (executed j) s) 0 (stopped d.state.units).jobs (λ j s from quiet. stays_quiet d.jobs j (executed j) s quiet) (all_quiet [] 0 d.state.units.jobs)
+    each_goes (facts []).OfJob (λ j s. OfJob d.jobs j (executed j) s) 0 (units_stopped d.state.units).jobs (λ j s from quiet. stays_quiet d.jobs j (executed j) s quiet) (all_quiet [] 0 d.state.units.jobs)
 
 record IsLast (d : Day) (executed : Executed) : Type 0 where
   known : IsKnown d

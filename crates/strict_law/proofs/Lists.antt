@@ -6,7 +6,7 @@ use Rattle.std.specs.Prelude.{is_some}
 use Rattle.field_words.specs.declared.access.Actor.TheVariants.{Binner as TheBinner, Renderer as TheRenderer, Qpu as TheQpu, Tmu as TheTmu}
 use Rattle.field_words.specs.declared.access.Actor.{Actor}
 use Rattle.machine_plan.specs.Others.{Happening, Steps, Changes, MayHappen, happen, AllMayHappen}
-use Rattle.machine_plan.specs.{declared.launch.Free.Free, Glance.glanced, Runs.reached}
+use Rattle.machine_plan.specs.{declared.launch.Free.Free, Glance.glance_result, Runs.state_reached}
 use Rattle.machine_plan.specs.Regions.{Inside, Interval, IsSafeAccess, Rights, rights_of, HasReadOnly}
 use Rattle.machine_plan.proofs.{Others.Holds, Others.run_holds, Worlds.keeps_result}
 use Rattle.list_machine.specs.{declared.state.Work.Work, Binner.has_binner_work, Binner.binner_ready, Binner.binner_plan, Renderer.has_renderer_work, Renderer.renderer_ready, Renderer.renderer_plan}
@@ -25,7 +25,7 @@ use Rattle.bin_walks.specs.Walks.{nothing_kept}
 use Rattle.list_law.proofs.Start.{walks_so}
 use Rattle.packets.specs.StateWord.{attribute_count, record_size}
 use Rattle.list_machine.specs.Fetch.{record_place}
-use Rattle.list_law.specs.Emitted.{RecordStands}
+use Rattle.list_law.specs.Emitted.{RecordLies}
 use Rattle.emitted_facts.proofs.Records.{header_in}
 use Rattle.promises.specs.Rights.{IsFixed}
 use Rattle.machine_plan.specs.Memory.{bytes_at}
@@ -36,9 +36,9 @@ use Rattle.strict_law.proofs.{Packets.breaks_none, Packets.packet_obeys, Packets
 
 -- What is known of a job's lists, by the packets that its binner has executed, is known again after a step of one of them over this memory.
 pub record Goes (OfJob : ℕ → List (List ℕ) → Lists → Type 0) (m : List ℕ) : Type 0 where
-  pub binner : (j : ℕ) (executed : List (List ℕ)) (s : Lists) (free : Free) (words : List ℕ) → OfJob j executed s → glanced (binner_ready s free) m ≡ true
+  pub binner : (j : ℕ) (executed : List (List ℕ)) (s : Lists) (free : Free) (words : List ℕ) → OfJob j executed s → glance_result (binner_ready s free) m ≡ true
       → Comes (binner_of j) (λ turned. OfJob j (executed_by s.binner.work s.binner.place m executed) turned.lists) (binner_plan s free words) m
-  pub renderer : (j : ℕ) (executed : List (List ℕ)) (s : Lists) (free : Free) (words : List ℕ) → OfJob j executed s → glanced (renderer_ready s) m ≡ true
+  pub renderer : (j : ℕ) (executed : List (List ℕ)) (s : Lists) (free : Free) (words : List ℕ) → OfJob j executed s → glance_result (renderer_ready s) m ≡ true
       → Comes (renderer_of j) (λ turned. OfJob j executed turned.lists) (renderer_plan s free words) m
 
 -- so it is of each job
@@ -46,7 +46,7 @@ abbrev pub EachGoes : (ℕ → List (List ℕ) → Lists → Type 0) → Execute
 EachGoes OfJob executed u = EachAt (λ j s. OfJob j (executed j) s) 0 u.jobs
 
 binner_comes : (OfJob : ℕ → List (List ℕ) → Lists → Type 0) (executed : Executed) (u : Units) (found : Option (Picked Lists)) (words m : List ℕ) → Goes OfJob m → EachGoes OfJob executed u → IfSome found (PickedFine (λ j s. OfJob j (executed j) s))
-    → IsTrue (glanced (binner_may u found) m) → Comes (binner_turn u found words).who (EachGoes OfJob (executed_in found m executed)) (binner_turn u found words).plan m
+    → IsTrue (glance_result (binner_may u found) m) → Comes (binner_turn u found words).who (EachGoes OfJob (executed_in found m executed)) (binner_turn u found words).plan m
 binner_comes OfJob executed u None words m goes all job may = absurd (false≢true may)
 binner_comes OfJob executed u (Some b) words m goes all job may =
     let free : Free = free_in u.qpus in
@@ -59,7 +59,7 @@ binner_comes OfJob executed u (Some b) words m goes all job may =
     (binner_plan b.item free words) m (goes.binner j (executed j) b.item free words job (not_held (is_ahead j (renderer_job u)) (binner_ready b.item free) m may))
 
 renderer_comes : (OfJob : ℕ → List (List ℕ) → Lists → Type 0) (executed : Executed) (u : Units) (found : Option (Picked Lists)) (words m : List ℕ) → Goes OfJob m → EachGoes OfJob executed u → IfSome found (PickedFine (λ j s. OfJob j (executed j) s))
-    → IsTrue (glanced (renderer_may found) m) → Comes (renderer_turn u found words).who (EachGoes OfJob executed) (renderer_turn u found words).plan m
+    → IsTrue (glance_result (renderer_may found) m) → Comes (renderer_turn u found words).who (EachGoes OfJob executed) (renderer_turn u found words).plan m
 renderer_comes OfJob executed u None words m goes all job may = absurd (false≢true may)
 renderer_comes OfJob executed u (Some r) words m goes all job may =
     let free : Free = free_in u.qpus in
@@ -75,7 +75,7 @@ tmu_comes : (OfJob : ℕ → List (List ℕ) → Lists → Type 0) (executed : E
 tmu_comes OfJob executed u k n None words m all = all
 tmu_comes OfJob executed u k n (Some q) words m all = comes_any (tmu_turn u k n (Some q) words).who (EachGoes OfJob executed) (with_qpu u k) (λ next. all) (tmu_plan q n words) m
 
-pub unit_goes : (OfJob : ℕ → List (List ℕ) → Lists → Type 0) (executed : Executed) (u : Units) (unit : Actor) (words m : List ℕ) → Goes OfJob m → EachGoes OfJob executed u → IsTrue (glanced (unit_ready u unit) m)
+pub unit_goes : (OfJob : ℕ → List (List ℕ) → Lists → Type 0) (executed : Executed) (u : Units) (unit : Actor) (words m : List ℕ) → Goes OfJob m → EachGoes OfJob executed u → IsTrue (glance_result (unit_ready u unit) m)
     → Comes (unit_turn u unit words).who (EachGoes OfJob (executed_after u unit m executed)) (unit_turn u unit words).plan m
 unit_goes OfJob executed u TheBinner words m goes all may = binner_comes OfJob executed u (binner_job u) words m goes all (first_fine (λ j s. OfJob j (executed j) s) has_binner_work 0 u.jobs all) may
 unit_goes OfJob executed u TheRenderer words m goes all may = renderer_comes OfJob executed u (renderer_job u) words m goes all (first_fine (λ j s. OfJob j (executed j) s) has_renderer_work 0 u.jobs all) may
@@ -140,7 +140,7 @@ happens_bins rights plains first s (Steps event) executed plain now may =
 happens_bins rights plains first s (Changes m) executed plain now may = now.goes
 
 all_bin : (rights : List Rights) (plains : ℕ → List Interval) (first : List ℕ) (s : State) (happenings : List (Happening Event)) (executed : Executed) → ArePlain rights plains → IsNow rights plains first executed s → AllMayHappen ready turn rights s happenings
-    → IsNow rights plains first (executed_along s happenings executed) (reached (happen turn) s happenings)
+    → IsNow rights plains first (executed_along s happenings executed) (state_reached (happen turn) s happenings)
 all_bin rights plains first s [] executed plain now may = now
 all_bin rights plains first s (one ∷ later) executed plain now may =
     all_bin rights plains first (happen turn s one).state later (executed_next s one executed) plain
@@ -154,7 +154,7 @@ byte_stays : (m first : List ℕ) (place : ℕ) → bytes_at m place 1 ≡ bytes
 unfolding bytes_at
 byte_stays m first place same = ap (λ bytes. slice_index bytes 0) same
 
-record_byte : (rights : List Rights) (first m : List ℕ) (j word i : ℕ) → RecordStands (rights_of rights j).region first word → IsFixed rights (record_place word) (record_size word) → HasReadOnly rights first m → i < 36 → slice_index m (record_place word + i) ≡ slice_index first (record_place word + i)
+record_byte : (rights : List Rights) (first m : List ℕ) (j word i : ℕ) → RecordLies (rights_of rights j).region first word → IsFixed rights (record_place word) (record_size word) → HasReadOnly rights first m → i < 36 → slice_index m (record_place word + i) ≡ slice_index first (record_place word + i)
 record_byte rights first m j word i stands fixed has small =
     let room = header_in word in
     byte_stays m first (record_place word + i)
@@ -165,7 +165,7 @@ pub draw_selects : (rights : List Rights) (plains : ℕ → List Interval) (firs
 unfolding selects_missing
 draw_selects rights plains first j word packet draws m has =
     let begins = draws.begins in
-    let stays : (i : ℕ) → i < 36 → slice_index m (record_place word + i) ≡ slice_index first (record_place word + i) = λ i small. record_byte rights first m j word i begins.record_stands begins.record_fixed has small in
+    let stays : (i : ℕ) → i < 36 → slice_index m (record_place word + i) ≡ slice_index first (record_place word + i) = λ i small. record_byte rights first m j word i begins.record_lies begins.record_fixed has small in
     ap (λ b. not (b / 2 ^ attribute_count word == 0) || not (slice_index m (record_place word + 26) / 2 ^ attribute_count word == 0)) (stays 14 (omega arith))
     ∙ (ap (λ b. not (slice_index first (record_place word + 14) / 2 ^ attribute_count word == 0) || not (b / 2 ^ attribute_count word == 0)) (stays 26 (omega arith)) ∙ draws.selects)
 

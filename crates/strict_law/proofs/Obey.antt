@@ -5,16 +5,16 @@ use Rattle.std.proofs.lemmas.Bool.Decides.{nat_tests}
 use Rattle.std.specs.Int.{from_le_bytes, w64}
 use Rattle.machine_plan.specs.Memory.{bytes_at}
 use Rattle.qpu_isa.specs.Terms.{is_end, writes_s}
-use Rattle.qpu_isa.specs.Setups.{kept}
+use Rattle.qpu_isa.specs.Setups.{setups_kept}
 use Rattle.shader_flow.specs.{Flow.word, Flow.end_of, Flow.checked_of, Pending.pending_of, Pending.takes}
 use Rattle.list_machine.specs.Lists.{Lists}
 use Rattle.qpu_machine.specs.{declared.state.Qpu.Qpu, declared.state.Request.Request, declared.state.Thread.Thread, Bounds.finished0, Bounds.finished1}
 use Rattle.qpu_machine.specs.declared.state.Fate.TheVariants.{Ends, Switches}
-use Rattle.qpu_machine.specs.{Qpu.active_of, Qpu.queued, Wild.takes_one, Writes.fate_of, Writes.loads}
+use Rattle.qpu_machine.specs.{Qpu.active_of, Qpu.queue_count, Wild.takes_one, Writes.fate_of, Writes.loads}
 use Rattle.machine.specs.{State.State, Step.Event}
 use Rattle.qpu_law.specs.Home.{Home, HasNoFault, IsAt}
 use Rattle.qpu_law.proofs.Going.{behind, in_checked, not_end, takes_same}
-use Rattle.promises.specs.{Steps.one_if, Finished.unloaded}
+use Rattle.promises.specs.{Steps.one_if, Finished.count_unloaded}
 use Rattle.strict_law.specs.Order.{Orders}
 use Rattle.strict_rules.specs.{Words.reads_address, Words.uses_vpm, Words.is_coupled, Words.add_couples, Words.mul_couples, Words.loads_result, Words.coupled_of}
 use Rattle.strict_rules.specs.Queue as queue
@@ -60,7 +60,7 @@ no_words : (code : List ℕ) (n queued0 queued1 : ℕ) (t : Thread) → Before c
 unfolding keeps_words queue.keeps_words
 no_words code n queued0 queued1 t known none =
     let both = or_parts (nat_lt 0 (pending_of code 0 (n + 1))) (nat_lt 0 (pending_of code 1 (n + 1))) none in
-    or_from (nat_lt 0 (length (kept (word code n) 0 0 t.setups0.items))) (nat_lt 0 (length (kept (word code n) 1 0 t.setups1.items)))
+    or_from (nat_lt 0 (length (setups_kept (word code n) 0 0 t.setups0.items))) (nat_lt 0 (length (setups_kept (word code n) 1 0 t.setups1.items)))
     (ap (λ k. nat_lt 0 k) (kept_long code n 0 0 t.setups0.items known.sound known.inside known.pending0) ∙ both.0)
     (ap (λ k. nat_lt 0 k) (kept_long code n 1 0 t.setups1.items known.sound known.inside known.pending1) ∙ both.1)
 
@@ -122,11 +122,11 @@ pair_room IsOf m own queued0 queued1 old0 old1 t (Some o) here room beside left 
     omega (arith, mine, theirs)
 
 has_room_by : (IsOf : ℕ → Home → Type 0) (m : List ℕ) (second : Bool) (queue0 queue1 : List Request) (first0 first1 other0 other1 : ℕ) (first other : Option Thread) (t : Thread) → Finds IsOf m
-    → (if second then other else first) ≡ Some t → AreBeside first other → SlotStrict IsOf (queued false queue0) (queued false queue1) first0 first1 first → SlotStrict IsOf (queued true queue0) (queued true queue1) other0 other1 other
-    → (queued second queue0 + length t.results0.items) + (queued second queue1 + length t.results1.items) < (if t.threaded then 2 else 4)
+    → (if second then other else first) ≡ Some t → AreBeside first other → SlotStrict IsOf (queue_count false queue0) (queue_count false queue1) first0 first1 first → SlotStrict IsOf (queue_count true queue0) (queue_count true queue1) other0 other1 other
+    → (queue_count second queue0 + length t.results0.items) + (queue_count second queue1 + length t.results1.items) < (if t.threaded then 2 else 4)
     → (length queue0 + length queue1) + ((finished0 first + finished1 first) + (finished0 other + finished1 other)) < 4
 has_room_by IsOf m true queue0 queue1 first0 first1 other0 other1 first other t here active beside one two room =
-    let pair = pair_room IsOf m ((queued true queue0 + length t.results0.items) + (queued true queue1 + length t.results1.items)) (queued false queue0) (queued false queue1) first0 first1 t first here room
+    let pair = pair_room IsOf m ((queue_count true queue0 + length t.results0.items) + (queue_count true queue1 + length t.results1.items)) (queue_count false queue0) (queue_count false queue1) first0 first1 t first here room
     (subst (λ (slot : Option Thread). AreBeside slot first) active (beside_turn first other beside)) one in
     let results0 = ap (λ (slot : Option Thread). finished0 slot) active in
     let results1 = ap (λ (slot : Option Thread). finished1 slot) active in
@@ -134,7 +134,7 @@ has_room_by IsOf m true queue0 queue1 first0 first1 other0 other1 first other t 
     let all1 = both_queued queue1 in
     omega (arith, pair, results0, results1, all0, all1)
 has_room_by IsOf m false queue0 queue1 first0 first1 other0 other1 first other t here active beside one two room =
-    let pair = pair_room IsOf m ((queued false queue0 + length t.results0.items) + (queued false queue1 + length t.results1.items)) (queued true queue0) (queued true queue1) other0 other1 t other here room
+    let pair = pair_room IsOf m ((queue_count false queue0 + length t.results0.items) + (queue_count false queue1 + length t.results1.items)) (queue_count true queue0) (queue_count true queue1) other0 other1 t other here room
     (subst (λ (slot : Option Thread). AreBeside slot other) active beside) two in
     let results0 = ap (λ (slot : Option Thread). finished0 slot) active in
     let results1 = ap (λ (slot : Option Thread). finished1 slot) active in
@@ -195,7 +195,7 @@ pub record Steps (IsOf : ℕ → Home → Type 0) (order0 order1 : List Bool) (m
   pub here : Finds IsOf m
   pub active : active_of q ≡ Some t
   pub processor : QpuStrict IsOf order0 order1 q
-  pub thread : ThreadStrict IsOf (queued q.second q.queue0.items) (queued q.second q.queue1.items) (if q.second then processor.other0 else processor.first0) (if q.second then processor.other1 else processor.first1) t
+  pub thread : ThreadStrict IsOf (queue_count q.second q.queue0.items) (queue_count q.second q.queue1.items) (if q.second then processor.other0 else processor.first0) (if q.second then processor.other1 else processor.first1) t
   pub is : w ≡ word thread.home.code thread.index
 
 instruction_is : (IsOf : ℕ → Home → Type 0) (m : List ℕ) (queued0 queued1 old0 old1 : ℕ) (t : Thread) (w : ℕ) → Finds IsOf m → (left : ThreadStrict IsOf queued0 queued1 old0 old1 t) → w ≡ from_le_bytes w64 (bytes_at m t.place 8)
@@ -210,29 +210,29 @@ known OfJob IsOf orders s event q t w here all one =
     let processor : QpuStrict IsOf order0 order1 q = subst (λ (slot : Option Qpu). IfSome slot (QpuStrict IsOf order0 order1)) one.is (each_item (λ i p. QpuStrict IsOf (orders i 0) (orders i 1) p) 0 one.k one.k s.units.qpus (omega arith) all.qpus) in
     let old0 : ℕ = if q.second then processor.other0 else processor.first0 in
     let old1 : ℕ = if q.second then processor.other1 else processor.first1 in
-    let thread : ThreadStrict IsOf (queued q.second q.queue0.items) (queued q.second q.queue1.items) old0 old1 t =
-    subst (λ (slot : Option Thread). SlotStrict IsOf (queued q.second q.queue0.items) (queued q.second q.queue1.items) old0 old1 slot) one.active (active_strict IsOf order0 order1 q processor) in
+    let thread : ThreadStrict IsOf (queue_count q.second q.queue0.items) (queue_count q.second q.queue1.items) old0 old1 t =
+    subst (λ (slot : Option Thread). SlotStrict IsOf (queue_count q.second q.queue0.items) (queue_count q.second q.queue1.items) old0 old1 slot) one.active (active_strict IsOf order0 order1 q processor) in
     record {
       here = here;
       active = one.active;
       processor = processor;
       thread = thread;
-      is = instruction_is IsOf s.memory (queued q.second q.queue0.items) (queued q.second q.queue1.items) old0 old1 t w here thread one.next;
+      is = instruction_is IsOf s.memory (queue_count q.second q.queue0.items) (queue_count q.second q.queue1.items) old0 old1 t w here thread one.next;
     }
 
 module _ (IsOf : ℕ → Home → Type 0) (order0 order1 : List Bool) (m : List ℕ) (q : Qpu) (t : Thread) (w : ℕ) (one : Steps IsOf order0 order1 m q t w) where
-  pub facts : Before one.thread.home.code one.thread.index (queued q.second q.queue0.items) (queued q.second q.queue1.items) t
-  facts = before IsOf m (queued q.second q.queue0.items) (queued q.second q.queue1.items) (if q.second then one.processor.other0 else one.processor.first0) (if q.second then one.processor.other1 else one.processor.first1) t one.here one.thread
+  pub facts : Before one.thread.home.code one.thread.index (queue_count q.second q.queue0.items) (queue_count q.second q.queue1.items) t
+  facts = before IsOf m (queue_count q.second q.queue0.items) (queue_count q.second q.queue1.items) (if q.second then one.processor.other0 else one.processor.first0) (if q.second then one.processor.other1 else one.processor.first1) t one.here one.thread
 
   no_switch : fate_of t ≡ Switches → keeps_words t w ≡ false
   no_switch over =
       let switch = at_switch one.thread.home one.thread.index t one.thread.at over in
-      ap (keeps_words t) one.is ∙ no_words one.thread.home.code one.thread.index (queued q.second q.queue0.items) (queued q.second q.queue1.items) t facts
+      ap (keeps_words t) one.is ∙ no_words one.thread.home.code one.thread.index (queue_count q.second q.queue0.items) (queue_count q.second q.queue1.items) t facts
       (switch_none one.thread.home.code one.thread.index facts.strict facts.inside switch.0 switch.1)
 
   no_end : fate_of t ≡ Ends → keeps_words t w ≡ false
   no_end over =
-      ap (keeps_words t) one.is ∙ no_words one.thread.home.code one.thread.index (queued q.second q.queue0.items) (queued q.second q.queue1.items) t facts
+      ap (keeps_words t) one.is ∙ no_words one.thread.home.code one.thread.index (queue_count q.second q.queue0.items) (queue_count q.second q.queue1.items) t facts
       (end_none one.thread.home.code one.thread.index facts.sound facts.strict (at_end one.thread.home one.thread.index t one.thread.at over))
 
   no_load : loads_nothing q t w ≡ false
@@ -240,13 +240,13 @@ module _ (IsOf : ℕ → Home → Type 0) (order0 order1 : List Bool) (m : List 
   no_load =
       let code = one.thread.home.code in
       let n : ℕ = one.thread.index in
-      let count0 : ℕ = queued q.second q.queue0.items + length t.results0.items in
-      let count1 : ℕ = queued q.second q.queue1.items + length t.results1.items in
+      let count0 : ℕ = queue_count q.second q.queue0.items + length t.results0.items in
+      let count1 : ℕ = queue_count q.second q.queue1.items + length t.results1.items in
       ap (λ v. (loads v 0 && count0 == 0) || (loads v 1 && count1 == 0)) one.is
       ∙ or_from (loads (word code n) 0 && count0 == 0) (loads (word code n) 1 && count1 == 0) (has_some code 0 n count0 facts.queue0 facts.now.requests.none0) (has_some code 1 n count1 facts.queue1 facts.now.requests.none1)
 
-  no_room : sends w ≡ true → nat_le 4 (unloaded q) ≡ false
-  unfolding sends unloaded queue.requests_of
+  no_room : sends w ≡ true → nat_le 4 (count_unloaded q) ≡ false
+  unfolding sends count_unloaded queue.requests_of
   no_room sent =
       let code = one.thread.home.code in
       let n : ℕ = one.thread.index in
@@ -262,8 +262,8 @@ module _ (IsOf : ℕ → Home → Type 0) (order0 order1 : List Bool) (m : List 
   no_rest over =
       let code = one.thread.home.code in
       let n : ℕ = one.thread.index in
-      let count0 : ℕ = queued q.second q.queue0.items + length t.results0.items in
-      let count1 : ℕ = queued q.second q.queue1.items + length t.results1.items in
+      let count0 : ℕ = queue_count q.second q.queue0.items + length t.results0.items in
+      let count1 : ℕ = queue_count q.second q.queue1.items + length t.results1.items in
       let none = none_left code facts.sound facts.strict n (at_end one.thread.home n t one.thread.at over) in
       ap (λ v. nat_lt 0 ((count0 - one_if (loads v 0)) + one_if (writes_s v 0)) || nat_lt 0 ((count1 - one_if (loads v 1)) + one_if (writes_s v 1))) one.is
       ∙ or_from (nat_lt 0 ((count0 - one_if (loads (word code n) 0)) + one_if (writes_s (word code n) 0))) (nat_lt 0 ((count1 - one_if (loads (word code n) 1)) + one_if (writes_s (word code n) 1)))
@@ -271,7 +271,7 @@ module _ (IsOf : ℕ → Home → Type 0) (order0 order1 : List Bool) (m : List 
 
   no_closed : is_last t w ≡ true → uses_closed t w ≡ false
   no_closed last =
-      ap (uses_closed t) one.is ∙ closed_off one.thread.home.code one.thread.index (queued q.second q.queue0.items) (queued q.second q.queue1.items) t facts
+      ap (uses_closed t) one.is ∙ closed_off one.thread.home.code one.thread.index (queue_count q.second q.queue0.items) (queue_count q.second q.queue1.items) t facts
       (last_by one.thread.home one.thread.index t one.thread.at (ap (is_last t) (sym one.is) ∙ last))
 
   no_two : nat_lt 1 (peripherals w) ≡ false

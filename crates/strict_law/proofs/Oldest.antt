@@ -3,8 +3,8 @@ use Rattle.std.proofs.Common.{◌≡◌, ◌≤◌, ◌<◌, ◌⊎◌, ℕ, zer
 use Rattle.std.proofs.lemmas.Bool.{true≢false}
 use Rattle.shader_flow.specs.Flow.{word}
 use Rattle.qpu_law.specs.Home.{Home}
-use Rattle.qpu_machine.specs.{declared.state.Qpu.Qpu, declared.state.Request.Request, declared.state.Thread.Thread, Bounds.finished0, Bounds.finished1, Qpu.queued, Writes.loads}
-use Rattle.strict_rules.specs.{Queue.queue_of, Queue.acted, Rules.loads_none}
+use Rattle.qpu_machine.specs.{declared.state.Qpu.Qpu, declared.state.Request.Request, declared.state.Thread.Thread, Bounds.finished0, Bounds.finished1, Qpu.queue_count, Writes.loads}
+use Rattle.strict_rules.specs.{Queue.queue_of, Queue.last_act, Rules.loads_none}
 use Rattle.served_law.specs.Known.{AreBeside}
 use Rattle.strict_law.specs.{Known.QpuStrict, Known.InOrder, Order.oldest_of}
 use Rattle.served_law.proofs.{Shaders.same_load, Beside.beside_turn}
@@ -20,19 +20,19 @@ oldest_by false order first_old first_all other_old other_all threaded left few 
 
 -- the active thread's, and the other one's
 own_all : (second : Bool) (queue : List Request) (first other : Option Thread) (t : Thread) (count : Option Thread → ℕ) → (if second then other else first) ≡ Some t
-    → (if second then queued true queue + count other else queued false queue + count first) ≡ queued second queue + count (Some t)
-own_all true queue first other t count active = ap (λ slot. queued true queue + count slot) active
-own_all false queue first other t count active = ap (λ slot. queued false queue + count slot) active
+    → (if second then queue_count true queue + count other else queue_count false queue + count first) ≡ queue_count second queue + count (Some t)
+own_all true queue first other t count active = ap (λ slot. queue_count true queue + count slot) active
+own_all false queue first other t count active = ap (λ slot. queue_count false queue + count slot) active
 
 rest_all : (IsOf : ℕ → Home → Type 0) (order0 order1 : List Bool) (q : Qpu) (second : Bool) (t : Thread) → (left : QpuStrict IsOf order0 order1 (record q { second = second })) → (if second then q.other else q.first) ≡ Some t → t.threaded ≡ false
-    → ((if second then queued false q.queue0.items + finished0 q.first else queued true q.queue0.items + finished0 q.other) ≡ 0) × ((if second then queued false q.queue1.items + finished1 q.first else queued true q.queue1.items + finished1 q.other) ≡ 0)
+    → ((if second then queue_count false q.queue0.items + finished0 q.first else queue_count true q.queue0.items + finished0 q.other) ≡ 0) × ((if second then queue_count false q.queue1.items + finished1 q.first else queue_count true q.queue1.items + finished1 q.other) ≡ 0)
 rest_all IsOf order0 order1 q true t left active single =
     let beside : AreBeside (Some t) q.first = subst (λ (slot : Option Thread). AreBeside slot q.first) active (beside_turn q.first q.other left.beside) in
-    let none = single_slot IsOf (queued false q.queue0.items) (queued false q.queue1.items) left.first0 left.first1 t q.first beside single left.first in
+    let none = single_slot IsOf (queue_count false q.queue0.items) (queue_count false q.queue1.items) left.first0 left.first1 t q.first beside single left.first in
     (none.all0_is, none.all1_is)
 rest_all IsOf order0 order1 q false t left active single =
     let beside : AreBeside (Some t) q.other = subst (λ (slot : Option Thread). AreBeside slot q.other) active left.beside in
-    let none = single_slot IsOf (queued true q.queue0.items) (queued true q.queue1.items) left.other0 left.other1 t q.other beside single left.other in
+    let none = single_slot IsOf (queue_count true q.queue0.items) (queue_count true q.queue1.items) left.other0 left.other1 t q.other beside single left.other in
     (none.all0_is, none.all1_is)
 
 some_one : (load : Bool) (n : ℕ) → load ≡ true → (load && n == 0) ≡ false → 1 ≤ n
@@ -54,10 +54,10 @@ oldest_at IsOf orders m q t w one zero small load =
     let all = own_all q.second q.queue0.items q.first q.other t (λ slot. finished0 slot) one.active in
     let count = known.queue0 in
     let some = has_some h.code 0 n known.now.requests.none0 on in
-    let few = split_few (acted h.code n) (queue_of h.code 0 n) old one.thread.split0 in
-    oldest_by q.second (orders 0) left.first0 (queued false q.queue0.items + finished0 q.first) left.other0 (queued true q.queue0.items + finished0 q.other) t.threaded left.in0
+    let few = split_few (last_act h.code n) (queue_of h.code 0 n) old one.thread.split0 in
+    oldest_by q.second (orders 0) left.first0 (queue_count false q.queue0.items + finished0 q.first) left.other0 (queue_count true q.queue0.items + finished0 q.other) t.threaded left.in0
     (omega (arith, all, count, few)) (omega (arith, all, count, some))
-    (old_or_single h n 0 old (queued q.second q.queue0.items + length t.results0.items) t.threaded small one.thread.at.threaded known.strict known.inside one.thread.split0 count on (omega (arith, count, some)))
+    (old_or_single h n 0 old (queue_count q.second q.queue0.items + length t.results0.items) t.threaded small one.thread.at.threaded known.strict known.inside one.thread.split0 count on (omega (arith, count, some)))
     (λ single. (rest_all IsOf (orders 0) (orders 1) q q.second t left one.active single).0)
 oldest_at IsOf orders m q t w one (suc zero) small load =
     let left = one.processor in
@@ -69,9 +69,9 @@ oldest_at IsOf orders m q t w one (suc zero) small load =
     let all = own_all q.second q.queue1.items q.first q.other t (λ slot. finished1 slot) one.active in
     let count = known.queue1 in
     let some = has_some h.code 1 n known.now.requests.none1 on in
-    let few = split_few (acted h.code n) (queue_of h.code 1 n) old one.thread.split1 in
-    oldest_by q.second (orders 1) left.first1 (queued false q.queue1.items + finished1 q.first) left.other1 (queued true q.queue1.items + finished1 q.other) t.threaded left.in1
+    let few = split_few (last_act h.code n) (queue_of h.code 1 n) old one.thread.split1 in
+    oldest_by q.second (orders 1) left.first1 (queue_count false q.queue1.items + finished1 q.first) left.other1 (queue_count true q.queue1.items + finished1 q.other) t.threaded left.in1
     (omega (arith, all, count, few)) (omega (arith, all, count, some))
-    (old_or_single h n 1 old (queued q.second q.queue1.items + length t.results1.items) t.threaded small one.thread.at.threaded known.strict known.inside one.thread.split1 count on (omega (arith, count, some)))
+    (old_or_single h n 1 old (queue_count q.second q.queue1.items + length t.results1.items) t.threaded small one.thread.at.threaded known.strict known.inside one.thread.split1 count on (omega (arith, count, some)))
     (λ single. (rest_all IsOf (orders 0) (orders 1) q q.second t left one.active single).1)
 oldest_at IsOf orders m q t w one (suc (suc tmu)) small load = absurd (omega (arith, small))

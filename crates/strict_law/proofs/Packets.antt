@@ -4,8 +4,8 @@ use Rattle.std.proofs.lemmas.Bool.{and_parts, eq-eqb, ne_eqb, or_cases, true≢f
 use Rattle.std.proofs.{lemmas.Grind.common_steps, lemmas.Bool.Decides.nat_tests, lemmas.List.Sums.sum_by-cons}
 use Rattle.std.specs.Prelude.{count_by, unwrap_or}
 use Rattle.std.specs.List.{list_any}
-use Rattle.field_words.specs.Questions.{first_of, answered}
-use Rattle.field_words.proofs.{Nones.front_none, Nones.rest_none, Nones.none_answered, Questions.none_stands}
+use Rattle.field_words.specs.Questions.{first_of, with_answers}
+use Rattle.field_words.proofs.{Nones.front_none, Nones.rest_none, Nones.none_answered, Questions.none_broken}
 use Rattle.packets.specs.Opcode.{start_tile_binning, indexed_primitive_list, array_primitive_list, primitive_list_format, gl_shader_state}
 use Rattle.packets.specs.declared.config.Config.{Config}
 use Rattle.bin_walks.specs.Walks.{Kept, kept_after, nothing_kept, Drawing, Tame}
@@ -26,13 +26,13 @@ pub record BreaksNone (executed : List (List ℕ)) (packet : List ℕ) : Type 0 
 pub breaks_none : (executed : List (List ℕ)) (packet : List ℕ) (packets : List (List ℕ)) → first_of (asked_from executed (packet ∷ packets)) ≡ None → BreaksNone executed packet
 unfolding packet_questions
 breaks_none executed packet packets none =
-    let front = front_none (answered (list_fault (place executed)) (packet_questions (course_before executed) packet)) (asked_from (packet ∷ executed) packets) none in
-    let stands = none_stands (packet_questions (course_before executed) packet) (none_answered (list_fault (place executed)) (packet_questions (course_before executed) packet) front) in
+    let front = front_none (with_answers (list_fault (place executed)) (packet_questions (course_before executed) packet)) (asked_from (packet ∷ executed) packets) none in
+    let stands = none_broken (packet_questions (course_before executed) packet) (none_answered (list_fault (place executed)) (packet_questions (course_before executed) packet) front) in
     record { kind = stands.0; count = stands.1.0; format = stands.1.1.0 }
 
 pub rest_strict : (executed : List (List ℕ)) (packet : List ℕ) (packets : List (List ℕ)) → first_of (asked_from executed (packet ∷ packets)) ≡ None → first_of (asked_from (packet ∷ executed) packets) ≡ None
 rest_strict executed packet packets none =
-    rest_none (answered (list_fault (place executed)) (packet_questions (course_before executed) packet)) (asked_from (packet ∷ executed) packets) none
+    rest_none (with_answers (list_fault (place executed)) (packet_questions (course_before executed) packet)) (asked_from (packet ∷ executed) packets) none
 
 -- E9
 kind_by : (indexed array : Bool) (b : ℕ) → (indexed || array) ≡ true → ((indexed && (nat_lt 1 (b / 16) || nat_lt 6 (b % 16))) || (array && nat_lt 6 b)) ≡ false

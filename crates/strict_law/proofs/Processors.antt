@@ -5,7 +5,7 @@ use Rattle.std.specs.Prelude.{drop, is_none, is_some, option_map}
 use Rattle.machine_plan.specs.{declared.launch.Launch.Launch}
 use Rattle.qpu_law.specs.Home.{Home}
 use Rattle.qpu_machine.specs.declared.state.Fate.TheVariants.{GoesOn, Switches, Ends}
-use Rattle.qpu_machine.specs.Qpu.{active_of, queued, left_by, gives_way, woken_slot, queue_with, settled, went, oldest, queue_of, with_result, dropped, given, served, has_none, is_beside, takes_first, takes_other, in_first, in_other, started_in, launched}
+use Rattle.qpu_machine.specs.Qpu.{active_of, queue_count, left_by, gives_way, woken_slot, queue_with, after_turn, went, oldest, queue_of, with_result, after_drop, result_given, after_service, has_none, is_beside, takes_first, takes_other, in_first, in_other, started_in, after_launch}
 use Rattle.qpu_machine.specs.{declared.state.Asked.Asked, declared.state.Fate.Fate, declared.state.Qpu.Qpu, declared.state.Request.Request}
 use Rattle.qpu_machine.specs.{declared.state.Thread.Thread, Start.thread_of, Step.ThreadTurn}
 use Rattle.promises.specs.Steps.{one_if}
@@ -106,9 +106,9 @@ own_has t Switches queued0 queued1 = (λ over. refl, λ over. refl)
 own_has t Ends queued0 queued1 = (λ over. let none = over refl in omega (arith, none), λ over. let none = over refl in omega (arith, none))
 
 settled_strict : (IsOf : ℕ → Home → Type 0) (q : Qpu) (second : Bool) (t : Thread) (w : ℕ) (turn : ThreadTurn) (order0 order1 : List Bool) → (if second then q.other else q.first) ≡ Some t → (left : QpuStrict IsOf order0 order1 (record q { second = second }))
-    → ThreadGoes IsOf (queued second q.queue0.items) (queued second q.queue1.items) (if second then left.other0 else left.first0) (if second then left.other1 else left.first1) t w turn
+    → ThreadGoes IsOf (queue_count second q.queue0.items) (queue_count second q.queue1.items) (if second then left.other0 else left.first0) (if second then left.other1 else left.first1) t w turn
     → QpuStrict IsOf (order_after 0 w second order0) (order_after 1 w second order1) (went (record q { second = second }) t turn)
-unfolding settled
+unfolding after_turn
 settled_strict IsOf q true t w turn order0 order1 active left goes =
     let fate : Fate = turn.leaves.fate in
     let over : Bool = gives_way fate in
@@ -118,42 +118,42 @@ settled_strict IsOf q true t w turn order0 order1 active left goes =
     let own1 = own_queued 1 true t.job asked q.queue1.items in
     let rest0 = other_queued 0 true t.job asked q.queue0.items in
     let rest1 = other_queued 1 true t.job asked q.queue1.items in
-    let next0 : ℕ = queued true q.queue0.items + asks 0 asked + length turn.thread.results0.items in
-    let next1 : ℕ = queued true q.queue1.items + asks 1 asked + length turn.thread.results1.items in
-    let has = own_has turn.thread fate (queued true q.queue0.items + asks 0 asked) (queued true q.queue1.items + asks 1 asked) in
+    let next0 : ℕ = queue_count true q.queue0.items + asks 0 asked + length turn.thread.results0.items in
+    let next1 : ℕ = queue_count true q.queue1.items + asks 1 asked + length turn.thread.results1.items in
+    let has = own_has turn.thread fate (queue_count true q.queue0.items + asks 0 asked) (queue_count true q.queue1.items + asks 1 asked) in
     let woken = woken_has over q.first in
     let beside : AreBeside (Some t) q.first = subst (λ (slot : Option Thread). AreBeside slot q.first) active (beside_turn q.first q.other left.beside) in
-    let all0 : queued true q.queue0.items + finished0 q.other ≡ queued true q.queue0.items + length t.results0.items = ap (λ (slot : Option Thread). queued true q.queue0.items + finished0 slot) active in
-    let all1 : queued true q.queue1.items + finished1 q.other ≡ queued true q.queue1.items + length t.results1.items = ap (λ (slot : Option Thread). queued true q.queue1.items + finished1 slot) active in
-    let nothing : t.threaded ≡ false → HasNothing (queued false q.queue0.items + finished0 q.first) (queued false q.queue1.items + finished1 q.first) left.first0 left.first1 =
-    λ off. single_slot IsOf (queued false q.queue0.items) (queued false q.queue1.items) left.first0 left.first1 t q.first beside off left.first in
-    let idle : q.first ≡ None → HasNothing (queued false q.queue0.items + finished0 q.first) (queued false q.queue1.items + finished1 q.first) left.first0 left.first1 =
-    λ none. idle_slot IsOf (queued false q.queue0.items) (queued false q.queue1.items) left.first0 left.first1 q.first none left.first in
+    let all0 : queue_count true q.queue0.items + finished0 q.other ≡ queue_count true q.queue0.items + length t.results0.items = ap (λ (slot : Option Thread). queue_count true q.queue0.items + finished0 slot) active in
+    let all1 : queue_count true q.queue1.items + finished1 q.other ≡ queue_count true q.queue1.items + length t.results1.items = ap (λ (slot : Option Thread). queue_count true q.queue1.items + finished1 slot) active in
+    let nothing : t.threaded ≡ false → HasNothing (queue_count false q.queue0.items + finished0 q.first) (queue_count false q.queue1.items + finished1 q.first) left.first0 left.first1 =
+    λ off. single_slot IsOf (queue_count false q.queue0.items) (queue_count false q.queue1.items) left.first0 left.first1 t q.first beside off left.first in
+    let idle : q.first ≡ None → HasNothing (queue_count false q.queue0.items + finished0 q.first) (queue_count false q.queue1.items + finished1 q.first) left.first0 left.first1 =
+    λ none. idle_slot IsOf (queue_count false q.queue0.items) (queue_count false q.queue1.items) left.first0 left.first1 q.first none left.first in
     record {
       first0 = left.first0;
       first1 = left.first1;
       other0 = next_old fate (left.other0 - one_if (loads w 0)) next0;
       other1 = next_old fate (left.other1 - one_if (loads w 1)) next1;
-      first = slot_same IsOf (queued false q.queue0.items) (queued false q.queue1.items) (queued false (queue_with 0 true t.job asked q.queue0.items)) (queued false (queue_with 1 true t.job asked q.queue1.items)) left.first0 left.first1 (woken_slot over q.first)
-          (sym rest0) (sym rest1) (woken_strict IsOf (queued false q.queue0.items) (queued false q.queue1.items) left.first0 left.first1 over q.first left.first);
-      other = slot_same IsOf (queued true q.queue0.items + asks 0 asked) (queued true q.queue1.items + asks 1 asked) (queued true (queue_with 0 true t.job asked q.queue0.items)) (queued true (queue_with 1 true t.job asked q.queue1.items))
+      first = slot_same IsOf (queue_count false q.queue0.items) (queue_count false q.queue1.items) (queue_count false (queue_with 0 true t.job asked q.queue0.items)) (queue_count false (queue_with 1 true t.job asked q.queue1.items)) left.first0 left.first1 (woken_slot over q.first)
+          (sym rest0) (sym rest1) (woken_strict IsOf (queue_count false q.queue0.items) (queue_count false q.queue1.items) left.first0 left.first1 over q.first left.first);
+      other = slot_same IsOf (queue_count true q.queue0.items + asks 0 asked) (queue_count true q.queue1.items + asks 1 asked) (queue_count true (queue_with 0 true t.job asked q.queue0.items)) (queue_count true (queue_with 1 true t.job asked q.queue1.items))
           (next_old fate (left.other0 - one_if (loads w 0)) next0) (next_old fate (left.other1 - one_if (loads w 1)) next1) own (sym own0) (sym own1)
-          (own_strict IsOf (queued true q.queue0.items + asks 0 asked) (queued true q.queue1.items + asks 1 asked) (left.other0 - one_if (loads w 0)) (left.other1 - one_if (loads w 1)) next0 next1 turn.thread fate goes.left
+          (own_strict IsOf (queue_count true q.queue0.items + asks 0 asked) (queue_count true q.queue1.items + asks 1 asked) (left.other0 - one_if (loads w 0)) (left.other1 - one_if (loads w 1)) next0 next1 turn.thread fate goes.left
           (λ ends. let none = goes.over ends in let none0 = none.0 in let none1 = none.1 in (omega (arith, none0), omega (arith, none1))));
       beside = beside_both q.first q.other (woken_slot over q.first) own (like_woken over q.first) (subst (λ (slot : Option Thread). IsLike own slot) (sym active) (like_left t turn.thread fate goes.threaded)) left.beside;
       rests = rest_first over q.first own left.rests (own_rests turn.thread fate goes.words);
-      in0 = in_same (if over && is_some q.first then false else true) (order_after 0 w true order0) left.first0 (queued false q.queue0.items + finished0 q.first) (next_old fate (left.other0 - one_if (loads w 0)) next0) next0
-          (queued false (queue_with 0 true t.job asked q.queue0.items) + finished0 (woken_slot over q.first)) (queued true (queue_with 0 true t.job asked q.queue0.items) + finished0 own)
-          (ap (λ n. n + finished0 q.first) (sym rest0) ∙ ap (λ n. queued false (queue_with 0 true t.job asked q.queue0.items) + n) (sym woken.0)) (has.0 (λ ends. (goes.over ends).0) ∙ ap (λ n. n + finished0 own) (sym own0))
-          (in_settled_other (over && is_some q.first) (order_after 0 w true order0) left.first0 (queued false q.queue0.items + finished0 q.first) (next_old fate (left.other0 - one_if (loads w 0)) next0) next0
-          (settled_order true (loads w 0) (writes_s w 0) t.threaded order0 left.other0 (queued true q.queue0.items + length t.results0.items) left.first0 (queued false q.queue0.items + finished0 q.first) next0 fate q.first
-          (subst (λ n. Ordered true order0 left.other0 n left.first0 (queued false q.queue0.items + finished0 q.first)) all0 left.in0) goes.goes0 (λ off. (nothing off).all0_is) (λ ends. (goes.over ends).0) (λ none. (idle none).all0_is)));
-      in1 = in_same (if over && is_some q.first then false else true) (order_after 1 w true order1) left.first1 (queued false q.queue1.items + finished1 q.first) (next_old fate (left.other1 - one_if (loads w 1)) next1) next1
-          (queued false (queue_with 1 true t.job asked q.queue1.items) + finished1 (woken_slot over q.first)) (queued true (queue_with 1 true t.job asked q.queue1.items) + finished1 own)
-          (ap (λ n. n + finished1 q.first) (sym rest1) ∙ ap (λ n. queued false (queue_with 1 true t.job asked q.queue1.items) + n) (sym woken.1)) (has.1 (λ ends. (goes.over ends).1) ∙ ap (λ n. n + finished1 own) (sym own1))
-          (in_settled_other (over && is_some q.first) (order_after 1 w true order1) left.first1 (queued false q.queue1.items + finished1 q.first) (next_old fate (left.other1 - one_if (loads w 1)) next1) next1
-          (settled_order true (loads w 1) (writes_s w 1) t.threaded order1 left.other1 (queued true q.queue1.items + length t.results1.items) left.first1 (queued false q.queue1.items + finished1 q.first) next1 fate q.first
-          (subst (λ n. Ordered true order1 left.other1 n left.first1 (queued false q.queue1.items + finished1 q.first)) all1 left.in1) goes.goes1 (λ off. (nothing off).all1_is) (λ ends. (goes.over ends).1) (λ none. (idle none).all1_is)));
+      in0 = in_same (if over && is_some q.first then false else true) (order_after 0 w true order0) left.first0 (queue_count false q.queue0.items + finished0 q.first) (next_old fate (left.other0 - one_if (loads w 0)) next0) next0
+          (queue_count false (queue_with 0 true t.job asked q.queue0.items) + finished0 (woken_slot over q.first)) (queue_count true (queue_with 0 true t.job asked q.queue0.items) + finished0 own)
+          (ap (λ n. n + finished0 q.first) (sym rest0) ∙ ap (λ n. queue_count false (queue_with 0 true t.job asked q.queue0.items) + n) (sym woken.0)) (has.0 (λ ends. (goes.over ends).0) ∙ ap (λ n. n + finished0 own) (sym own0))
+          (in_settled_other (over && is_some q.first) (order_after 0 w true order0) left.first0 (queue_count false q.queue0.items + finished0 q.first) (next_old fate (left.other0 - one_if (loads w 0)) next0) next0
+          (settled_order true (loads w 0) (writes_s w 0) t.threaded order0 left.other0 (queue_count true q.queue0.items + length t.results0.items) left.first0 (queue_count false q.queue0.items + finished0 q.first) next0 fate q.first
+          (subst (λ n. Ordered true order0 left.other0 n left.first0 (queue_count false q.queue0.items + finished0 q.first)) all0 left.in0) goes.goes0 (λ off. (nothing off).all0_is) (λ ends. (goes.over ends).0) (λ none. (idle none).all0_is)));
+      in1 = in_same (if over && is_some q.first then false else true) (order_after 1 w true order1) left.first1 (queue_count false q.queue1.items + finished1 q.first) (next_old fate (left.other1 - one_if (loads w 1)) next1) next1
+          (queue_count false (queue_with 1 true t.job asked q.queue1.items) + finished1 (woken_slot over q.first)) (queue_count true (queue_with 1 true t.job asked q.queue1.items) + finished1 own)
+          (ap (λ n. n + finished1 q.first) (sym rest1) ∙ ap (λ n. queue_count false (queue_with 1 true t.job asked q.queue1.items) + n) (sym woken.1)) (has.1 (λ ends. (goes.over ends).1) ∙ ap (λ n. n + finished1 own) (sym own1))
+          (in_settled_other (over && is_some q.first) (order_after 1 w true order1) left.first1 (queue_count false q.queue1.items + finished1 q.first) (next_old fate (left.other1 - one_if (loads w 1)) next1) next1
+          (settled_order true (loads w 1) (writes_s w 1) t.threaded order1 left.other1 (queue_count true q.queue1.items + length t.results1.items) left.first1 (queue_count false q.queue1.items + finished1 q.first) next1 fate q.first
+          (subst (λ n. Ordered true order1 left.other1 n left.first1 (queue_count false q.queue1.items + finished1 q.first)) all1 left.in1) goes.goes1 (λ off. (nothing off).all1_is) (λ ends. (goes.over ends).1) (λ none. (idle none).all1_is)));
     }
 settled_strict IsOf q false t w turn order0 order1 active left goes =
     let fate : Fate = turn.leaves.fate in
@@ -164,56 +164,56 @@ settled_strict IsOf q false t w turn order0 order1 active left goes =
     let own1 = own_queued 1 false t.job asked q.queue1.items in
     let rest0 = other_queued 0 false t.job asked q.queue0.items in
     let rest1 = other_queued 1 false t.job asked q.queue1.items in
-    let next0 : ℕ = queued false q.queue0.items + asks 0 asked + length turn.thread.results0.items in
-    let next1 : ℕ = queued false q.queue1.items + asks 1 asked + length turn.thread.results1.items in
-    let has = own_has turn.thread fate (queued false q.queue0.items + asks 0 asked) (queued false q.queue1.items + asks 1 asked) in
+    let next0 : ℕ = queue_count false q.queue0.items + asks 0 asked + length turn.thread.results0.items in
+    let next1 : ℕ = queue_count false q.queue1.items + asks 1 asked + length turn.thread.results1.items in
+    let has = own_has turn.thread fate (queue_count false q.queue0.items + asks 0 asked) (queue_count false q.queue1.items + asks 1 asked) in
     let woken = woken_has over q.other in
     let beside : AreBeside (Some t) q.other = subst (λ (slot : Option Thread). AreBeside slot q.other) active left.beside in
-    let all0 : queued false q.queue0.items + finished0 q.first ≡ queued false q.queue0.items + length t.results0.items = ap (λ (slot : Option Thread). queued false q.queue0.items + finished0 slot) active in
-    let all1 : queued false q.queue1.items + finished1 q.first ≡ queued false q.queue1.items + length t.results1.items = ap (λ (slot : Option Thread). queued false q.queue1.items + finished1 slot) active in
-    let nothing : t.threaded ≡ false → HasNothing (queued true q.queue0.items + finished0 q.other) (queued true q.queue1.items + finished1 q.other) left.other0 left.other1 =
-    λ off. single_slot IsOf (queued true q.queue0.items) (queued true q.queue1.items) left.other0 left.other1 t q.other beside off left.other in
-    let idle : q.other ≡ None → HasNothing (queued true q.queue0.items + finished0 q.other) (queued true q.queue1.items + finished1 q.other) left.other0 left.other1 =
-    λ none. idle_slot IsOf (queued true q.queue0.items) (queued true q.queue1.items) left.other0 left.other1 q.other none left.other in
+    let all0 : queue_count false q.queue0.items + finished0 q.first ≡ queue_count false q.queue0.items + length t.results0.items = ap (λ (slot : Option Thread). queue_count false q.queue0.items + finished0 slot) active in
+    let all1 : queue_count false q.queue1.items + finished1 q.first ≡ queue_count false q.queue1.items + length t.results1.items = ap (λ (slot : Option Thread). queue_count false q.queue1.items + finished1 slot) active in
+    let nothing : t.threaded ≡ false → HasNothing (queue_count true q.queue0.items + finished0 q.other) (queue_count true q.queue1.items + finished1 q.other) left.other0 left.other1 =
+    λ off. single_slot IsOf (queue_count true q.queue0.items) (queue_count true q.queue1.items) left.other0 left.other1 t q.other beside off left.other in
+    let idle : q.other ≡ None → HasNothing (queue_count true q.queue0.items + finished0 q.other) (queue_count true q.queue1.items + finished1 q.other) left.other0 left.other1 =
+    λ none. idle_slot IsOf (queue_count true q.queue0.items) (queue_count true q.queue1.items) left.other0 left.other1 q.other none left.other in
     record {
       other0 = left.other0;
       other1 = left.other1;
       first0 = next_old fate (left.first0 - one_if (loads w 0)) next0;
       first1 = next_old fate (left.first1 - one_if (loads w 1)) next1;
-      other = slot_same IsOf (queued true q.queue0.items) (queued true q.queue1.items) (queued true (queue_with 0 false t.job asked q.queue0.items)) (queued true (queue_with 1 false t.job asked q.queue1.items)) left.other0 left.other1 (woken_slot over q.other)
-          (sym rest0) (sym rest1) (woken_strict IsOf (queued true q.queue0.items) (queued true q.queue1.items) left.other0 left.other1 over q.other left.other);
-      first = slot_same IsOf (queued false q.queue0.items + asks 0 asked) (queued false q.queue1.items + asks 1 asked) (queued false (queue_with 0 false t.job asked q.queue0.items)) (queued false (queue_with 1 false t.job asked q.queue1.items))
+      other = slot_same IsOf (queue_count true q.queue0.items) (queue_count true q.queue1.items) (queue_count true (queue_with 0 false t.job asked q.queue0.items)) (queue_count true (queue_with 1 false t.job asked q.queue1.items)) left.other0 left.other1 (woken_slot over q.other)
+          (sym rest0) (sym rest1) (woken_strict IsOf (queue_count true q.queue0.items) (queue_count true q.queue1.items) left.other0 left.other1 over q.other left.other);
+      first = slot_same IsOf (queue_count false q.queue0.items + asks 0 asked) (queue_count false q.queue1.items + asks 1 asked) (queue_count false (queue_with 0 false t.job asked q.queue0.items)) (queue_count false (queue_with 1 false t.job asked q.queue1.items))
           (next_old fate (left.first0 - one_if (loads w 0)) next0) (next_old fate (left.first1 - one_if (loads w 1)) next1) own (sym own0) (sym own1)
-          (own_strict IsOf (queued false q.queue0.items + asks 0 asked) (queued false q.queue1.items + asks 1 asked) (left.first0 - one_if (loads w 0)) (left.first1 - one_if (loads w 1)) next0 next1 turn.thread fate goes.left
+          (own_strict IsOf (queue_count false q.queue0.items + asks 0 asked) (queue_count false q.queue1.items + asks 1 asked) (left.first0 - one_if (loads w 0)) (left.first1 - one_if (loads w 1)) next0 next1 turn.thread fate goes.left
           (λ ends. let none = goes.over ends in let none0 = none.0 in let none1 = none.1 in (omega (arith, none0), omega (arith, none1))));
       beside = beside_both q.first q.other own (woken_slot over q.other) (subst (λ (slot : Option Thread). IsLike own slot) (sym active) (like_left t turn.thread fate goes.threaded)) (like_woken over q.other) left.beside;
       rests = rest_other over q.other own left.rests (own_rests turn.thread fate goes.words);
-      in0 = in_turn (if over && is_some q.other then true else false) (order_after 0 w false order0) left.other0 (queued true q.queue0.items + finished0 q.other) (next_old fate (left.first0 - one_if (loads w 0)) next0) next0
-          (queued true (queue_with 0 false t.job asked q.queue0.items) + finished0 (woken_slot over q.other)) (queued false (queue_with 0 false t.job asked q.queue0.items) + finished0 own)
-          (ap (λ n. n + finished0 q.other) (sym rest0) ∙ ap (λ n. queued true (queue_with 0 false t.job asked q.queue0.items) + n) (sym woken.0)) (has.0 (λ ends. (goes.over ends).0) ∙ ap (λ n. n + finished0 own) (sym own0))
-          (in_settled_first (over && is_some q.other) (order_after 0 w false order0) left.other0 (queued true q.queue0.items + finished0 q.other) (next_old fate (left.first0 - one_if (loads w 0)) next0) next0
-          (settled_order false (loads w 0) (writes_s w 0) t.threaded order0 left.first0 (queued false q.queue0.items + length t.results0.items) left.other0 (queued true q.queue0.items + finished0 q.other) next0 fate q.other
-          (subst (λ n. Ordered false order0 left.first0 n left.other0 (queued true q.queue0.items + finished0 q.other)) all0 left.in0) goes.goes0 (λ off. (nothing off).all0_is) (λ ends. (goes.over ends).0) (λ none. (idle none).all0_is)));
-      in1 = in_turn (if over && is_some q.other then true else false) (order_after 1 w false order1) left.other1 (queued true q.queue1.items + finished1 q.other) (next_old fate (left.first1 - one_if (loads w 1)) next1) next1
-          (queued true (queue_with 1 false t.job asked q.queue1.items) + finished1 (woken_slot over q.other)) (queued false (queue_with 1 false t.job asked q.queue1.items) + finished1 own)
-          (ap (λ n. n + finished1 q.other) (sym rest1) ∙ ap (λ n. queued true (queue_with 1 false t.job asked q.queue1.items) + n) (sym woken.1)) (has.1 (λ ends. (goes.over ends).1) ∙ ap (λ n. n + finished1 own) (sym own1))
-          (in_settled_first (over && is_some q.other) (order_after 1 w false order1) left.other1 (queued true q.queue1.items + finished1 q.other) (next_old fate (left.first1 - one_if (loads w 1)) next1) next1
-          (settled_order false (loads w 1) (writes_s w 1) t.threaded order1 left.first1 (queued false q.queue1.items + length t.results1.items) left.other1 (queued true q.queue1.items + finished1 q.other) next1 fate q.other
-          (subst (λ n. Ordered false order1 left.first1 n left.other1 (queued true q.queue1.items + finished1 q.other)) all1 left.in1) goes.goes1 (λ off. (nothing off).all1_is) (λ ends. (goes.over ends).1) (λ none. (idle none).all1_is)));
+      in0 = in_turn (if over && is_some q.other then true else false) (order_after 0 w false order0) left.other0 (queue_count true q.queue0.items + finished0 q.other) (next_old fate (left.first0 - one_if (loads w 0)) next0) next0
+          (queue_count true (queue_with 0 false t.job asked q.queue0.items) + finished0 (woken_slot over q.other)) (queue_count false (queue_with 0 false t.job asked q.queue0.items) + finished0 own)
+          (ap (λ n. n + finished0 q.other) (sym rest0) ∙ ap (λ n. queue_count true (queue_with 0 false t.job asked q.queue0.items) + n) (sym woken.0)) (has.0 (λ ends. (goes.over ends).0) ∙ ap (λ n. n + finished0 own) (sym own0))
+          (in_settled_first (over && is_some q.other) (order_after 0 w false order0) left.other0 (queue_count true q.queue0.items + finished0 q.other) (next_old fate (left.first0 - one_if (loads w 0)) next0) next0
+          (settled_order false (loads w 0) (writes_s w 0) t.threaded order0 left.first0 (queue_count false q.queue0.items + length t.results0.items) left.other0 (queue_count true q.queue0.items + finished0 q.other) next0 fate q.other
+          (subst (λ n. Ordered false order0 left.first0 n left.other0 (queue_count true q.queue0.items + finished0 q.other)) all0 left.in0) goes.goes0 (λ off. (nothing off).all0_is) (λ ends. (goes.over ends).0) (λ none. (idle none).all0_is)));
+      in1 = in_turn (if over && is_some q.other then true else false) (order_after 1 w false order1) left.other1 (queue_count true q.queue1.items + finished1 q.other) (next_old fate (left.first1 - one_if (loads w 1)) next1) next1
+          (queue_count true (queue_with 1 false t.job asked q.queue1.items) + finished1 (woken_slot over q.other)) (queue_count false (queue_with 1 false t.job asked q.queue1.items) + finished1 own)
+          (ap (λ n. n + finished1 q.other) (sym rest1) ∙ ap (λ n. queue_count true (queue_with 1 false t.job asked q.queue1.items) + n) (sym woken.1)) (has.1 (λ ends. (goes.over ends).1) ∙ ap (λ n. n + finished1 own) (sym own1))
+          (in_settled_first (over && is_some q.other) (order_after 1 w false order1) left.other1 (queue_count true q.queue1.items + finished1 q.other) (next_old fate (left.first1 - one_if (loads w 1)) next1) next1
+          (settled_order false (loads w 1) (writes_s w 1) t.threaded order1 left.first1 (queue_count false q.queue1.items + length t.results1.items) left.other1 (queue_count true q.queue1.items + finished1 q.other) next1 fate q.other
+          (subst (λ n. Ordered false order1 left.first1 n left.other1 (queue_count true q.queue1.items + finished1 q.other)) all1 left.in1) goes.goes1 (λ off. (nothing off).all1_is) (λ ends. (goes.over ends).1) (λ none. (idle none).all1_is)));
     }
 
-active_by : (IsOf : ℕ → Home → Type 0) (second : Bool) (queue0 queue1 : List Request) (first0 first1 other0 other1 : ℕ) (first other : Option Thread) → SlotStrict IsOf (queued false queue0) (queued false queue1) first0 first1 first
-    → SlotStrict IsOf (queued true queue0) (queued true queue1) other0 other1 other
-    → SlotStrict IsOf (queued second queue0) (queued second queue1) (if second then other0 else first0) (if second then other1 else first1) (if second then other else first)
+active_by : (IsOf : ℕ → Home → Type 0) (second : Bool) (queue0 queue1 : List Request) (first0 first1 other0 other1 : ℕ) (first other : Option Thread) → SlotStrict IsOf (queue_count false queue0) (queue_count false queue1) first0 first1 first
+    → SlotStrict IsOf (queue_count true queue0) (queue_count true queue1) other0 other1 other
+    → SlotStrict IsOf (queue_count second queue0) (queue_count second queue1) (if second then other0 else first0) (if second then other1 else first1) (if second then other else first)
 active_by IsOf true queue0 queue1 first0 first1 other0 other1 first other one two = two
 active_by IsOf false queue0 queue1 first0 first1 other0 other1 first other one two = one
 
 pub active_strict : (IsOf : ℕ → Home → Type 0) (order0 order1 : List Bool) (q : Qpu) → (left : QpuStrict IsOf order0 order1 q)
-    → SlotStrict IsOf (queued q.second q.queue0.items) (queued q.second q.queue1.items) (if q.second then left.other0 else left.first0) (if q.second then left.other1 else left.first1) (active_of q)
+    → SlotStrict IsOf (queue_count q.second q.queue0.items) (queue_count q.second q.queue1.items) (if q.second then left.other0 else left.first0) (if q.second then left.other1 else left.first1) (active_of q)
 active_strict IsOf order0 order1 q left = active_by IsOf q.second q.queue0.items q.queue1.items left.first0 left.first1 left.other0 left.other1 q.first q.other left.first left.other
 
 pub went_strict : (IsOf : ℕ → Home → Type 0) (q : Qpu) (t : Thread) (w : ℕ) (turn : ThreadTurn) (order0 order1 : List Bool) → active_of q ≡ Some t → (left : QpuStrict IsOf order0 order1 q)
-    → ThreadGoes IsOf (queued q.second q.queue0.items) (queued q.second q.queue1.items) (if q.second then left.other0 else left.first0) (if q.second then left.other1 else left.first1) t w turn
+    → ThreadGoes IsOf (queue_count q.second q.queue0.items) (queue_count q.second q.queue1.items) (if q.second then left.other0 else left.first0) (if q.second then left.other1 else left.first1) t w turn
     → QpuStrict IsOf (order_after 0 w q.second order0) (order_after 1 w q.second order1) (went q t turn)
 went_strict IsOf q t w turn order0 order1 active left goes = settled_strict IsOf q q.second t w turn order0 order1 active left goes
 
@@ -268,26 +268,26 @@ first_rests true tmu row first other none = got_rests tmu row first none
 first_rests false tmu row first other none = none
 
 served_by : (IsOf : ℕ → Home → Type 0) (tmu : ℕ) (q : Qpu) (second : Bool) (request : Request) (row : Option (List ℕ)) (order0 order1 : List Bool) → QpuStrict IsOf order0 order1 q → oldest (queue_of q tmu) ≡ Some request → request.second ≡ second
-    → QpuStrict IsOf order0 order1 (given (dropped q tmu) tmu second row)
-unfolding dropped given
+    → QpuStrict IsOf order0 order1 (result_given (after_drop q tmu) tmu second row)
+unfolding after_drop result_given
 served_by IsOf tmu q true request row order0 order1 left is mine =
     let one = taken_mine (tmu == 0) true q.queue0.items q.queue1.items request is mine in
     let two = taken_other (tmu == 0) true q.queue0.items q.queue1.items request is mine in
     let requests0 : List Request = if tmu == 0 then drop 1 q.queue0.items else q.queue0.items in
     let requests1 : List Request = if tmu == 0 then q.queue1.items else drop 1 q.queue1.items in
-    let all = got_all IsOf (queued true q.queue0.items) (queued true q.queue1.items) (queued true requests0) (queued true requests1) left.other0 left.other1 tmu row q.other one.0 one.1 left.other in
+    let all = got_all IsOf (queue_count true q.queue0.items) (queue_count true q.queue1.items) (queue_count true requests0) (queue_count true requests1) left.other0 left.other1 tmu row q.other one.0 one.1 left.other in
     record {
       first0 = left.first0;
       first1 = left.first1;
       other0 = left.other0;
       other1 = left.other1;
-      first = slot_same IsOf (queued false q.queue0.items) (queued false q.queue1.items) (queued false requests0) (queued false requests1) left.first0 left.first1 q.first two.0 two.1 left.first;
-      other = got_strict IsOf (queued true q.queue0.items) (queued true q.queue1.items) (queued true requests0) (queued true requests1) left.other0 left.other1 tmu row q.other one.0 one.1 left.other;
+      first = slot_same IsOf (queue_count false q.queue0.items) (queue_count false q.queue1.items) (queue_count false requests0) (queue_count false requests1) left.first0 left.first1 q.first two.0 two.1 left.first;
+      other = got_strict IsOf (queue_count true q.queue0.items) (queue_count true q.queue1.items) (queue_count true requests0) (queue_count true requests1) left.other0 left.other1 tmu row q.other one.0 one.1 left.other;
       beside = beside_both q.first q.other q.first (option_map (with_result tmu row) q.other) (like_same q.first) (like_result tmu row q.other) left.beside;
       rests = other_rests q.second tmu row q.first q.other left.rests;
-      in0 = in_same q.second order0 left.first0 (queued false q.queue0.items + finished0 q.first) left.other0 (queued true q.queue0.items + finished0 q.other) (queued false requests0 + finished0 q.first) (queued true requests0 + finished0 (option_map (with_result tmu row) q.other))
+      in0 = in_same q.second order0 left.first0 (queue_count false q.queue0.items + finished0 q.first) left.other0 (queue_count true q.queue0.items + finished0 q.other) (queue_count false requests0 + finished0 q.first) (queue_count true requests0 + finished0 (option_map (with_result tmu row) q.other))
           (ap (λ n. n + finished0 q.first) two.0) all.0 left.in0;
-      in1 = in_same q.second order1 left.first1 (queued false q.queue1.items + finished1 q.first) left.other1 (queued true q.queue1.items + finished1 q.other) (queued false requests1 + finished1 q.first) (queued true requests1 + finished1 (option_map (with_result tmu row) q.other))
+      in1 = in_same q.second order1 left.first1 (queue_count false q.queue1.items + finished1 q.first) left.other1 (queue_count true q.queue1.items + finished1 q.other) (queue_count false requests1 + finished1 q.first) (queue_count true requests1 + finished1 (option_map (with_result tmu row) q.other))
           (ap (λ n. n + finished1 q.first) two.1) all.1 left.in1;
     }
 served_by IsOf tmu q false request row order0 order1 left is mine =
@@ -295,24 +295,24 @@ served_by IsOf tmu q false request row order0 order1 left is mine =
     let two = taken_other (tmu == 0) false q.queue0.items q.queue1.items request is mine in
     let requests0 : List Request = if tmu == 0 then drop 1 q.queue0.items else q.queue0.items in
     let requests1 : List Request = if tmu == 0 then q.queue1.items else drop 1 q.queue1.items in
-    let all = got_all IsOf (queued false q.queue0.items) (queued false q.queue1.items) (queued false requests0) (queued false requests1) left.first0 left.first1 tmu row q.first one.0 one.1 left.first in
+    let all = got_all IsOf (queue_count false q.queue0.items) (queue_count false q.queue1.items) (queue_count false requests0) (queue_count false requests1) left.first0 left.first1 tmu row q.first one.0 one.1 left.first in
     record {
       first0 = left.first0;
       first1 = left.first1;
       other0 = left.other0;
       other1 = left.other1;
-      first = got_strict IsOf (queued false q.queue0.items) (queued false q.queue1.items) (queued false requests0) (queued false requests1) left.first0 left.first1 tmu row q.first one.0 one.1 left.first;
-      other = slot_same IsOf (queued true q.queue0.items) (queued true q.queue1.items) (queued true requests0) (queued true requests1) left.other0 left.other1 q.other two.0 two.1 left.other;
+      first = got_strict IsOf (queue_count false q.queue0.items) (queue_count false q.queue1.items) (queue_count false requests0) (queue_count false requests1) left.first0 left.first1 tmu row q.first one.0 one.1 left.first;
+      other = slot_same IsOf (queue_count true q.queue0.items) (queue_count true q.queue1.items) (queue_count true requests0) (queue_count true requests1) left.other0 left.other1 q.other two.0 two.1 left.other;
       beside = beside_both q.first q.other (option_map (with_result tmu row) q.first) q.other (like_result tmu row q.first) (like_same q.other) left.beside;
       rests = first_rests q.second tmu row q.first q.other left.rests;
-      in0 = in_same q.second order0 left.first0 (queued false q.queue0.items + finished0 q.first) left.other0 (queued true q.queue0.items + finished0 q.other) (queued false requests0 + finished0 (option_map (with_result tmu row) q.first)) (queued true requests0 + finished0 q.other)
+      in0 = in_same q.second order0 left.first0 (queue_count false q.queue0.items + finished0 q.first) left.other0 (queue_count true q.queue0.items + finished0 q.other) (queue_count false requests0 + finished0 (option_map (with_result tmu row) q.first)) (queue_count true requests0 + finished0 q.other)
           all.0 (ap (λ n. n + finished0 q.other) two.0) left.in0;
-      in1 = in_same q.second order1 left.first1 (queued false q.queue1.items + finished1 q.first) left.other1 (queued true q.queue1.items + finished1 q.other) (queued false requests1 + finished1 (option_map (with_result tmu row) q.first)) (queued true requests1 + finished1 q.other)
+      in1 = in_same q.second order1 left.first1 (queue_count false q.queue1.items + finished1 q.first) left.other1 (queue_count true q.queue1.items + finished1 q.other) (queue_count false requests1 + finished1 (option_map (with_result tmu row) q.first)) (queue_count true requests1 + finished1 q.other)
           all.1 (ap (λ n. n + finished1 q.other) two.1) left.in1;
     }
 
 pub served_strict : (IsOf : ℕ → Home → Type 0) (tmu : ℕ) (q : Qpu) (request : Request) (row : Option (List ℕ)) (order0 order1 : List Bool) → QpuStrict IsOf order0 order1 q → oldest (queue_of q tmu) ≡ Some request
-    → QpuStrict IsOf order0 order1 (served q tmu request row)
+    → QpuStrict IsOf order0 order1 (after_service q tmu request row)
 served_strict IsOf tmu q request row order0 order1 left is = served_by IsOf tmu q request.second request row order0 order1 left is refl
 
 -- Where a program starts, its thread has nothing, and two that run are threaded.
@@ -367,23 +367,23 @@ in_first_strict IsOf threaded q t order0 order1 new takes thread left =
     let none1 = none.1 in
     let results0 = new.results0 in
     let results1 = new.results1 in
-    let here : HasNothing (queued false q.queue0.items + finished0 q.first) (queued false q.queue1.items + finished1 q.first) left.first0 left.first1 = idle_slot IsOf (queued false q.queue0.items) (queued false q.queue1.items) left.first0 left.first1 q.first (none_is q.first idle.0) left.first in
-    let there : q.other ≡ None → HasNothing (queued true q.queue0.items + finished0 q.other) (queued true q.queue1.items + finished1 q.other) left.other0 left.other1 = λ is. idle_slot IsOf (queued true q.queue0.items) (queued true q.queue1.items) left.other0 left.other1 q.other is left.other in
+    let here : HasNothing (queue_count false q.queue0.items + finished0 q.first) (queue_count false q.queue1.items + finished1 q.first) left.first0 left.first1 = idle_slot IsOf (queue_count false q.queue0.items) (queue_count false q.queue1.items) left.first0 left.first1 q.first (none_is q.first idle.0) left.first in
+    let there : q.other ≡ None → HasNothing (queue_count true q.queue0.items + finished0 q.other) (queue_count true q.queue1.items + finished1 q.other) left.other0 left.other1 = λ is. idle_slot IsOf (queue_count true q.queue0.items) (queue_count true q.queue1.items) left.other0 left.other1 q.other is left.other in
     record {
       first0 = 0;
       first1 = 0;
       other0 = left.other0;
       other1 = left.other1;
-      first = slot_same IsOf 0 0 (queued false q.queue0.items) (queued false q.queue1.items) 0 0 (Some t) (sym none.0) (sym none.1) thread;
+      first = slot_same IsOf 0 0 (queue_count false q.queue0.items) (queue_count false q.queue1.items) 0 0 (Some t) (sym none.0) (sym none.1) thread;
       other = left.other;
       beside = runs_beside threaded t q new.threaded_is parts.1;
       rests = new_first q.second t q.other q.first new.words left.rests;
-      in0 = subst (λ n. InOrder (q.second && is_some q.other) order0 0 n left.other0 (queued true q.queue0.items + finished0 q.other)) (omega (arith, none0, results0))
-          (starts_first q.second order0 q.other left.other0 (queued true q.queue0.items + finished0 q.other)
-          (in_zero_first q.second order0 left.first0 (queued false q.queue0.items + finished0 q.first) left.other0 (queued true q.queue0.items + finished0 q.other) here.old0_is here.all0_is left.in0) (λ is. ((there is).old0_is, (there is).all0_is)));
-      in1 = subst (λ n. InOrder (q.second && is_some q.other) order1 0 n left.other1 (queued true q.queue1.items + finished1 q.other)) (omega (arith, none1, results1))
-          (starts_first q.second order1 q.other left.other1 (queued true q.queue1.items + finished1 q.other)
-          (in_zero_first q.second order1 left.first1 (queued false q.queue1.items + finished1 q.first) left.other1 (queued true q.queue1.items + finished1 q.other) here.old1_is here.all1_is left.in1) (λ is. ((there is).old1_is, (there is).all1_is)));
+      in0 = subst (λ n. InOrder (q.second && is_some q.other) order0 0 n left.other0 (queue_count true q.queue0.items + finished0 q.other)) (omega (arith, none0, results0))
+          (starts_first q.second order0 q.other left.other0 (queue_count true q.queue0.items + finished0 q.other)
+          (in_zero_first q.second order0 left.first0 (queue_count false q.queue0.items + finished0 q.first) left.other0 (queue_count true q.queue0.items + finished0 q.other) here.old0_is here.all0_is left.in0) (λ is. ((there is).old0_is, (there is).all0_is)));
+      in1 = subst (λ n. InOrder (q.second && is_some q.other) order1 0 n left.other1 (queue_count true q.queue1.items + finished1 q.other)) (omega (arith, none1, results1))
+          (starts_first q.second order1 q.other left.other1 (queue_count true q.queue1.items + finished1 q.other)
+          (in_zero_first q.second order1 left.first1 (queue_count false q.queue1.items + finished1 q.first) left.other1 (queue_count true q.queue1.items + finished1 q.other) here.old1_is here.all1_is left.in1) (λ is. ((there is).old1_is, (there is).all1_is)));
     }
 
 in_other_strict : (IsOf : ℕ → Home → Type 0) (threaded : Bool) (q : Qpu) (t : Thread) (order0 order1 : List Bool) → IsNew threaded t → takes_other threaded q ≡ true → ThreadStrict IsOf 0 0 0 0 t → QpuStrict IsOf order0 order1 q → QpuStrict IsOf order0 order1 (in_other q t)
@@ -397,23 +397,23 @@ in_other_strict IsOf threaded q t order0 order1 new takes thread left =
     let none1 = none.1 in
     let results0 = new.results0 in
     let results1 = new.results1 in
-    let here : HasNothing (queued true q.queue0.items + finished0 q.other) (queued true q.queue1.items + finished1 q.other) left.other0 left.other1 = idle_slot IsOf (queued true q.queue0.items) (queued true q.queue1.items) left.other0 left.other1 q.other (none_is q.other idle.0) left.other in
-    let there : q.first ≡ None → HasNothing (queued false q.queue0.items + finished0 q.first) (queued false q.queue1.items + finished1 q.first) left.first0 left.first1 = λ is. idle_slot IsOf (queued false q.queue0.items) (queued false q.queue1.items) left.first0 left.first1 q.first is left.first in
+    let here : HasNothing (queue_count true q.queue0.items + finished0 q.other) (queue_count true q.queue1.items + finished1 q.other) left.other0 left.other1 = idle_slot IsOf (queue_count true q.queue0.items) (queue_count true q.queue1.items) left.other0 left.other1 q.other (none_is q.other idle.0) left.other in
+    let there : q.first ≡ None → HasNothing (queue_count false q.queue0.items + finished0 q.first) (queue_count false q.queue1.items + finished1 q.first) left.first0 left.first1 = λ is. idle_slot IsOf (queue_count false q.queue0.items) (queue_count false q.queue1.items) left.first0 left.first1 q.first is left.first in
     record {
       first0 = left.first0;
       first1 = left.first1;
       other0 = 0;
       other1 = 0;
       first = left.first;
-      other = slot_same IsOf 0 0 (queued true q.queue0.items) (queued true q.queue1.items) 0 0 (Some t) (sym none.0) (sym none.1) thread;
+      other = slot_same IsOf 0 0 (queue_count true q.queue0.items) (queue_count true q.queue1.items) 0 0 (Some t) (sym none.0) (sym none.1) thread;
       beside = beside_turn (Some t) q.first (beside_threaded t q.first (new.threaded_is ∙ parts.0) more.1);
       rests = new_other q.second t q.first q.other new.words left.rests;
-      in0 = subst (λ n. InOrder (q.second || is_none q.first) order0 left.first0 (queued false q.queue0.items + finished0 q.first) 0 n) (omega (arith, none0, results0))
-          (starts_other q.second order0 q.first left.first0 (queued false q.queue0.items + finished0 q.first)
-          (in_zero_other q.second order0 left.first0 (queued false q.queue0.items + finished0 q.first) left.other0 (queued true q.queue0.items + finished0 q.other) here.old0_is here.all0_is left.in0) (λ is. ((there is).old0_is, (there is).all0_is)));
-      in1 = subst (λ n. InOrder (q.second || is_none q.first) order1 left.first1 (queued false q.queue1.items + finished1 q.first) 0 n) (omega (arith, none1, results1))
-          (starts_other q.second order1 q.first left.first1 (queued false q.queue1.items + finished1 q.first)
-          (in_zero_other q.second order1 left.first1 (queued false q.queue1.items + finished1 q.first) left.other1 (queued true q.queue1.items + finished1 q.other) here.old1_is here.all1_is left.in1) (λ is. ((there is).old1_is, (there is).all1_is)));
+      in0 = subst (λ n. InOrder (q.second || is_none q.first) order0 left.first0 (queue_count false q.queue0.items + finished0 q.first) 0 n) (omega (arith, none0, results0))
+          (starts_other q.second order0 q.first left.first0 (queue_count false q.queue0.items + finished0 q.first)
+          (in_zero_other q.second order0 left.first0 (queue_count false q.queue0.items + finished0 q.first) left.other0 (queue_count true q.queue0.items + finished0 q.other) here.old0_is here.all0_is left.in0) (λ is. ((there is).old0_is, (there is).all0_is)));
+      in1 = subst (λ n. InOrder (q.second || is_none q.first) order1 left.first1 (queue_count false q.queue1.items + finished1 q.first) 0 n) (omega (arith, none1, results1))
+          (starts_other q.second order1 q.first left.first1 (queue_count false q.queue1.items + finished1 q.first)
+          (in_zero_other q.second order1 left.first1 (queue_count false q.queue1.items + finished1 q.first) left.other1 (queue_count true q.queue1.items + finished1 q.other) here.old1_is here.all1_is left.in1) (λ is. ((there is).old1_is, (there is).all1_is)));
     }
 
 -- among all processors, numbered from n on
@@ -434,5 +434,5 @@ launched_new : (j : ℕ) (launch : Launch) → IsNew launch.threaded (thread_of 
 unfolding thread_of
 launched_new j launch = record { threaded_is = refl; results0 = refl; results1 = refl; words = (refl, refl) }
 
-pub launched_strict : (IsOf : ℕ → Home → Type 0) (j : ℕ) (launch : Launch) (orders : ℕ → ℕ → List Bool) (qpus : List Qpu) → LaunchStrict (IsOf j) launch → EachStrict IsOf orders 0 qpus → EachStrict IsOf orders 0 (launched j launch qpus)
+pub launched_strict : (IsOf : ℕ → Home → Type 0) (j : ℕ) (launch : Launch) (orders : ℕ → ℕ → List Bool) (qpus : List Qpu) → LaunchStrict (IsOf j) launch → EachStrict IsOf orders 0 qpus → EachStrict IsOf orders 0 (after_launch j launch qpus)
 launched_strict IsOf j launch orders qpus known all = started_strict IsOf launch.threaded (thread_of j launch) orders 0 qpus (launched_new j launch) (thread_begins IsOf j launch known) all

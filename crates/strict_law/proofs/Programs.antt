@@ -7,23 +7,23 @@ use Rattle.field_words.specs.{Words.u32_at}
 use Rattle.packets.specs.Opcode.{halt, flush, start_tile_binning, increment_semaphore, indexed_primitive_list, array_primitive_list, gl_shader_state, tile_binning_mode}
 use Rattle.packets.specs.{declared.config.Config.Config, declared.packet.Packet.Packet, Length.render_taken}
 use Rattle.packets.specs.declared.packet.Packet.TheVariants.{WaitOnSemaphore, BranchToSubList, StoreTileColor, StoreTileColorAndEnd, StoreFullResolution, LoadFullResolution, StoreTileBuffer, LoadTileBuffer, TileRenderingMode, ClearColors, TileCoordinates}
-use Rattle.packets.specs.Packet.{decoded}
+use Rattle.packets.specs.Packet.{packet_decoded}
 use Rattle.bin_list.specs.Packets.{opcode}
 use Rattle.bin_walks.specs.Walks.{Kept as Passed, kept_after, Drawing, Walks}
 use Rattle.shader_flow.specs.Flow.{is_threaded}
 use Rattle.machine_plan.specs.{declared.launch.Free.Free, declared.launch.Launch.Launch, declared.who.Who.Who}
-use Rattle.machine_plan.specs.{Choice.word_at, Memory.bytes_at, Glance.glanced, Regions.Every, World.mapped}
+use Rattle.machine_plan.specs.{Choice.word_at, Memory.bytes_at, Glance.glance_result, Regions.Every, World.plan_mapped}
 use Rattle.machine_plan.specs.Plan.{Done, Wilds, Writes}
 use Rattle.machine_plan.proofs.Runs.{every-append}
 use Rattle.list_machine.specs.declared.state.{Found.Found, Item.Item, Load.TheVariants.Full, Load.TheVariants.General, Renderer.Renderer, Spot.Spot, SubList.SubList, Work.Work}
 use Rattle.list_machine.specs.declared.state.Program.{Program, TheVariants.Fragment, TheVariants.Vertex, TheVariants.Coordinate}
-use Rattle.list_machine.specs.Lists.{Lists, Turned, turned_to, quiet, past, incremented, flushed, with_work, with_block}
+use Rattle.list_machine.specs.Lists.{Lists, Turned, turned_to, quiet, past, after_increment, after_flush, with_work, with_block}
 use Rattle.list_machine.specs.Blocks.{tiles_of, is_full, link_place, next_place, block_place, spot_of, item_of, zeros, put_here, put_plan}
-use Rattle.list_machine.specs.Binner.{configured, with_word, started, clear_plan, begin_plan, work_of, drawn, draw_plan, halted, is_unknown, packet_plan, read_plan, fetched_with, started_with, chosen_tile, tile_plan, item_plan, work_plan, binner_by, binner_plan, binner_may, binner_ready, one_done, not_due}
+use Rattle.list_machine.specs.Binner.{config_set, with_word, after_start, clear_plan, begin_plan, work_of, plan_of_draw, draw_plan, after_halt, is_unknown, packet_plan, read_plan, fetched_with, started_with, chosen_tile, tile_plan, item_plan, work_plan, binner_by, binner_plan, binner_may, binner_ready, one_done, not_due}
 use Rattle.list_machine.specs.{Fetch.fetch_plan, Start.start_plan, Start.start_as, Start.launch_plan, Start.can_start}
 use Rattle.list_machine.specs.Renderer as renderer
 use Rattle.list_machine.specs.Surfaces.{whole_written}
-use Rattle.list_law.specs.Uses.{launched, threaded_by}
+use Rattle.list_law.specs.Uses.{program_launched, threaded_by}
 use Rattle.list_law.proofs.{Bytes.none_left, Logs.same, Safe.keeps_if}
 use Rattle.list_law.proofs.Binning.{plan_flush, plan_raise, plan_draw, plan_word, plan_start, plan_config, plan_halt}
 use Rattle.qpu_law.specs.Home.{Home}
@@ -52,9 +52,9 @@ pub record LaunchFits (IsOwn : Home → Type 0) (program : Program) (launch : La
 
 -- so are the three programs of a state word in this memory
 pub record ProgramsFit (IsOwn : Home → Type 0) (m : List ℕ) (word : ℕ) : Type 0 where
-  pub fragment : LaunchFits IsOwn Fragment (launched m Fragment (threaded_by m word) word)
-  pub vertex : LaunchFits IsOwn Vertex (launched m Vertex false word)
-  pub coordinate : LaunchFits IsOwn Coordinate (launched m Coordinate false word)
+  pub fragment : LaunchFits IsOwn Fragment (program_launched m Fragment (threaded_by m word) word)
+  pub vertex : LaunchFits IsOwn Vertex (program_launched m Vertex false word)
+  pub coordinate : LaunchFits IsOwn Coordinate (program_launched m Coordinate false word)
 
 -- in each memory of K
 abbrev pub WordFits : (List ℕ → Type 0) → (Home → Type 0) → ℕ → Type 0
@@ -85,7 +85,7 @@ abbrev pub TurnedFits : (List ℕ → Type 0) → (Home → Type 0) → Program 
 TurnedFits K IsOwn program turned = WordsFit K (WordFits K IsOwn) turned.lists × IfSome turned.launch (LaunchFits IsOwn program)
 
 -- The start of a program.
-start_as_fits : (who : Who) (IsOwn : Home → Type 0) (m : List ℕ) (program : Program) (threaded : Bool) (free : Free) (word : ℕ) → LaunchFits IsOwn program (launched m program threaded word)
+start_as_fits : (who : Who) (IsOwn : Home → Type 0) (m : List ℕ) (program : Program) (threaded : Bool) (free : Free) (word : ℕ) → LaunchFits IsOwn program (program_launched m program threaded word)
     → Comes who (λ launch. IfSome launch (LaunchFits IsOwn program)) (start_as program threaded free word) m
 unfolding start_as launch_plan
 start_as_fits who IsOwn m program threaded free word one =
@@ -107,19 +107,19 @@ word_stays W word packet packets off all = subst (λ b. DrawUnder W (if b then S
 word_comes : (W : ℕ → Type 0) (word : Option ℕ) (packet : List ℕ) (packets : List (List ℕ)) → (opcode packet == gl_shader_state) ≡ true → DrawUnder W (word_after word packet) packets → DrawUnder W (Some (u32_at packet 1)) packets
 word_comes W word packet packets on all = subst (λ b. DrawUnder W (if b then Some (u32_at packet 1) else word) packets) on all
 
-drawn_fits : (who : Who) (K : List ℕ → Type 0) (W : ℕ → Type 0) (s : Lists) (packet m : List ℕ) (kept : Option ℕ) → WordsFit K W s → IfSome kept W → Comes who (WordsFit K W) (drawn s kept packet) m
+drawn_fits : (who : Who) (K : List ℕ → Type 0) (W : ℕ → Type 0) (s : Lists) (packet m : List ℕ) (kept : Option ℕ) → WordsFit K W s → IfSome kept W → Comes who (WordsFit K W) (plan_of_draw s kept packet) m
 unfolding work_of
 drawn_fits who K W s packet m None all fits = tt
 drawn_fits who K W s packet m (Some word) all fits = record { packets = all.packets; rest = all.rest; work = fits; items = all.items }
 
-begin_fits : (who : Who) (P : Lists → Type 0) (s : Lists) (m : List ℕ) (config : Option Config) → P (started s) → Comes who P (begin_plan s config) m
+begin_fits : (who : Who) (P : Lists → Type 0) (s : Lists) (m : List ℕ) (config : Option Config) → P (after_start s) → Comes who P (begin_plan s config) m
 unfolding clear_plan
 begin_fits who P s m None here = tt
 begin_fits who P s m (Some c) here = (tt, here)
 
 packet_fits : (who : Who) (K : List ℕ → Type 0) (W : ℕ → Type 0) (s : Lists) (packet m : List ℕ) (packets : List (List ℕ)) → BinRest K s.binner.place s.binner.end packets → DrawUnder W (word_after s.binner.kept.word packet) packets
     → (draws packet ≡ true → IfSome s.binner.kept.word W) → IfSome s.binner.work (λ w. W w.word) → Every (λ item. W item.word) s.items → Comes who (WordsFit K W) (packet_plan s packet) m
-unfolding packet_plan draw_plan configured with_word started halted draws
+unfolding packet_plan draw_plan config_set with_word after_start after_halt draws
 packet_fits who K W s packet m packets bin under draw work items =
     let P = λ (k : List ℕ) (next : Lists). WordsFit K W next in
     let o : ℕ = opcode packet in
@@ -128,9 +128,9 @@ packet_fits who K W s packet m packets bin under draw work items =
     let word : Option ℕ = s.binner.kept.word in
     let same_word : (o == gl_shader_state) ≡ false → DrawsOn K W s.binner.place s.binner.end word packets = λ off. record { bin = bin; draws = word_stays W word packet packets off under } in
     keeps_if who L G P m (is_unknown o) Wilds (plan_halt s packet) (λ on. tt)
-    (λ known. keeps_if who L G P m (o == halt) (Done (halted s)) (plan_config s packet)
+    (λ known. keeps_if who L G P m (o == halt) (Done (after_halt s)) (plan_config s packet)
     (λ on. record { packets = []; rest = record { bin = bin_done K s.binner.end; draws = tt }; work = work; items = items })
-    (λ no_halt. keeps_if who L G P m (o == tile_binning_mode) (Done (configured s packet)) (plan_start s packet)
+    (λ no_halt. keeps_if who L G P m (o == tile_binning_mode) (Done (config_set s packet)) (plan_start s packet)
     (λ on. record { packets = packets; rest = same_word (differs o tile_binning_mode gl_shader_state on refl); work = work; items = items })
     (λ no_config. keeps_if who L G P m (o == start_tile_binning) (begin_plan s s.binner.kept.config) (plan_word s packet)
     (λ on. begin_fits who (WordsFit K W) s m s.binner.kept.config (record { packets = packets; rest = same_word (differs o start_tile_binning gl_shader_state on refl); work = work; items = items }))
@@ -139,10 +139,10 @@ packet_fits who K W s packet m packets bin under draw work items =
     (λ no_word.
     let all : WordsFit K W s = record { packets = packets; rest = same_word no_word; work = work; items = items } in
     keeps_if who L G P m (o == indexed_primitive_list || o == array_primitive_list) (draw_plan s packet) (plan_raise s packet)
-    (λ on. keeps_if who L G P m s.binner.kept.started (drawn s word packet) Wilds (λ begun. drawn_fits who K W s packet m word all (draw on)) (λ off. tt))
-    (λ no_draw. keeps_if who L G P m (o == increment_semaphore) (Done (incremented s)) (plan_flush s packet)
+    (λ on. keeps_if who L G P m s.binner.kept.started (plan_of_draw s word packet) Wilds (λ begun. drawn_fits who K W s packet m word all (draw on)) (λ off. tt))
+    (λ no_draw. keeps_if who L G P m (o == increment_semaphore) (Done (after_increment s)) (plan_flush s packet)
     (λ on. record { packets = packets; rest = all.rest; work = work; items = items })
-    (λ no_raise. keeps_if who L G P m (o == flush) (Done (flushed s)) (Done s)
+    (λ no_raise. keeps_if who L G P m (o == flush) (Done (after_flush s)) (Done s)
     (λ on. record { packets = packets; rest = all.rest; work = work; items = items })
     (λ no_flush. all))))))))
 
@@ -180,10 +180,10 @@ work_fits who K IsOwn s w free words m here all fits =
     let Q = λ (i : List ℕ) (turned : Turned). TurnedFits K IsOwn Coordinate turned in
     let L = AnyLook in
     let G = AnyAccess in
-    keeps_if who L G Q m w.due (mapped (started_with s w) (start_plan Coordinate free w.word)) (if nat_lt w.done w.primitive.length then mapped (fetched_with s w) (fetch_plan w.primitive w.word w.done) else mapped quiet (item_plan s s.binner.kept.config w words))
+    keeps_if who L G Q m w.due (plan_mapped (started_with s w) (start_plan Coordinate free w.word)) (if nat_lt w.done w.primitive.length then plan_mapped (fetched_with s w) (fetch_plan w.primitive w.word w.done) else plan_mapped quiet (item_plan s s.binner.kept.config w words))
     (λ due. comes_into who (started_with s w) (λ launch. IfSome launch (LaunchFits IsOwn Coordinate)) P
     (λ launch one. (record { packets = all.packets; rest = all.rest; work = fits; items = all.items }, one)) (start_plan Coordinate free w.word) m (start_fits who IsOwn m Coordinate free w.word (fits m here)))
-    (λ off. keeps_if who L G Q m (nat_lt w.done w.primitive.length) (mapped (fetched_with s w) (fetch_plan w.primitive w.word w.done)) (mapped quiet (item_plan s s.binner.kept.config w words))
+    (λ off. keeps_if who L G Q m (nat_lt w.done w.primitive.length) (plan_mapped (fetched_with s w) (fetch_plan w.primitive w.word w.done)) (plan_mapped quiet (item_plan s s.binner.kept.config w words))
     (λ more. comes_any who P (fetched_with s w) (λ index. (record { packets = all.packets; rest = all.rest; work = fits; items = all.items }, tt)) (fetch_plan w.primitive w.word w.done) m)
     (λ last. comes_into who quiet (WordsFit K W) P (λ next one. (one, tt)) (item_plan s s.binner.kept.config w words) m (item_fits who K W s s.binner.kept.config w words m all fits)))
 
@@ -195,7 +195,7 @@ binner_by_fits who K IsOwn s None free words m here all fits ready =
 binner_by_fits who K IsOwn s (Some w) free words m here all fits ready = work_fits who K IsOwn s w free words m here all fits
 
 -- One step of the binner: a program that it starts is a coordinate program.
-pub binner_fits : (who : Who) (K : List ℕ → Type 0) (IsOwn : Home → Type 0) (s : Lists) (free : Free) (words m : List ℕ) → K m → WordsFit K (WordFits K IsOwn) s → glanced (binner_ready s free) m ≡ true
+pub binner_fits : (who : Who) (K : List ℕ → Type 0) (IsOwn : Home → Type 0) (s : Lists) (free : Free) (words m : List ℕ) → K m → WordsFit K (WordFits K IsOwn) s → glance_result (binner_ready s free) m ≡ true
     → Comes who (TurnedFits K IsOwn Coordinate) (binner_plan s free words) m
 unfolding binner_plan binner_ready
 binner_fits who K IsOwn s free words m here all ready = binner_by_fits who K IsOwn s s.binner.work free words m here all all.work ready
@@ -237,7 +237,7 @@ packet_stays : (who : Who) (P : Lists → Type 0) (s : Lists) (words m : List �
 unfolding renderer.packet_plan
 packet_stays who P s words m all =
     let len : ℕ = render_taken (slice_index (bytes_at m s.renderer.place 1) 0) in
-    (tt, (tt, acted_stays who P (renderer.beyond s len) words m (decoded (bytes_at m s.renderer.place len)) all))
+    (tt, (tt, acted_stays who P (renderer.beyond s len) words m (packet_decoded (bytes_at m s.renderer.place len)) all))
 
 -- At an item: a program that is started there is of the kind that the first choice word says.
 words_stay : (K : List ℕ → Type 0) (W : ℕ → Type 0) (s : Lists) → WordsFit K W s → Stays (WordsFit K W) s
@@ -256,7 +256,7 @@ vertex_fits : (who : Who) (K : List ℕ → Type 0) (IsOwn : Home → Type 0) (p
 unfolding renderer.vertex_plan
 vertex_fits who K IsOwn program s item words m all =
     let plan = fetch_plan item.primitive item.word (word_at words 1 % item.primitive.length) in
-    keeps_if who AnyLook AnyAccess (λ k turned. TurnedFits K IsOwn program turned) m (item.primitive.length == 0) (Done (quiet s)) (mapped (renderer.fetched s) plan) (λ on. (all, tt))
+    keeps_if who AnyLook AnyAccess (λ k turned. TurnedFits K IsOwn program turned) m (item.primitive.length == 0) (Done (quiet s)) (plan_mapped (renderer.fetched s) plan) (λ on. (all, tt))
     (λ off. comes_any who (TurnedFits K IsOwn program) (renderer.fetched s) (λ index. (all, tt)) plan m)
 
 choice_fits : (who : Who) (K : List ℕ → Type 0) (IsOwn : Home → Type 0) (s : Lists) (free : Free) (words m : List ℕ) (sub : SubList) (found : Found) → K m → WordsFit K (WordFits K IsOwn) s → WordFits K IsOwn found.item.word

@@ -2,7 +2,7 @@
 use Rattle.std.proofs.Common.{◌≡◌, ◌≢◌, ◌<◌, ℕ, ◌+◌, Bool, true, false, IsTrue, List, [], ◌∷◌, ◌++◌, length, Option, Some, None, IfSome, inl, inr, refl, sym, subst, arith}
 use Rattle.std.proofs.lemmas.List.{length-append}
 use Rattle.std.specs.Prelude.{◌⊎◌, option_map}
-use Rattle.machine_plan.specs.{declared.launch.Free.Free, declared.launch.Launch.Launch, Glance.glanced}
+use Rattle.machine_plan.specs.{declared.launch.Free.Free, declared.launch.Launch.Launch, Glance.glance_result}
 use Rattle.machine_plan.specs.Regions.{Every, Inside, IsSafeAccess, rights_of, HasReadOnly}
 use Rattle.machine_plan.proofs.Worlds.{keeps_result}
 use Rattle.list_machine.specs.Binner.{binner_ready, binner_plan}
@@ -18,7 +18,7 @@ use Rattle.machine_law.proofs.Owes.{put_each}
 use Rattle.ends_law.proofs.Plans.{Comes, keeps_both, weaker}
 use Rattle.day_law.specs.Day.{MayHappen, AllMayHappen}
 use Rattle.promises.specs.Days.{Admitted, Day, Files, Happening, Steps, Changes, Finds, Admits, Retires, Resets, HasNoneOf, HasNoWork, Job}
-use Rattle.promises.specs.Days.{admitted_at, after, dawn, found_at, found_in, happen, rights_in, stopped, with_files}
+use Rattle.promises.specs.Days.{admitted_at, after, dawn, found_at, found_in, happen, rights_in, units_stopped, with_files}
 use Rattle.day_law.proofs.Own.{solo, Holds, IsQuiet, every_nth, binner_done, renderer_done, if_some, facts}
 use Rattle.day_law.proofs.Lists.{each_goes, each_but, each_append, still_at, last_at, without, without_long, without_others}
 use Rattle.day_law.proofs.{Known.IsKnown, Known.keeps, Keeping.all_quiet, Keeping.happens, Days.dawn_known}
@@ -46,7 +46,7 @@ turned_own jobs j program turned below own = record {
 }
 
 -- What that says in a memory that each job holds.
-binner_says : (jobs : List Admitted) (m : List ℕ) → Every (Holds m) jobs → (j : ℕ) (s : Lists) (free : Free) (words : List ℕ) → OfJob jobs j s → glanced (binner_ready s free) m ≡ true
+binner_says : (jobs : List Admitted) (m : List ℕ) → Every (Holds m) jobs → (j : ℕ) (s : Lists) (free : Free) (words : List ℕ) → OfJob jobs j s → glance_result (binner_ready s free) m ≡ true
     → Comes (binner_of j) (JobTurned (OfJob jobs) (IsOf jobs) j Coordinate) (binner_plan s free words) m
 unfolding binner_ready
 binner_says jobs m holds j s free words (inl quiet) on = absurd (binner_done s s.binner.work free quiet.binner on)
@@ -56,7 +56,7 @@ binner_says jobs m holds j s free words (inr known) on =
     weaker (binner_of j) (TurnedFits K (OwnHome one) Coordinate) (JobTurned (OfJob jobs) (IsOf jobs) j Coordinate) (λ turned own. turned_own jobs j Coordinate turned known.0 own) (binner_plan s free words) m
     (binner_fits (binner_of j) K (OwnHome one) s free words m (every_nth (Holds m) jobs j known.0 holds) known.1 on)
 
-renderer_says : (jobs : List Admitted) (m : List ℕ) → Every (Holds m) jobs → (j : ℕ) (s : Lists) (free : Free) (words : List ℕ) → OfJob jobs j s → glanced (renderer_ready s) m ≡ true
+renderer_says : (jobs : List Admitted) (m : List ℕ) → Every (Holds m) jobs → (j : ℕ) (s : Lists) (free : Free) (words : List ℕ) → OfJob jobs j s → glance_result (renderer_ready s) m ≡ true
     → Comes (renderer_of j) (JobTurned (OfJob jobs) (IsOf jobs) j (program_by words)) (renderer_plan s free words) m
 unfolding renderer_ready
 renderer_says jobs m holds j s free words (inl quiet) on = absurd (renderer_done s s.renderer.inside m quiet.renderer on)
@@ -189,7 +189,7 @@ happens_fit d (Finds k second files) roles known fit may_find begins =
 happens_fit d (Admits job) roles known fit may_admit begins = admits d job roles known fit begins
 happens_fit d (Retires j) roles known fit none begins = retires d j roles fit none
 happens_fit d Resets roles known fit may_reset begins = record {
-  jobs = each_goes (facts []).OfJob (OfJob d.jobs) 0 (stopped d.state.units).jobs (λ j s from quiet. stays_quiet d.jobs j s quiet) (all_quiet [] 0 d.state.units.jobs);
+  jobs = each_goes (facts []).OfJob (OfJob d.jobs) 0 (units_stopped d.state.units).jobs (λ j s from quiet. stays_quiet d.jobs j s quiet) (all_quiet [] 0 d.state.units.jobs);
   qpus = idle_fits (IsOf d.jobs) roles 0 12;
 }
 

@@ -8,11 +8,11 @@ use Rattle.bin_walks.specs.Walks.{nothing_kept}
 use Rattle.machine_plan.specs.{Memory.bytes_at}
 use Rattle.machine_plan.specs.Regions.{Inside, Interval, IsSafeAccess, Rights, rights_of, HasReadOnly}
 use Rattle.machine_plan.specs.Others.{Happening, Steps, Changes, MayHappen, happen, AllMayHappen}
-use Rattle.machine_plan.specs.Runs.{reached}
+use Rattle.machine_plan.specs.Runs.{state_reached}
 use Rattle.machine_plan.proofs.{Others.Holds, Others.run_holds, Worlds.keeps_result, Words.byte_read, Words.word_read}
 use Rattle.list_machine.specs.declared.state.Program.{Program, TheVariants.Fragment, TheVariants.Vertex, TheVariants.Coordinate}
 use Rattle.list_machine.specs.{Fetch.record_place, Lists.Lists, Lists.Turned, Lists.binner_of, Lists.renderer_of, Binner.binner_plan, Renderer.renderer_plan, Start.code_offset, Start.is_threaded as threaded_flag}
-use Rattle.list_law.specs.{Emitted.words_in, Emitted.program_in, Uses.launched, Uses.threaded_by}
+use Rattle.list_law.specs.{Emitted.words_in, Emitted.program_in, Uses.program_launched, Uses.threaded_by}
 use Rattle.list_law.proofs.Words.{low_bit}
 use Rattle.machine.specs.{declared.job.Start.Start, State.State, State.job_start, State.units_start, Step.Event, Step.ready, Step.turn, Step.unit_turn}
 use Rattle.machine_law.specs.{Begins.LaunchBegins, Jobs.ArePlain, Laws.AreFine, Units.EachAt}
@@ -29,7 +29,7 @@ use Rattle.strict_law.proofs.Roles.{UnitsFit, JobTurned, SaysRoles, unit_fits, k
 words_at : (m : List ℕ) (word offset i : ℕ) → offset ≡ 4 * i → u32_at (bytes_at m (record_place word + offset) 4) 0 ≡ words_in m word i
 words_at m word offset i is = word_read m (record_place word + offset) 4 (omega arith) ∙ ap (λ n. u32_at m (record_place word + n)) is
 
-launched_is : (m : List ℕ) (word : ℕ) (program : Program) (threaded : Bool) (s : ℕ) → code_offset program ≡ 4 * code_word s → code_offset program + 4 ≡ 4 * stream_word s → launched m program threaded word ≡ program_in m word threaded s
+launched_is : (m : List ℕ) (word : ℕ) (program : Program) (threaded : Bool) (s : ℕ) → code_offset program ≡ 4 * code_word s → code_offset program + 4 ≡ 4 * stream_word s → program_launched m program threaded word ≡ program_in m word threaded s
 launched_is m word program threaded s code stream = search (rules, arith, word_read, words_at)
 
 threaded_is : (m : List ℕ) (word : ℕ) → threaded_by m word ≡ not (is_single (words_in m word))
@@ -37,9 +37,9 @@ unfolding threaded_flag is_single
 threaded_is m word = grind (arith, common_steps, nat_tests, byte_read, low_bit)
 
 -- A program that may be started in each run.
-launch_fits : (rights : List Rights) (plains : ℕ → List Interval) (first m : List ℕ) (j word : ℕ) (program : Program) (threaded there : Bool) (s : ℕ) → launched m program threaded word ≡ program_in m word threaded s → threaded ≡ there
+launch_fits : (rights : List Rights) (plains : ℕ → List Interval) (first m : List ℕ) (j word : ℕ) (program : Program) (threaded there : Bool) (s : ℕ) → program_launched m program threaded word ≡ program_in m word threaded s → threaded ≡ there
     → words_in m word (code_word s) ≡ words_in first word (code_word s) → words_in m word (stream_word s) ≡ words_in first word (stream_word s)
-    → (begins : LaunchBegins rights plains first j (program_in first word there s)) → has_foreign program begins.home.code ≡ false → LaunchFits (IsHomeOf rights first j) program (launched m program threaded word)
+    → (begins : LaunchBegins rights plains first j (program_in first word there s)) → has_foreign program begins.home.code ≡ false → LaunchFits (IsHomeOf rights first j) program (program_launched m program threaded word)
 launch_fits rights plains first m j word program threaded there s read same_flag code stream begins fits =
     let is : program_in m word threaded s ≡ program_in first word there s = λ i. record { threaded = same_flag i; code = code i; uniforms = stream i } in
     subst (LaunchFits (IsHomeOf rights first j) program) (sym (read ∙ is)) (record {
@@ -55,7 +55,7 @@ draw_fits : (rights : List Rights) (plains : ℕ → List Interval) (first : Lis
 draw_fits rights plains first j word packet draws m has =
     let begins = draws.begins in
     let room = header_in word in
-    let stays : (i : ℕ) → i < 9 → words_in m word i ≡ words_in first word i = λ i below. word_stays rights first m j word i begins.record_stands begins.record_fixed has (omega (arith, room, below)) in
+    let stays : (i : ℕ) → i < 9 → words_in m word i ≡ words_in first word i = λ i below. word_stays rights first m j word i begins.record_lies begins.record_fixed has (omega (arith, room, below)) in
     let single : not (is_single (words_in m word)) ≡ not (is_single (words_in first word)) = single_stays (words_in m word) (words_in first word) (stays 0 (omega arith)) in
     record {
       fragment = launch_fits rights plains first m j word Fragment (threaded_by m word) (not (is_single (words_in first word))) 0 (launched_is m word Fragment (threaded_by m word) 0 (omega arith) (omega arith)) (threaded_is m word ∙ single)
@@ -114,7 +114,7 @@ happens_fit rights plains first s (Steps event) roles plain now may =
 happens_fit rights plains first s (Changes m) roles plain now may = now.fit
 
 all_fit : (rights : List Rights) (plains : ℕ → List Interval) (first : List ℕ) (s : State) (happenings : List (Happening Event)) (roles : Roles) → ArePlain rights plains → IsNow rights plains first roles s → AllMayHappen ready turn rights s happenings
-    → IsNow rights plains first (roles_along s happenings roles) (reached (happen turn) s happenings)
+    → IsNow rights plains first (roles_along s happenings roles) (state_reached (happen turn) s happenings)
 all_fit rights plains first s [] roles plain now may = now
 all_fit rights plains first s (one ∷ later) roles plain now may =
     all_fit rights plains first (happen turn s one).state later (roles_next s one roles) plain

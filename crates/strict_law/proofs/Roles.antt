@@ -8,8 +8,8 @@ use Rattle.field_words.specs.declared.access.Actor.{Actor}
 use Rattle.shader_flow.specs.{Flow.word, Flow.checked_of}
 use Rattle.shader_flow.proofs.{Bounded.some_below_not, Ends.checked_of-le}
 use Rattle.strict_rules.specs.{Words.reads_address, Words.uses_vpm, Words.uses_tile, Words.names_tile, Words.has_tile_signal, Rules.has_vpm_part, Rules.has_tile_part}
-use Rattle.machine_plan.specs.{declared.launch.Free.Free, declared.launch.Launch.Launch, declared.who.Who.Who, Glance.glanced, Memory.bytes_at, Plan.Plan}
-use Rattle.machine_plan.specs.{Regions.Interval, World.mapped}
+use Rattle.machine_plan.specs.{declared.launch.Free.Free, declared.launch.Launch.Launch, declared.who.Who.Who, Glance.glance_result, Memory.bytes_at, Plan.Plan}
+use Rattle.machine_plan.specs.{Regions.Interval, World.plan_mapped}
 use Rattle.list_machine.specs.Binner.{has_binner_work, binner_ready, binner_plan}
 use Rattle.list_machine.specs.Lists.{Lists, Turned, binner_of, renderer_of}
 use Rattle.list_machine.specs.Renderer.{has_renderer_work, renderer_ready, renderer_plan}
@@ -17,8 +17,8 @@ use Rattle.list_machine.specs.declared.state.Program.{Program, TheVariants.Fragm
 use Rattle.qpu_machine.specs.{declared.state.Asked.Asked, declared.state.Qpu.Qpu, declared.state.Request.Request, declared.state.Thread.Thread, Request.ask_plan}
 use Rattle.qpu_machine.specs.{Start.thread_of, Step.ThreadTurn, Step.thread_plan}
 use Rattle.qpu_machine.specs.declared.state.Fate.{Fate, TheVariants.Ends, TheVariants.Switches, TheVariants.GoesOn}
-use Rattle.qpu_machine.specs.Qpu.{active_of, job_of_thread, ready_by, plan_by, left_by, gives_way, woken_slot, settled, went, with_result, dropped, given, served, serving, slot_of, has_none, is_beside, takes_first, takes_other, in_first, in_other, started_in, queue_of, oldest, job_of_request, free_in, idle_qpu}
-use Rattle.qpu_law.specs.{Home.Home, Home.IsAt, Home.done, Thread.IsHome}
+use Rattle.qpu_machine.specs.Qpu.{active_of, job_of_thread, ready_by, plan_by, left_by, gives_way, woken_slot, after_turn, went, with_result, after_drop, result_given, after_service, serving, slot_of, has_none, is_beside, takes_first, takes_other, in_first, in_other, started_in, queue_of, oldest, job_of_request, free_in, idle_qpu}
+use Rattle.qpu_law.specs.{Home.Home, Home.IsAt, Home.turn_done, Thread.IsHome}
 use Rattle.qpu_law.proofs.{Going.in_checked, Going.is_went, Going.stays_in_code_law, Starting.starts_stand_law}
 use Rattle.machine.specs.Step.{Event, with_launch, with_lists, with_qpu, is_ahead, binner_may, renderer_may, qpu_may, tmu_may, binner_turn, renderer_turn, qpu_turn, tmu_turn, unit_ready, unit_turn}
 use Rattle.machine.specs.State.{State, Units, Picked, item_at, binner_job, renderer_job}
@@ -64,8 +64,8 @@ pub record JobTurned (OfJob : ℕ → Lists → Type 0) (IsOf : ℕ → Home →
 -- What is known of jobs says in this memory: of their shaders, and of the steps of their list units.
 pub record SaysRoles (OfJob : ℕ → Lists → Type 0) (IsOf : ℕ → Home → Type 0) (m : List ℕ) : Type 0 where
   pub finds : Finds IsOf m
-  pub binner : (j : ℕ) (s : Lists) (free : Free) (words : List ℕ) → OfJob j s → glanced (binner_ready s free) m ≡ true → Comes (binner_of j) (JobTurned OfJob IsOf j Coordinate) (binner_plan s free words) m
-  pub renderer : (j : ℕ) (s : Lists) (free : Free) (words : List ℕ) → OfJob j s → glanced (renderer_ready s) m ≡ true → Comes (renderer_of j) (JobTurned OfJob IsOf j (program_by words)) (renderer_plan s free words) m
+  pub binner : (j : ℕ) (s : Lists) (free : Free) (words : List ℕ) → OfJob j s → glance_result (binner_ready s free) m ≡ true → Comes (binner_of j) (JobTurned OfJob IsOf j Coordinate) (binner_plan s free words) m
+  pub renderer : (j : ℕ) (s : Lists) (free : Free) (words : List ℕ) → OfJob j s → glance_result (renderer_ready s) m ≡ true → Comes (renderer_of j) (JobTurned OfJob IsOf j (program_by words)) (renderer_plan s free words) m
 
 -- The word at a thread's place is its instruction.
 pub word_there : (m : List ℕ) (region : List Interval) (h : Home) (n : ℕ) (t : Thread) → IsHome m region h → IsAt h n t → from_le_bytes w64 (bytes_at m t.place 8) ≡ word h.code n
@@ -77,7 +77,7 @@ word_there m region h n t home at =
 
 -- A step of a thread.
 done_fits : (IsOf : ℕ → Home → Type 0) (role : Option Program) (t : Thread) (u uniforms : ℕ) (words m : List ℕ) → Finds IsOf m → (left : ThreadFits IsOf role t)
-    → (done (word left.home.code left.index) u uniforms words t).leaves.fate ≢ Ends → ThreadFits IsOf role (done (word left.home.code left.index) u uniforms words t).thread
+    → (turn_done (word left.home.code left.index) u uniforms words t).leaves.fate ≢ Ends → ThreadFits IsOf role (turn_done (word left.home.code left.index) u uniforms words t).thread
 done_fits IsOf role t u uniforms words m here left lives =
     let h = left.home in
     let i : ℕ = left.index in
@@ -137,8 +137,8 @@ other_by : (IsOf : ℕ → Home → Type 0) (role : Bool → Option Program) (se
 other_by IsOf role true own rest mine other = mine
 other_by IsOf role false own rest mine other = other
 
-settled_fits : (IsOf : ℕ → Home → Type 0) (role : Bool → Option Program) (q : Qpu) (job : ℕ) (own : Option Thread) (over : Bool) (asked : Option Asked) → QpuFits IsOf role q → SlotFits IsOf (role q.second) own → QpuFits IsOf role (settled q job own over asked)
-unfolding settled
+settled_fits : (IsOf : ℕ → Home → Type 0) (role : Bool → Option Program) (q : Qpu) (job : ℕ) (own : Option Thread) (over : Bool) (asked : Option Asked) → QpuFits IsOf role q → SlotFits IsOf (role q.second) own → QpuFits IsOf role (after_turn q job own over asked)
+unfolding after_turn
 settled_fits IsOf role q job own over asked left mine = record {
   first = first_by IsOf role q.second (woken_slot over q.first) own (woken_fits IsOf (role false) over q.first left.first) mine;
   other = other_by IsOf role q.second own (woken_slot over q.other) mine (woken_fits IsOf (role true) over q.other left.other);
@@ -152,8 +152,8 @@ active_fits : (IsOf : ℕ → Home → Type 0) (role : Bool → Option Program) 
 active_fits IsOf role q left = active_by IsOf role q.second q.first q.other left.first left.other
 
 -- one that has a result
-served_fits : (IsOf : ℕ → Home → Type 0) (role : Bool → Option Program) (tmu : ℕ) (q : Qpu) (request : Request) (row : Option (List ℕ)) → QpuFits IsOf role q → QpuFits IsOf role (served q tmu request row)
-unfolding given dropped
+served_fits : (IsOf : ℕ → Home → Type 0) (role : Bool → Option Program) (tmu : ℕ) (q : Qpu) (request : Request) (row : Option (List ℕ)) → QpuFits IsOf role q → QpuFits IsOf role (after_service q tmu request row)
+unfolding result_given after_drop
 served_fits IsOf role tmu q request row left = record {
   first = chosen (SlotFits IsOf (role false)) request.second q.first (option_map (with_result tmu row) q.first) left.first (result_fits IsOf (role false) tmu row q.first left.first);
   other = chosen (SlotFits IsOf (role true)) request.second (option_map (with_result tmu row) q.other) q.other (result_fits IsOf (role true) tmu row q.other left.other) left.other;
@@ -244,7 +244,7 @@ qpu_fit OfJob IsOf roles u k q all one = record { jobs = all.jobs; qpus = put_ea
 
 -- The units' turns.
 binner_comes : (OfJob : ℕ → Lists → Type 0) (IsOf : ℕ → Home → Type 0) (roles : Roles) (u : Units) (found : Option (Picked Lists)) (words m : List ℕ) → SaysRoles OfJob IsOf m → UnitsFit OfJob IsOf roles u → IfSome found (PickedFine OfJob)
-    → IsTrue (glanced (binner_may u found) m) → Comes (binner_turn u found words).who (UnitsFit OfJob IsOf (roles_with u Coordinate roles)) (binner_turn u found words).plan m
+    → IsTrue (glance_result (binner_may u found) m) → Comes (binner_turn u found words).who (UnitsFit OfJob IsOf (roles_with u Coordinate roles)) (binner_turn u found words).plan m
 binner_comes OfJob IsOf roles u None words m here all job may = absurd (false≢true may)
 binner_comes OfJob IsOf roles u (Some b) words m here all job may =
     let free : Free = free_in u.qpus in
@@ -252,7 +252,7 @@ binner_comes OfJob IsOf roles u (Some b) words m here all job may =
     (here.binner b.number b.item free words job (not_held (is_ahead b.number (renderer_job u)) (binner_ready b.item free) m may))
 
 renderer_comes : (OfJob : ℕ → Lists → Type 0) (IsOf : ℕ → Home → Type 0) (roles : Roles) (u : Units) (found : Option (Picked Lists)) (words m : List ℕ) → SaysRoles OfJob IsOf m → UnitsFit OfJob IsOf roles u → IfSome found (PickedFine OfJob)
-    → IsTrue (glanced (renderer_may found) m) → Comes (renderer_turn u found words).who (UnitsFit OfJob IsOf (roles_with u (program_by words) roles)) (renderer_turn u found words).plan m
+    → IsTrue (glance_result (renderer_may found) m) → Comes (renderer_turn u found words).who (UnitsFit OfJob IsOf (roles_with u (program_by words) roles)) (renderer_turn u found words).plan m
 renderer_comes OfJob IsOf roles u None words m here all job may = absurd (false≢true may)
 renderer_comes OfJob IsOf roles u (Some r) words m here all job may =
     let free : Free = free_in u.qpus in
@@ -261,37 +261,37 @@ renderer_comes OfJob IsOf roles u (Some r) words m here all job may =
     (here.renderer r.number r.item free words job may)
 
 slot_comes : (OfJob : ℕ → Lists → Type 0) (IsOf : ℕ → Home → Type 0) (roles : Roles) (k : ℕ) (u : Units) (q : Qpu) (slot : Option Thread) (words m : List ℕ) → Finds IsOf m → UnitsFit OfJob IsOf roles u → QpuFits IsOf (roles k) q
-    → SlotFits IsOf (roles k q.second) slot → IsTrue (glanced (ready_by slot q) m) → Comes (record { unit = TheQpu k; job = job_of_thread slot }) (UnitsFit OfJob IsOf roles) (mapped (with_qpu u k) (plan_by slot q words)) m
+    → SlotFits IsOf (roles k q.second) slot → IsTrue (glance_result (ready_by slot q) m) → Comes (record { unit = TheQpu k; job = job_of_thread slot }) (UnitsFit OfJob IsOf roles) (plan_mapped (with_qpu u k) (plan_by slot q words)) m
 slot_comes OfJob IsOf roles k u q None words m here all known thread may = absurd (false≢true may)
 slot_comes OfJob IsOf roles k u q (Some t) words m here all known thread may =
     let who : Who = record { unit = TheQpu k; job = t.job } in
     let plan : Plan ThreadTurn = thread_plan t words in
     let Lives : ThreadTurn → Type 0 = λ turn. turn.leaves.fate ≢ Ends → ThreadFits IsOf (roles k q.second) turn.thread in
-    comes_into who (with_qpu u k) (QpuFits IsOf (roles k)) (UnitsFit OfJob IsOf roles) (λ next one. qpu_fit OfJob IsOf roles u k next all one) (mapped (went q t) plan) m
+    comes_into who (with_qpu u k) (QpuFits IsOf (roles k)) (UnitsFit OfJob IsOf roles) (λ next one. qpu_fit OfJob IsOf roles u k next all one) (plan_mapped (went q t) plan) m
     (comes_into who (went q t) Lives (QpuFits IsOf (roles k))
     (λ turn one. settled_fits IsOf (roles k) q t.job (left_by turn.leaves.fate turn.thread) (gives_way turn.leaves.fate) turn.leaves.asked known (left_fits IsOf (roles k q.second) turn.leaves.fate turn.thread one)) plan m
     (thread_fits IsOf (roles k q.second) t who words m here thread))
 
 qpu_comes : (OfJob : ℕ → Lists → Type 0) (IsOf : ℕ → Home → Type 0) (roles : Roles) (k : ℕ) (u : Units) (found : Option Qpu) (words m : List ℕ) → Finds IsOf m → UnitsFit OfJob IsOf roles u → IfSome found (QpuFits IsOf (roles k))
-    → IsTrue (glanced (qpu_may found) m) → Comes (qpu_turn u k found words).who (UnitsFit OfJob IsOf roles) (qpu_turn u k found words).plan m
+    → IsTrue (glance_result (qpu_may found) m) → Comes (qpu_turn u k found words).who (UnitsFit OfJob IsOf roles) (qpu_turn u k found words).plan m
 qpu_comes OfJob IsOf roles k u None words m here all known may = absurd (false≢true may)
 qpu_comes OfJob IsOf roles k u (Some q) words m here all known may = slot_comes OfJob IsOf roles k u q (active_of q) words m here all known (active_fits IsOf (roles k) q known) may
 
 request_comes : (OfJob : ℕ → Lists → Type 0) (IsOf : ℕ → Home → Type 0) (roles : Roles) (k tmu : ℕ) (u : Units) (q : Qpu) (found : Option Request) (words m : List ℕ) → UnitsFit OfJob IsOf roles u → QpuFits IsOf (roles k) q
-    → Comes (record { unit = TheTmu k tmu; job = job_of_request found }) (UnitsFit OfJob IsOf roles) (mapped (with_qpu u k) (serving found q tmu words)) m
+    → Comes (record { unit = TheTmu k tmu; job = job_of_request found }) (UnitsFit OfJob IsOf roles) (plan_mapped (with_qpu u k) (serving found q tmu words)) m
 request_comes OfJob IsOf roles k tmu u q None words m all known = qpu_fit OfJob IsOf roles u k q all known
 request_comes OfJob IsOf roles k tmu u q (Some request) words m all known =
     let who : Who = record { unit = TheTmu k tmu; job = request.job } in
     let plan : Plan (Option (List ℕ)) = ask_plan request.ask words in
-    comes_into who (with_qpu u k) (QpuFits IsOf (roles k)) (UnitsFit OfJob IsOf roles) (λ next one. qpu_fit OfJob IsOf roles u k next all one) (mapped (served q tmu request) plan) m
-    (comes_any who (QpuFits IsOf (roles k)) (served q tmu request) (λ row. served_fits IsOf (roles k) tmu q request row known) plan m)
+    comes_into who (with_qpu u k) (QpuFits IsOf (roles k)) (UnitsFit OfJob IsOf roles) (λ next one. qpu_fit OfJob IsOf roles u k next all one) (plan_mapped (after_service q tmu request) plan) m
+    (comes_any who (QpuFits IsOf (roles k)) (after_service q tmu request) (λ row. served_fits IsOf (roles k) tmu q request row known) plan m)
 
 tmu_comes : (OfJob : ℕ → Lists → Type 0) (IsOf : ℕ → Home → Type 0) (roles : Roles) (k tmu : ℕ) (u : Units) (found : Option Qpu) (words m : List ℕ) → UnitsFit OfJob IsOf roles u → IfSome found (QpuFits IsOf (roles k))
-    → IsTrue (glanced (tmu_may found tmu) m) → Comes (tmu_turn u k tmu found words).who (UnitsFit OfJob IsOf roles) (tmu_turn u k tmu found words).plan m
+    → IsTrue (glance_result (tmu_may found tmu) m) → Comes (tmu_turn u k tmu found words).who (UnitsFit OfJob IsOf roles) (tmu_turn u k tmu found words).plan m
 tmu_comes OfJob IsOf roles k tmu u None words m all known may = absurd (false≢true may)
 tmu_comes OfJob IsOf roles k tmu u (Some q) words m all known may = request_comes OfJob IsOf roles k tmu u q (oldest (queue_of q tmu)) words m all known
 
-pub unit_fits : (OfJob : ℕ → Lists → Type 0) (IsOf : ℕ → Home → Type 0) (roles : Roles) (u : Units) (unit : Actor) (words m : List ℕ) → SaysRoles OfJob IsOf m → UnitsFit OfJob IsOf roles u → IsTrue (glanced (unit_ready u unit) m)
+pub unit_fits : (OfJob : ℕ → Lists → Type 0) (IsOf : ℕ → Home → Type 0) (roles : Roles) (u : Units) (unit : Actor) (words m : List ℕ) → SaysRoles OfJob IsOf m → UnitsFit OfJob IsOf roles u → IsTrue (glance_result (unit_ready u unit) m)
     → Comes (unit_turn u unit words).who (UnitsFit OfJob IsOf (roles_after u unit words roles)) (unit_turn u unit words).plan m
 unit_fits OfJob IsOf roles u TheBinner words m here all may = binner_comes OfJob IsOf roles u (binner_job u) words m here all (first_fine OfJob has_binner_work 0 u.jobs all.jobs) may
 unit_fits OfJob IsOf roles u TheRenderer words m here all may = renderer_comes OfJob IsOf roles u (renderer_job u) words m here all (first_fine OfJob has_renderer_work 0 u.jobs all.jobs) may

@@ -1,7 +1,7 @@
 -- In each run of strict jobs, no step is forbidden, and loads take the oldest requests.
 use Rattle.std.proofs.Common.{ℕ, List, [], ◌∷◌, refl, sym, subst}
 use Rattle.machine_plan.specs.Others.{Happening, Steps, Changes, MayHappen, happen, AllMayHappen}
-use Rattle.machine_plan.specs.{Regions.Inside, Regions.Interval, Regions.IsSafeAccess, Regions.Rights, Regions.rights_of, Regions.HasReadOnly, Runs.reached}
+use Rattle.machine_plan.specs.{Regions.Inside, Regions.Interval, Regions.IsSafeAccess, Regions.Rights, Regions.rights_of, Regions.HasReadOnly, Runs.state_reached}
 use Rattle.machine_plan.proofs.{Others.Holds, Others.run_holds, Worlds.keeps_result}
 use Rattle.machine.specs.{declared.job.Start.Start, State.State, State.units_start, Step.Event, Step.ready, Step.turn, Step.unit_turn}
 use Rattle.machine_law.specs.{Jobs.ArePlain, Laws.AreFine, Units.EachAt}
@@ -30,7 +30,7 @@ happens_strict rights plains first s (Steps event) orders plain now may =
 happens_strict rights plains first s (Changes m) orders plain now may = now.strict
 
 pub all_strict : (rights : List Rights) (plains : ℕ → List Interval) (first : List ℕ) (s : State) (happenings : List (Happening Event)) (orders : Orders) → ArePlain rights plains → IsNow rights plains first orders s → AllMayHappen ready turn rights s happenings
-    → IsNow rights plains first (orders_along s happenings orders) (reached (happen turn) s happenings)
+    → IsNow rights plains first (orders_along s happenings orders) (state_reached (happen turn) s happenings)
 all_strict rights plains first s [] orders plain now may = now
 all_strict rights plains first s (one ∷ later) orders plain now may =
     all_strict rights plains first (happen turn s one).state later (orders_next s one orders) plain
@@ -41,7 +41,7 @@ all_strict rights plains first s (one ∷ later) orders plain now may =
 
 pub runs_strict : (rights : List Rights) (plains : ℕ → List Interval) (first m : List ℕ) (starts : List Start) (happenings : List (Happening Event)) → ArePlain rights plains → HasReadOnly rights first m → EachAt (JobStrict rights plains first) 0 starts
     → AllMayHappen ready turn rights (record { memory = m; units = units_start starts }) happenings
-    → IsNow rights plains first (orders_along (record { memory = m; units = units_start starts }) happenings (λ j tmu. [])) (reached (happen turn) (record { memory = m; units = units_start starts }) happenings)
+    → IsNow rights plains first (orders_along (record { memory = m; units = units_start starts }) happenings (λ j tmu. [])) (state_reached (happen turn) (record { memory = m; units = units_start starts }) happenings)
 runs_strict rights plains first m starts happenings plain has all may =
     let fine = start_fine rights plains first starts (each_begins rights plains first 0 starts (each_begin rights plains first 0 starts all)) in
     all_strict rights plains first (record { memory = m; units = units_start starts }) happenings (λ j tmu. []) plain (record { holds = record { units = fine; has = has }; strict = start_strict rights plains first starts all }) may

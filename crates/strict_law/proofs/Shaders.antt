@@ -1,8 +1,8 @@
 -- What no strict rule's being broken says of a checked instruction.
 use Rattle.std.proofs.Common.{◌≡◌, ◌<◌, ℕ, ◌+◌, Bool, true, false, ◌||◌, List, [], ◌∷◌, ◌++◌, length, if◌then◌else◌, nat_lt, refl, sym, ap, arith, ◌∙◌, length-append}
 use Rattle.std.proofs.lemmas.Bool.{or_parts}
-use Rattle.field_words.proofs.{Questions.none_stands, Nones.each_none, Nones.none_answered}
-use Rattle.qpu_isa.specs.{Terms.tmu_writes, Terms.writes_tmu, Terms.writes_s, Setups.kept}
+use Rattle.field_words.proofs.{Questions.none_broken, Nones.each_none, Nones.none_answered}
+use Rattle.qpu_isa.specs.{Terms.tmu_writes, Terms.writes_tmu, Terms.writes_s, Setups.setups_kept}
 use Rattle.shader_flow.specs.{Flow.word, Flow.checked_of, Flow.is_target, Pending.pending_of}
 use Rattle.shader_flow.proofs.Counts.{pending_inside}
 use Rattle.shader_check.proofs.{Clean.clean, Setups.one_word, Setups.no_word}
@@ -28,7 +28,7 @@ pub strict_here : (code : List ℕ) → IsStrict code → (i : ℕ) → i < chec
 unfolding strict_questions questions_at index_questions
 strict_here code strict i inside =
     let here = each_none (questions_at code) 0 (checked_of code) i strict (omega arith) (omega (arith, inside)) in
-    let r = none_stands (index_questions code i) (none_answered (strict_at i) (index_questions code i) here) in
+    let r = none_broken (index_questions code i) (none_answered (strict_at i) (index_questions code i) here) in
     let requests = serves_by code i r.1.1.0 in
     record {
       no1 = r.0;
@@ -52,8 +52,8 @@ kept_by false true u pending items long = length-append items (u ∷ []) ∙ ap 
 kept_by false false u pending items long = omega (arith, long)
 
 pub kept_long : (code : List ℕ) (n tmu u : ℕ) (items : List ℕ) → HasNoFault code → n < checked_of code → length items ≡ pending_of code tmu n
-    → length (kept (word code n) tmu u items) ≡ pending_of code tmu (n + 1)
-unfolding kept
+    → length (setups_kept (word code n) tmu u items) ≡ pending_of code tmu (n + 1)
+unfolding setups_kept
 kept_long code n tmu u items sound inside long =
     kept_by (writes_s (word code n) tmu) (writes_tmu (word code n) tmu) u (pending_of code tmu n) items long
     ∙ (ap (λ k. if writes_s (word code n) tmu then 0 else pending_of code tmu n + k) (sym (writes_one code n tmu (writes_tmu (word code n) tmu) sound inside refl))

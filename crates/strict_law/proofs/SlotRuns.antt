@@ -1,7 +1,7 @@
 -- In each run of strict jobs, each processor's requests have room.
 use Rattle.std.proofs.Common.{ℕ, List, [], ◌∷◌, refl, sym, subst}
 use Rattle.machine_plan.specs.Others.{Happening, Steps, Changes, MayHappen, happen, AllMayHappen}
-use Rattle.machine_plan.specs.{Regions.Inside, Regions.Interval, Regions.IsSafeAccess, Regions.Rights, Regions.rights_of, Runs.reached}
+use Rattle.machine_plan.specs.{Regions.Inside, Regions.Interval, Regions.IsSafeAccess, Regions.Rights, Regions.rights_of, Runs.state_reached}
 use Rattle.machine_plan.proofs.Worlds.{keeps_result}
 use Rattle.machine.specs.{State.State, State.units_start, Step.Event, Step.ready, Step.turn, Step.unit_turn}
 use Rattle.machine_law.specs.{Jobs.ArePlain, Laws.AreFine}
@@ -27,7 +27,7 @@ happens_slots rights plains first s (Steps event) orders slots plain now all may
 happens_slots rights plains first s (Changes m) orders slots plain now all may = all
 
 all_slots : (rights : List Rights) (plains : ℕ → List Interval) (first : List ℕ) (s : State) (happenings : List (Happening Event)) (orders : Orders) (slots : Slots) → ArePlain rights plains → IsNow rights plains first orders s
-    → UnitsSlots (IsHomeOf rights first) slots s.units → AllMayHappen ready turn rights s happenings → UnitsSlots (IsHomeOf rights first) (slots_along s happenings slots) (reached (happen turn) s happenings).units
+    → UnitsSlots (IsHomeOf rights first) slots s.units → AllMayHappen ready turn rights s happenings → UnitsSlots (IsHomeOf rights first) (slots_along s happenings slots) (state_reached (happen turn) s happenings).units
 all_slots rights plains first s [] orders slots plain now all may = all
 all_slots rights plains first s (one ∷ later) orders slots plain now all may =
     all_slots rights plains first (happen turn s one).state later (orders_next s one orders) (slots_next s one slots) plain

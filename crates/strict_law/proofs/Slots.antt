@@ -14,16 +14,16 @@ use Rattle.shader_check.proofs.{Clean.clean, Setups.one_tmu, Setups.s_writes}
 use Rattle.strict_rules.specs.{declared.state.Request.Request as Sent, Queue.request_at, Queue.queue_after, Queue.queue_of, Queue.slots_of, Queue.most_slots, Rules.lacks_slot}
 use Rattle.strict_rules.specs.Words as words
 use Rattle.strict_rules.proofs.Requests.{queue_inside}
-use Rattle.machine_plan.specs.{declared.launch.Free.Free, declared.launch.Launch.Launch, declared.who.Who.Who, Glance.glanced, Memory.bytes_at, Plan.Plan}
-use Rattle.machine_plan.specs.{World.mapped}
+use Rattle.machine_plan.specs.{declared.launch.Free.Free, declared.launch.Launch.Launch, declared.who.Who.Who, Glance.glance_result, Memory.bytes_at, Plan.Plan}
+use Rattle.machine_plan.specs.{World.plan_mapped}
 use Rattle.list_machine.specs.Binner.{has_binner_work, binner_ready, binner_plan}
 use Rattle.list_machine.specs.Lists.{Lists, binner_of, renderer_of}
 use Rattle.list_machine.specs.Renderer.{has_renderer_work, renderer_plan}
 use Rattle.qpu_machine.specs.{declared.state.Asked.Asked, declared.state.Qpu.Qpu, declared.state.Request.Request, declared.state.Thread.Thread, Request.ask_plan}
 use Rattle.qpu_machine.specs.{Start.thread_of, Step.ThreadTurn, Step.thread_plan, Writes.loads}
 use Rattle.qpu_machine.specs.declared.state.Fate.{Fate, TheVariants.Ends, TheVariants.Switches, TheVariants.GoesOn}
-use Rattle.qpu_machine.specs.Qpu.{active_of, job_of_thread, ready_by, plan_by, left_by, gives_way, woken_slot, settled, went, with_result, dropped, given, served, serving, has_none, is_beside, takes_first, takes_other, in_first, in_other, started_in, queue_of as requests_in, oldest, job_of_request, free_in, idle_qpu}
-use Rattle.qpu_law.specs.{Home.Home, Home.HasNoFault, Home.IsAt, Home.ArePending, Home.Lands, Home.done}
+use Rattle.qpu_machine.specs.Qpu.{active_of, job_of_thread, ready_by, plan_by, left_by, gives_way, woken_slot, after_turn, went, with_result, after_drop, result_given, after_service, serving, has_none, is_beside, takes_first, takes_other, in_first, in_other, started_in, queue_of as requests_in, oldest, job_of_request, free_in, idle_qpu}
+use Rattle.qpu_law.specs.{Home.Home, Home.HasNoFault, Home.IsAt, Home.ArePending, Home.Lands, Home.turn_done}
 use Rattle.qpu_law.proofs.{Going.behind, Going.fate_is, Going.in_checked, Going.is_went, Going.setups0_are, Going.setups1_are, Going.stays_in_code_law, Starting.starts_stand_law}
 use Rattle.machine.specs.Step.{with_launch, with_lists, with_qpu, is_ahead, binner_may, renderer_may, qpu_may, tmu_may, binner_turn, renderer_turn, qpu_turn, tmu_turn, unit_ready, unit_turn}
 use Rattle.machine.specs.State.{Units, Picked, item_at, binner_job, renderer_job}
@@ -111,14 +111,14 @@ pub record SlotsGo (IsOf : ℕ → Home → Type 0) (slots0 slots1 : List ℕ) (
   pub over : turn.leaves.fate ≡ Ends → (slots_with 0 w (words_kept 0 t) slots0 ≡ []) × (slots_with 1 w (words_kept 1 t) slots1 ≡ [])
 
 done_slots : (IsOf : ℕ → Home → Type 0) (slots0 slots1 : List ℕ) (t : Thread) (u uniforms : ℕ) (words m : List ℕ) → Finds IsOf m → (left : ThreadSlots IsOf slots0 slots1 t)
-    → SlotsGo IsOf slots0 slots1 t (word left.home.code left.index) (done (word left.home.code left.index) u uniforms words t)
+    → SlotsGo IsOf slots0 slots1 t (word left.home.code left.index) (turn_done (word left.home.code left.index) u uniforms words t)
 done_slots IsOf slots0 slots1 t u uniforms words m here left =
     let h = left.home in
     let i : ℕ = left.index in
     let w : ℕ = word h.code i in
     let home = (here t.job h left.stands).is in
     let inside : i < checked_of h.code = in_checked h.code i home.sound left.at.inside in
-    let next = (done w u uniforms words t).thread in
+    let next = (turn_done w u uniforms words t).thread in
     let on0 = slots_on h.code 0 i (words_kept 0 t) slots0 inside left.pending.tmu0 left.tmu0 in
     let on1 = slots_on h.code 1 i (words_kept 1 t) slots1 inside left.pending.tmu1 left.tmu1 in
     record {
@@ -204,8 +204,8 @@ other_by IsOf by true slots own rest mine other = mine
 other_by IsOf by false slots own rest mine other = other
 
 settled_slots : (IsOf : ℕ → Home → Type 0) (by : ℕ → List ℕ → List ℕ) (slots : ℕ → Bool → List ℕ) (q : Qpu) (job : ℕ) (own : Option Thread) (over : Bool) (asked : Option Asked) → QpuSlots IsOf slots q
-    → SlotHas IsOf (by 0 (slots 0 q.second)) (by 1 (slots 1 q.second)) own → QpuSlots IsOf (SlotsBy by q.second slots) (settled q job own over asked)
-unfolding settled
+    → SlotHas IsOf (by 0 (slots 0 q.second)) (by 1 (slots 1 q.second)) own → QpuSlots IsOf (SlotsBy by q.second slots) (after_turn q job own over asked)
+unfolding after_turn
 settled_slots IsOf by slots q job own over asked left mine = record {
   first = first_by IsOf by q.second slots (woken_slot over q.first) own (woken_slots IsOf (slots 0 false) (slots 1 false) over q.first left.first) mine;
   other = other_by IsOf by q.second slots own (woken_slot over q.other) mine (woken_slots IsOf (slots 0 true) (slots 1 true) over q.other left.other);
@@ -216,8 +216,8 @@ active_by : (IsOf : ℕ → Home → Type 0) (slots : ℕ → Bool → List ℕ)
 active_by IsOf slots true first other one two = two
 active_by IsOf slots false first other one two = one
 
-served_slots : (IsOf : ℕ → Home → Type 0) (slots : ℕ → Bool → List ℕ) (tmu : ℕ) (q : Qpu) (request : Request) (row : Option (List ℕ)) → QpuSlots IsOf slots q → QpuSlots IsOf slots (served q tmu request row)
-unfolding given dropped
+served_slots : (IsOf : ℕ → Home → Type 0) (slots : ℕ → Bool → List ℕ) (tmu : ℕ) (q : Qpu) (request : Request) (row : Option (List ℕ)) → QpuSlots IsOf slots q → QpuSlots IsOf slots (after_service q tmu request row)
+unfolding result_given after_drop
 served_slots IsOf slots tmu q request row left = record {
   first = chosen (SlotHas IsOf (slots 0 false) (slots 1 false)) request.second q.first (option_map (with_result tmu row) q.first) left.first (result_slots IsOf (slots 0 false) (slots 1 false) tmu row q.first left.first);
   other = chosen (SlotHas IsOf (slots 0 true) (slots 1 true)) request.second (option_map (with_result tmu row) q.other) q.other (result_slots IsOf (slots 0 true) (slots 1 true) tmu row q.other left.other) left.other;
@@ -280,7 +280,7 @@ abbrev pub UnitsSlots : (ℕ → Home → Type 0) → Slots → Units → Type 0
 UnitsSlots IsOf slots u = EachSlots IsOf slots 0 u.qpus
 
 binner_comes : (OfJob : ℕ → Lists → Type 0) (IsOf : ℕ → Home → Type 0) (slots : Slots) (u : Units) (found : Option (Picked Lists)) (words m : List ℕ) → Says OfJob IsOf m → UnitsSlots IsOf slots u → IfSome found (PickedFine OfJob)
-    → IsTrue (glanced (binner_may u found) m) → Comes (binner_turn u found words).who (UnitsSlots IsOf slots) (binner_turn u found words).plan m
+    → IsTrue (glance_result (binner_may u found) m) → Comes (binner_turn u found words).who (UnitsSlots IsOf slots) (binner_turn u found words).plan m
 binner_comes OfJob IsOf slots u None words m here all job may = absurd (false≢true may)
 binner_comes OfJob IsOf slots u (Some b) words m here all job may =
     let free : Free = free_in u.qpus in
@@ -288,7 +288,7 @@ binner_comes OfJob IsOf slots u (Some b) words m here all job may =
     (here.binner b.number b.item free words job (not_held (is_ahead b.number (renderer_job u)) (binner_ready b.item free) m may))
 
 renderer_comes : (OfJob : ℕ → Lists → Type 0) (IsOf : ℕ → Home → Type 0) (slots : Slots) (u : Units) (found : Option (Picked Lists)) (words m : List ℕ) → Says OfJob IsOf m → UnitsSlots IsOf slots u → IfSome found (PickedFine OfJob)
-    → IsTrue (glanced (renderer_may found) m) → Comes (renderer_turn u found words).who (UnitsSlots IsOf slots) (renderer_turn u found words).plan m
+    → IsTrue (glance_result (renderer_may found) m) → Comes (renderer_turn u found words).who (UnitsSlots IsOf slots) (renderer_turn u found words).plan m
 renderer_comes OfJob IsOf slots u None words m here all job may = absurd (false≢true may)
 renderer_comes OfJob IsOf slots u (Some r) words m here all job may =
     let free : Free = free_in u.qpus in
@@ -310,7 +310,7 @@ qpu_stays : (IsOf : ℕ → Home → Type 0) (slots : Slots) (u : Units) (k : �
 qpu_stays IsOf slots u k q all one = put_each (λ i p. QpuSlots IsOf (slots i) p) 0 k k u.qpus q (omega arith) one all
 
 slot_comes : (IsOf : ℕ → Home → Type 0) (slots : Slots) (k : ℕ) (u : Units) (q : Qpu) (slot : Option Thread) (words m : List ℕ) → active_of q ≡ slot → Finds IsOf m → UnitsSlots IsOf slots u → QpuSlots IsOf (slots k) q
-    → SlotHas IsOf (slots k 0 q.second) (slots k 1 q.second) slot → IsTrue (glanced (ready_by slot q) m) → Comes (record { unit = TheQpu k; job = job_of_thread slot }) (UnitsSlots IsOf (SlotsOn (Some q) k m slots)) (mapped (with_qpu u k) (plan_by slot q words)) m
+    → SlotHas IsOf (slots k 0 q.second) (slots k 1 q.second) slot → IsTrue (glance_result (ready_by slot q) m) → Comes (record { unit = TheQpu k; job = job_of_thread slot }) (UnitsSlots IsOf (SlotsOn (Some q) k m slots)) (plan_mapped (with_qpu u k) (plan_by slot q words)) m
 slot_comes IsOf slots k u q None words m active here all known thread may = absurd (false≢true may)
 slot_comes IsOf slots k u q (Some t) words m active here all known thread may =
     let who : Who = record { unit = TheQpu k; job = t.job } in
@@ -318,7 +318,7 @@ slot_comes IsOf slots k u q (Some t) words m active here all known thread may =
     let plan : Plan ThreadTurn = thread_plan t words in
     let Next : Qpu → Type 0 = QpuSlots IsOf (λ tmu second. slots_in (Some q) m tmu second (slots k tmu second)) in
     let by : ℕ → List ℕ → List ℕ = λ tmu one. slots_with tmu w (words_kept tmu t) one in
-    comes_into who (with_qpu u k) Next (UnitsSlots IsOf (SlotsOn (Some q) k m slots)) (λ next one. qpu_goes_on IsOf slots u k (Some q) m next all one) (mapped (went q t) plan) m
+    comes_into who (with_qpu u k) Next (UnitsSlots IsOf (SlotsOn (Some q) k m slots)) (λ next one. qpu_goes_on IsOf slots u k (Some q) m next all one) (plan_mapped (went q t) plan) m
     (comes_into who (went q t) (SlotsGo IsOf (slots k 0 q.second) (slots k 1 q.second) t w) Next
     (λ turn one. subst (λ (found : Option Thread). QpuSlots IsOf (λ tmu second. if (if q.second then second else not second) then slots_by found m tmu (slots k tmu second) else slots k tmu second) (went q t turn)) (sym active)
     (settled_slots IsOf by (slots k) q t.job (left_by turn.leaves.fate turn.thread) (gives_way turn.leaves.fate) turn.leaves.asked known
@@ -326,26 +326,26 @@ slot_comes IsOf slots k u q (Some t) words m active here all known thread may =
     (thread_slots IsOf (slots k 0 q.second) (slots k 1 q.second) t who words m here thread))
 
 qpu_comes : (IsOf : ℕ → Home → Type 0) (slots : Slots) (k : ℕ) (u : Units) (found : Option Qpu) (words m : List ℕ) → Finds IsOf m → UnitsSlots IsOf slots u → IfSome found (QpuSlots IsOf (slots k))
-    → IsTrue (glanced (qpu_may found) m) → Comes (qpu_turn u k found words).who (UnitsSlots IsOf (SlotsOn found k m slots)) (qpu_turn u k found words).plan m
+    → IsTrue (glance_result (qpu_may found) m) → Comes (qpu_turn u k found words).who (UnitsSlots IsOf (SlotsOn found k m slots)) (qpu_turn u k found words).plan m
 qpu_comes IsOf slots k u None words m here all known may = absurd (false≢true may)
 qpu_comes IsOf slots k u (Some q) words m here all known may = slot_comes IsOf slots k u q (active_of q) words m refl here all known (active_by IsOf (slots k) q.second q.first q.other known.first known.other) may
 
 request_comes : (IsOf : ℕ → Home → Type 0) (slots : Slots) (k tmu : ℕ) (u : Units) (q : Qpu) (found : Option Request) (words m : List ℕ) → UnitsSlots IsOf slots u → QpuSlots IsOf (slots k) q
-    → Comes (record { unit = TheTmu k tmu; job = job_of_request found }) (UnitsSlots IsOf slots) (mapped (with_qpu u k) (serving found q tmu words)) m
+    → Comes (record { unit = TheTmu k tmu; job = job_of_request found }) (UnitsSlots IsOf slots) (plan_mapped (with_qpu u k) (serving found q tmu words)) m
 request_comes IsOf slots k tmu u q None words m all known = qpu_stays IsOf slots u k q all known
 request_comes IsOf slots k tmu u q (Some request) words m all known =
     let who : Who = record { unit = TheTmu k tmu; job = request.job } in
     let plan : Plan (Option (List ℕ)) = ask_plan request.ask words in
-    comes_into who (with_qpu u k) (QpuSlots IsOf (slots k)) (UnitsSlots IsOf slots) (λ next one. qpu_stays IsOf slots u k next all one) (mapped (served q tmu request) plan) m
-    (comes_any who (QpuSlots IsOf (slots k)) (served q tmu request) (λ row. served_slots IsOf (slots k) tmu q request row known) plan m)
+    comes_into who (with_qpu u k) (QpuSlots IsOf (slots k)) (UnitsSlots IsOf slots) (λ next one. qpu_stays IsOf slots u k next all one) (plan_mapped (after_service q tmu request) plan) m
+    (comes_any who (QpuSlots IsOf (slots k)) (after_service q tmu request) (λ row. served_slots IsOf (slots k) tmu q request row known) plan m)
 
 tmu_comes : (IsOf : ℕ → Home → Type 0) (slots : Slots) (k tmu : ℕ) (u : Units) (found : Option Qpu) (words m : List ℕ) → UnitsSlots IsOf slots u → IfSome found (QpuSlots IsOf (slots k))
-    → IsTrue (glanced (tmu_may found tmu) m) → Comes (tmu_turn u k tmu found words).who (UnitsSlots IsOf slots) (tmu_turn u k tmu found words).plan m
+    → IsTrue (glance_result (tmu_may found tmu) m) → Comes (tmu_turn u k tmu found words).who (UnitsSlots IsOf slots) (tmu_turn u k tmu found words).plan m
 tmu_comes IsOf slots k tmu u None words m all known may = absurd (false≢true may)
 tmu_comes IsOf slots k tmu u (Some q) words m all known may = request_comes IsOf slots k tmu u q (oldest (requests_in q tmu)) words m all known
 
 pub unit_slots : (OfJob : ℕ → Lists → Type 0) (IsOf : ℕ → Home → Type 0) (orders : Orders) (slots : Slots) (u : Units) (unit : Actor) (words m : List ℕ) → Says OfJob IsOf m → UnitsStrict OfJob IsOf orders u → UnitsSlots IsOf slots u
-    → IsTrue (glanced (unit_ready u unit) m) → Comes (unit_turn u unit words).who (UnitsSlots IsOf (slots_after u unit m slots)) (unit_turn u unit words).plan m
+    → IsTrue (glance_result (unit_ready u unit) m) → Comes (unit_turn u unit words).who (UnitsSlots IsOf (slots_after u unit m slots)) (unit_turn u unit words).plan m
 unit_slots OfJob IsOf orders slots u TheBinner words m here strict all may = binner_comes OfJob IsOf slots u (binner_job u) words m here all (first_fine OfJob has_binner_work 0 u.jobs strict.jobs) may
 unit_slots OfJob IsOf orders slots u TheRenderer words m here strict all may = renderer_comes OfJob IsOf slots u (renderer_job u) words m here all (first_fine OfJob has_renderer_work 0 u.jobs strict.jobs) may
 unit_slots OfJob IsOf orders slots u (TheQpu k) words m here strict all may = qpu_comes IsOf slots k u (item_at u.qpus k) words m here.finds all (each_item (λ i q. QpuSlots IsOf (slots i) q) 0 k k u.qpus (omega arith) all) may

@@ -20,7 +20,7 @@ use Rattle.qpu_law.proofs.Pointer.{lost_writes, unknown_next}
 use Rattle.qpu_machine.specs.{declared.state.Mark.Mark, declared.state.Thread.Thread, Writes.fate_of, Writes.loads}
 use Rattle.qpu_machine.specs.declared.state.Fate.{Fate, TheVariants.Ends, TheVariants.Switches, TheVariants.GoesOn}
 use Rattle.promises.specs.Steps.{one_if}
-use Rattle.strict_rules.specs.{declared.state.Request.Request, Queue.request_at, Queue.queue_after, Queue.queue_of, Queue.acted, Rules.e4, Rules.has_older, Rules.loads_early, Rules.switches_late}
+use Rattle.strict_rules.specs.{declared.state.Request.Request, Queue.request_at, Queue.queue_after, Queue.queue_of, Queue.last_act, Rules.e4, Rules.has_older, Rules.loads_early, Rules.switches_late}
 use Rattle.strict_rules.specs.Words as words
 use Rattle.strict_rules.proofs.Requests.{queue_inside, acted_near, acted_here, acted_same, acted_early}
 use Rattle.strict_law.specs.{Strict.IsStrict, Known.IsSplit, Known.next_old}
@@ -68,17 +68,17 @@ unfolding request_at
 sent_late code tmu n a near = le-ltb n a near
 
 -- after an instruction, by the same switch
-pub split_on : (code : List ℕ) (tmu n old : ℕ) → n < checked_of code → IsSplit (acted code n) (queue_of code tmu n) old
-    → IsSplit (acted code n) (queue_of code tmu (n + 1)) (old - one_if (loads (word code n) tmu))
+pub split_on : (code : List ℕ) (tmu n old : ℕ) → n < checked_of code → IsSplit (last_act code n) (queue_of code tmu n) old
+    → IsSplit (last_act code n) (queue_of code tmu (n + 1)) (old - one_if (loads (word code n) tmu))
 unfolding queue_after
 split_on code tmu n old inside split =
     let w = word code n in
     let r : Request = request_at code tmu n in
     let queue : List Request = queue_of code tmu n in
-    let one = split_load (acted code n) (words.loads w tmu) queue old split in
-    let all = split_send (acted code n) (writes_s w tmu) r (if words.loads w tmu then drop 1 queue else queue) (old - one_if (words.loads w tmu)) (sent_late code tmu n (acted code n) (acted_near code n)) one in
-    subst (λ b. IsSplit (acted code n) (queue_of code tmu (n + 1)) (old - one_if b)) (same_load w tmu)
-    (subst (λ q. IsSplit (acted code n) q (old - one_if (words.loads w tmu))) (sym (queue_inside code tmu n inside)) all)
+    let one = split_load (last_act code n) (words.loads w tmu) queue old split in
+    let all = split_send (last_act code n) (writes_s w tmu) r (if words.loads w tmu then drop 1 queue else queue) (old - one_if (words.loads w tmu)) (sent_late code tmu n (last_act code n) (acted_near code n)) one in
+    subst (λ b. IsSplit (last_act code n) (queue_of code tmu (n + 1)) (old - one_if b)) (same_load w tmu)
+    (subst (λ q. IsSplit (last_act code n) q (old - one_if (words.loads w tmu))) (sym (queue_inside code tmu n inside)) all)
 
 -- all were sent before where they are counted
 earlier : (n : ℕ) (r : Request) → Before n r → Before (n + 1) r
@@ -162,12 +162,12 @@ no_early code n threaded off =
     let two = or_parts (loads_early code 0 n) (loads_early code 1 n) three.0 in
     (two.0, (two.1, three.1))
 
-pub takes_old : (code : List ℕ) (tmu n old : ℕ) → loads_early code tmu n ≡ false → loads (word code n) tmu ≡ true → 1 ≤ length (queue_of code tmu n) → IsSplit (acted code n) (queue_of code tmu n) old → 1 ≤ old
+pub takes_old : (code : List ℕ) (tmu n old : ℕ) → loads_early code tmu n ≡ false → loads (word code n) tmu ≡ true → 1 ≤ length (queue_of code tmu n) → IsSplit (last_act code n) (queue_of code tmu n) old → 1 ≤ old
 unfolding loads_early
 takes_old code tmu n old off load some split =
     let queue : List Request = queue_of code tmu n in
-    let rest = behind (words.loads (word code n) tmu) (nat_lt 0 (length queue) && not (has_older (acted code n) queue)) (same_load (word code n) tmu ∙ load) off in
-    some_older (acted code n) queue old split (not_off (has_older (acted code n) queue) (behind (nat_lt 0 (length queue)) (not (has_older (acted code n) queue)) (above_zero (length queue) some) rest))
+    let rest = behind (words.loads (word code n) tmu) (nat_lt 0 (length queue) && not (has_older (last_act code n) queue)) (same_load (word code n) tmu ∙ load) off in
+    some_older (last_act code n) queue old split (not_off (has_older (last_act code n) queue) (behind (nat_lt 0 (length queue)) (not (has_older (last_act code n) queue)) (above_zero (length queue) some) rest))
 
 pub early_at : (code : List ℕ) (n : ℕ) → is_threaded code ≡ true → e4 code n ≡ false → (tmu : ℕ) → tmu < 2 → loads_early code tmu n ≡ false
 early_at code n threaded off zero small = (no_early code n threaded off).0
@@ -183,17 +183,17 @@ not_switch code s off switch =
       λ from. behind (nat_le 2 s) (is_switch (word code (s - 2))) (le-leb 2 s from) two.1,
     )
 
-acted_by : (code : List ℕ) (i : ℕ) → (2 ≤ i → is_switch (word code (i - 2)) ≡ false) → acted code (i + 1) ≡ acted code i
+acted_by : (code : List ℕ) (i : ℕ) → (2 ≤ i → is_switch (word code (i - 2)) ≡ false) → last_act code (i + 1) ≡ last_act code i
 acted_by code i none = elim (cases_lt i 2) [
   | inl early ↦ acted_early code i early
   | inr late ↦ acted_same code i late (none late)
 ]
 
-acted_still : (code : List ℕ) (s : ℕ) → s11 code s ≡ false → is_switch (word code s) ≡ true → acted code (s + 2) ≡ acted code s
+acted_still : (code : List ℕ) (s : ℕ) → s11 code s ≡ false → is_switch (word code s) ≡ true → last_act code (s + 2) ≡ last_act code s
 acted_still code s off switch =
     let none = not_switch code s off switch in
     let e : s + 2 ≡ s + 1 + 1 = omega arith in
-    ap (acted code) e
+    ap (last_act code) e
     ∙ (acted_by code (s + 1) (λ from. let same : s + 1 - 2 ≡ s - 1 = omega arith in ap (λ k. is_switch (word code k)) same ∙ none.0 (omega (arith, from)))
     ∙ acted_by code s none.1)
 
@@ -212,19 +212,19 @@ by_count f (suc zero) small first second = second
 by_count f (suc (suc tmu)) small first second = absurd (omega (arith, small))
 
 pub switch_old : (code : List ℕ) (tmu n old : ℕ) → HasNoFault code → IsStrict code → n < checked_of code → tmu < 2 → 2 ≤ n → is_switch (word code (n - 2)) ≡ true
-    → IsSplit (acted code n) (queue_of code tmu (n + 1)) old → old ≡ 0
+    → IsSplit (last_act code n) (queue_of code tmu (n + 1)) old → old ≡ 0
 unfolding switches_late
 switch_old code tmu n old sound strict inside small from switch split =
     let s : ℕ = n - 2 in
     let here : s < checked_of code = omega (arith, inside) in
     let threaded : is_threaded code ≡ true = has_switch code s here switch in
     let off = (no_early code s threaded (strict_here code strict s here).no4).1.1 in
-    let two = or_parts (has_older (acted code s) (queue_of code 0 (s + 3))) (has_older (acted code s) (queue_of code 1 (s + 3))) (behind (is_switch (word code s)) (has_older (acted code s) (queue_of code 0 (s + 3)) || has_older (acted code s) (queue_of code 1 (s + 3))) switch off) in
-    let none : has_older (acted code s) (queue_of code tmu (s + 3)) ≡ false = by_tmu (λ k. has_older (acted code s) (queue_of code k (s + 3))) tmu small two.0 two.1 in
-    let still : acted code n ≡ acted code s = (let e : n ≡ s + 2 = omega (arith, from) in ap (acted code) e ∙ acted_still code s (fine_at code sound s here).no11 switch) in
+    let two = or_parts (has_older (last_act code s) (queue_of code 0 (s + 3))) (has_older (last_act code s) (queue_of code 1 (s + 3))) (behind (is_switch (word code s)) (has_older (last_act code s) (queue_of code 0 (s + 3)) || has_older (last_act code s) (queue_of code 1 (s + 3))) switch off) in
+    let none : has_older (last_act code s) (queue_of code tmu (s + 3)) ≡ false = by_tmu (λ k. has_older (last_act code s) (queue_of code k (s + 3))) tmu small two.0 two.1 in
+    let still : last_act code n ≡ last_act code s = (let e : n ≡ s + 2 = omega (arith, from) in ap (last_act code) e ∙ acted_still code s (fine_at code sound s here).no11 switch) in
     let e : s + 3 ≡ n + 1 = omega (arith, from) in
-    none_older (acted code n) (queue_of code tmu (n + 1)) old split
-    (ap (λ a. has_older a (queue_of code tmu (n + 1))) still ∙ (ap (λ i. has_older (acted code s) (queue_of code tmu i)) (sym e) ∙ none))
+    none_older (last_act code n) (queue_of code tmu (n + 1)) old split
+    (ap (λ a. has_older a (queue_of code tmu (n + 1))) still ∙ (ap (λ i. has_older (last_act code s) (queue_of code tmu i)) (sym e) ∙ none))
 
 -- In a switch's slots to which a branch leads nothing is sent: each TMU write takes a uniform, and no position is known there.
 tmu_write : (code : List ℕ) (i tmu : ℕ) → tmu < 2 → HasNoFault code → i < checked_of code → writes_tmu (word code i) tmu ≡ true
@@ -314,12 +314,12 @@ no_switch t is = goes_by (is_end t.last2.word) (is_switch t.last2.word) is
 
 -- After an instruction of a thread that lives on, whether a switch acted or not.
 goes_split : (h : Home) (n : ℕ) (t : Thread) (tmu old : ℕ) → tmu < 2 → HasNoFault h.code → IsStrict h.code → n < checked_of h.code → IsAt h n t → is_switch t.last2.word ≡ false
-    → IsSplit (acted h.code n) (queue_of h.code tmu n) old → IsSplit (acted h.code (n + 1)) (queue_of h.code tmu (n + 1)) (old - one_if (loads (word h.code n) tmu))
+    → IsSplit (last_act h.code n) (queue_of h.code tmu n) old → IsSplit (last_act h.code (n + 1)) (queue_of h.code tmu (n + 1)) (old - one_if (loads (word h.code n) tmu))
 goes_split h n t tmu old small sound strict inside at quiet split =
     let code = h.code in
     let left : ℕ = old - one_if (loads (word code n) tmu) in
-    let on : IsSplit (acted code n) (queue_of code tmu (n + 1)) left = split_on code tmu n old inside split in
-    let stays : acted code (n + 1) ≡ acted code n → IsSplit (acted code (n + 1)) (queue_of code tmu (n + 1)) left = λ same. subst (λ a. IsSplit a (queue_of code tmu (n + 1)) left) (sym same) on in
+    let on : IsSplit (last_act code n) (queue_of code tmu (n + 1)) left = split_on code tmu n old inside split in
+    let stays : last_act code (n + 1) ≡ last_act code n → IsSplit (last_act code (n + 1)) (queue_of code tmu (n + 1)) left = λ same. subst (λ a. IsSplit a (queue_of code tmu (n + 1)) left) (sym same) on in
     elim (cases_lt n 2) [
       | inl early ↦ stays (acted_early code n early)
       | inr late ↦
@@ -329,21 +329,21 @@ goes_split h n t tmu old small sound strict inside at quiet split =
                   | inl exact ↦ absurd (true≢false (sym (ap is_switch exact.is ∙ switch) ∙ quiet))
                   | inr blank ↦
                       (let none = blank_none code n tmu t.last2 small sound strict inside late blank in
-                      let few = split_few (acted code n) (queue_of code tmu (n + 1)) left on in
-                      split_none (acted code (n + 1)) (queue_of code tmu (n + 1)) left none (omega (arith, none, few)))
+                      let few = split_few (last_act code n) (queue_of code tmu (n + 1)) left on in
+                      split_none (last_act code (n + 1)) (queue_of code tmu (n + 1)) left none (omega (arith, none, few)))
                 ]
             | inr none ↦ stays (acted_same code n late none)
           ]
     ]
 
-switch_split : (code : List ℕ) (tmu n : ℕ) → n < checked_of code → 2 ≤ n → is_switch (word code (n - 2)) ≡ true → IsSplit (acted code (n + 1)) (queue_of code tmu (n + 1)) (length (queue_of code tmu (n + 1)))
+switch_split : (code : List ℕ) (tmu n : ℕ) → n < checked_of code → 2 ≤ n → is_switch (word code (n - 2)) ≡ true → IsSplit (last_act code (n + 1)) (queue_of code tmu (n + 1)) (length (queue_of code tmu (n + 1)))
 switch_split code tmu n inside from switch =
     subst (λ a. IsSplit a (queue_of code tmu (n + 1)) (length (queue_of code tmu (n + 1)))) (sym (acted_here code n from switch)) (split_all code tmu (n + 1) (omega (arith, inside)))
 
 -- how many are older then: all, where the thread switches
 pub next_split : (h : Home) (n : ℕ) (t : Thread) (tmu old : ℕ) (fate : Fate) → tmu < 2 → HasNoFault h.code → IsStrict h.code → n < checked_of h.code → IsAt h n t → fate_of t ≡ fate → fate ≢ Ends
-    → IsSplit (acted h.code n) (queue_of h.code tmu n) old
-    → IsSplit (acted h.code (n + 1)) (queue_of h.code tmu (n + 1)) (next_old fate (old - one_if (loads (word h.code n) tmu)) (length (queue_of h.code tmu (n + 1))))
+    → IsSplit (last_act h.code n) (queue_of h.code tmu n) old
+    → IsSplit (last_act h.code (n + 1)) (queue_of h.code tmu (n + 1)) (next_old fate (old - one_if (loads (word h.code n) tmu)) (length (queue_of h.code tmu (n + 1))))
 next_split h n t tmu old GoesOn small sound strict inside at is lives split = goes_split h n t tmu old small sound strict inside at (no_switch t is) split
 next_split h n t tmu old Switches small sound strict inside at is lives split = let switch = at_switch h n t at is in switch_split h.code tmu n inside switch.0 switch.1
 next_split h n t tmu old Ends small sound strict inside at is lives split = absurd (lives refl)

@@ -7,21 +7,21 @@ use Rattle.qpu_isa.specs.Terms.{is_switch, writes_s}
 use Rattle.shader_flow.specs.{Flow.word, Flow.end_of, Flow.checked_of, Flow.is_threaded, Pending.pending_of}
 use Rattle.shader_flow.proofs.Ends.{checked_of-le}
 use Rattle.uniform_stream.specs.Rules.{s20}
-use Rattle.machine_plan.specs.{declared.launch.Launch.Launch, declared.who.Who.Who, Glance.glanced, Memory.bytes_at}
+use Rattle.machine_plan.specs.{declared.launch.Launch.Launch, declared.who.Who.Who, Glance.glance_result, Memory.bytes_at}
 use Rattle.machine_plan.specs.{Plan.Plan, Plan.Done, Plan.Wilds, Plan.Reads}
 use Rattle.list_law.proofs.Safe.{keeps_if}
-use Rattle.qpu_machine.specs.Step.{ThreadTurn, executed, word_plan, thread_plan, is_held_by, is_held, thread_ready}
+use Rattle.qpu_machine.specs.Step.{ThreadTurn, turn_executed, word_plan, thread_plan, is_held_by, is_held, thread_ready}
 use Rattle.qpu_machine.specs.Writes.{awake, past_uniform, fate_of, loads}
 use Rattle.qpu_machine.specs.{declared.state.Thread.Thread, Start.thread_of, Wild.takes_one, Wild.is_wild}
 use Rattle.qpu_machine.specs.declared.state.Fate.{Fate, TheVariants.Ends, TheVariants.Switches}
-use Rattle.qpu_law.specs.Home.{Home, HasNoFault, IsAt, Jumps, GoesTo, Lands, done}
+use Rattle.qpu_law.specs.Home.{Home, HasNoFault, IsAt, Jumps, GoesTo, Lands, turn_done}
 use Rattle.qpu_law.proofs.Going.{behind, fine_at, in_checked, is_went, setups0_are, setups1_are, fate_is, stays_in_code_law}
 use Rattle.qpu_law.proofs.Starting.{starts_stand_law}
 use Rattle.promises.specs.Steps.{one_if}
 use Rattle.ends_law.proofs.Plans.{AnyLook, AnyAccess, Comes}
 use Rattle.served_law.proofs.Threads.{asks, done_asks, results0_are, results1_are, taken_left, load_has}
 use Rattle.served_law.proofs.Shaders.{HasNone, one_s, count_on, jump_from, zero_by, ends_none}
-use Rattle.strict_rules.specs.{Queue.queue_of, Queue.acted, Queue.keeps_words, Rules.e1}
+use Rattle.strict_rules.specs.{Queue.queue_of, Queue.last_act, Queue.keeps_words, Rules.e1}
 use Rattle.strict_law.specs.{Strict.IsStrict, Known.Finds, Known.LaunchStrict, Known.ThreadStrict, Known.IsSplit, Known.KeepsNone, Known.next_old}
 use Rattle.strict_law.proofs.Shaders.{strict_here, kept_long, empty_at}
 use Rattle.served_law.proofs.Marks.{at_end, at_switch}
@@ -88,7 +88,7 @@ pub record ThreadGoes (IsOf : ℕ → Home → Type 0) (queued0 queued1 old0 old
   pub goes0 : TmuGoes (loads w 0) (writes_s w 0) t.threaded old0 (queued0 + length t.results0.items) (queued0 + asks 0 turn.leaves.asked + length turn.thread.results0.items) turn.leaves.fate
   pub goes1 : TmuGoes (loads w 1) (writes_s w 1) t.threaded old1 (queued1 + length t.results1.items) (queued1 + asks 1 turn.leaves.asked + length turn.thread.results1.items) turn.leaves.fate
 
-pub old_or_single : (h : Home) (n tmu old all : ℕ) (threaded : Bool) → tmu < 2 → threaded ≡ is_threaded h.code → IsStrict h.code → n < checked_of h.code → IsSplit (acted h.code n) (queue_of h.code tmu n) old → all ≡ length (queue_of h.code tmu n)
+pub old_or_single : (h : Home) (n tmu old all : ℕ) (threaded : Bool) → tmu < 2 → threaded ≡ is_threaded h.code → IsStrict h.code → n < checked_of h.code → IsSplit (last_act h.code n) (queue_of h.code tmu n) old → all ≡ length (queue_of h.code tmu n)
     → loads (word h.code n) tmu ≡ true → 1 ≤ all → (1 ≤ old) ⊎ (threaded ≡ false)
 old_or_single h n tmu old all true small is strict inside split count load some =
     inl (takes_old h.code tmu n old (early_at h.code n (sym is) (strict_here h.code strict n inside).no4 tmu small) load (omega (arith, count, some)) split)
@@ -99,11 +99,11 @@ load_some true n has on = has
 load_some false n has on = absurd (true≢false (sym on))
 
 tmu_goes : (h : Home) (n : ℕ) (t : Thread) (tmu old queued finished after more : ℕ) (fate : Fate) → tmu < 2 → HasNoFault h.code → IsStrict h.code → n < checked_of h.code → IsAt h n t → fate_of t ≡ fate
-    → IsSplit (acted h.code n) (queue_of h.code tmu n) old → queued + finished ≡ length (queue_of h.code tmu n) → one_if (loads (word h.code n) tmu) ≤ finished
+    → IsSplit (last_act h.code n) (queue_of h.code tmu n) old → queued + finished ≡ length (queue_of h.code tmu n) → one_if (loads (word h.code n) tmu) ≤ finished
     → after ≡ finished - one_if (loads (word h.code n) tmu) → more ≡ one_if (writes_s (word h.code n) tmu)
     → TmuGoes (loads (word h.code n) tmu) (writes_s (word h.code n) tmu) t.threaded old (queued + finished) (queued + more + after) fate
 tmu_goes h n t tmu old queued finished after more fate small sound strict inside at is split count has taken sent =
-    let few = split_few (acted h.code n) (queue_of h.code tmu n) old split in
+    let few = split_few (last_act h.code n) (queue_of h.code tmu n) old split in
     let some : loads (word h.code n) tmu ≡ true → 1 ≤ queued + finished = λ on. (let one = load_some (loads (word h.code n) tmu) finished has on in omega (arith, one)) in
     record {
       few = omega (arith, few, count);
@@ -121,34 +121,34 @@ none_left code sound strict n last = ends_none code n (strict_here code strict (
 
 -- what is older where the thread comes to
 empty_split : (h : Home) (n to tmu old all : ℕ) (fate : Fate) → tmu < 2 → HasNoFault h.code → IsStrict h.code → n < checked_of h.code → Jumps h.code n to → all ≡ length (queue_of h.code tmu (n + 1))
-    → IsSplit (acted h.code (n + 1)) (queue_of h.code tmu (n + 1)) old → IsSplit (acted h.code to) (queue_of h.code tmu to) old
+    → IsSplit (last_act h.code (n + 1)) (queue_of h.code tmu (n + 1)) old → IsSplit (last_act h.code to) (queue_of h.code tmu to) old
 empty_split h n to tmu old all fate small sound strict inside jump count split =
     let from = empty_at h.code (n + 1) sound strict (jump_from h.code n to sound inside jump) in
     let there = empty_at h.code to sound strict jump.target in
     let none = by_count (λ k. length (queue_of h.code k (n + 1))) tmu small from.queue0 from.queue1 in
-    let few = split_few (acted h.code (n + 1)) (queue_of h.code tmu (n + 1)) old split in
-    split_none (acted h.code to) (queue_of h.code tmu to) old (by_count (λ k. length (queue_of h.code k to)) tmu small there.queue0 there.queue1) (omega (arith, none, few))
+    let few = split_few (last_act h.code (n + 1)) (queue_of h.code tmu (n + 1)) old split in
+    split_none (last_act h.code to) (queue_of h.code tmu to) old (by_count (λ k. length (queue_of h.code k to)) tmu small there.queue0 there.queue1) (omega (arith, none, few))
 
 to_split : (h : Home) (n to : ℕ) (t next : Thread) (tmu old all : ℕ) (fate : Fate) → tmu < 2 → HasNoFault h.code → IsStrict h.code → n < checked_of h.code → IsAt h n t → fate_of t ≡ fate → fate ≢ Ends
-    → all ≡ length (queue_of h.code tmu (n + 1)) → IsSplit (acted h.code n) (queue_of h.code tmu n) old → (to ≡ n + 1) ⊎ Lands h.code n to t next
-    → IsSplit (acted h.code to) (queue_of h.code tmu to) (next_old fate (old - one_if (loads (word h.code n) tmu)) all)
+    → all ≡ length (queue_of h.code tmu (n + 1)) → IsSplit (last_act h.code n) (queue_of h.code tmu n) old → (to ≡ n + 1) ⊎ Lands h.code n to t next
+    → IsSplit (last_act h.code to) (queue_of h.code tmu to) (next_old fate (old - one_if (loads (word h.code n) tmu)) all)
 to_split h n to t next tmu old all fate small sound strict inside at is lives count split way =
     let code = h.code in
-    let on : IsSplit (acted code (n + 1)) (queue_of code tmu (n + 1)) (next_old fate (old - one_if (loads (word code n) tmu)) all) =
-    subst (λ k. IsSplit (acted code (n + 1)) (queue_of code tmu (n + 1)) (next_old fate (old - one_if (loads (word code n) tmu)) k)) (sym count) (next_split h n t tmu old fate small sound strict inside at is lives split) in
+    let on : IsSplit (last_act code (n + 1)) (queue_of code tmu (n + 1)) (next_old fate (old - one_if (loads (word code n) tmu)) all) =
+    subst (λ k. IsSplit (last_act code (n + 1)) (queue_of code tmu (n + 1)) (next_old fate (old - one_if (loads (word code n) tmu)) k)) (sym count) (next_split h n t tmu old fate small sound strict inside at is lives split) in
     elim way [
-      | inl same ↦ subst (λ i. IsSplit (acted code i) (queue_of code tmu i) (next_old fate (old - one_if (loads (word code n) tmu)) all)) (sym same) on
+      | inl same ↦ subst (λ i. IsSplit (last_act code i) (queue_of code tmu i) (next_old fate (old - one_if (loads (word code n) tmu)) all)) (sym same) on
       | inr lands ↦ empty_split h n to tmu (next_old fate (old - one_if (loads (word code n) tmu)) all) all fate small sound strict inside lands.jump count on
     ]
 
 done_goes : (IsOf : ℕ → Home → Type 0) (queued0 queued1 old0 old1 : ℕ) (t : Thread) (u uniforms : ℕ) (words m : List ℕ) → Finds IsOf m → (left : ThreadStrict IsOf queued0 queued1 old0 old1 t)
-    → is_held t (word left.home.code left.index) queued0 queued1 ≡ false → ThreadGoes IsOf queued0 queued1 old0 old1 t (word left.home.code left.index) (done (word left.home.code left.index) u uniforms words t)
+    → is_held t (word left.home.code left.index) queued0 queued1 ≡ false → ThreadGoes IsOf queued0 queued1 old0 old1 t (word left.home.code left.index) (turn_done (word left.home.code left.index) u uniforms words t)
 unfolding is_held s20
 done_goes IsOf queued0 queued1 old0 old1 t u uniforms words m here left free =
     let h = left.home in
     let i : ℕ = left.index in
     let w : ℕ = word h.code i in
-    let turn = done w u uniforms words t in
+    let turn = turn_done w u uniforms words t in
     let next = turn.thread in
     let home = (here t.job h left.stands).is in
     let inside : i < checked_of h.code = in_checked h.code i home.sound left.at.inside in
@@ -199,8 +199,8 @@ unfolding word_plan past_uniform
 word_goes IsOf queued0 queued1 old0 old1 t who words m here left free =
     let w : ℕ = word left.home.code left.index in
     let P = λ (k : List ℕ) (turn : ThreadTurn). ThreadGoes IsOf queued0 queued1 old0 old1 t w turn in
-    let taken : Plan ThreadTurn = Reads t.uniforms 4 (λ bytes. Done (executed w (u32_at bytes 0) words (awake words (past_uniform t)))) in
-    let untaken : Plan ThreadTurn = Done (executed w 0 words (awake words t)) in
+    let taken : Plan ThreadTurn = Reads t.uniforms 4 (λ bytes. Done (turn_executed w (u32_at bytes 0) words (awake words (past_uniform t)))) in
+    let untaken : Plan ThreadTurn = Done (turn_executed w 0 words (awake words t)) in
     keeps_if who AnyLook AnyAccess P m (is_wild t w) Wilds (if takes_one t w then taken else untaken) (λ wild. tt)
     (λ tame. keeps_if who AnyLook AnyAccess P m (takes_one t w) taken untaken
     (λ on. (tt, done_goes IsOf queued0 queued1 old0 old1 t (u32_at (bytes_at m t.uniforms 4) 0) ((t.uniforms + 4) % 2 ^ 32) words m here left free))
@@ -218,7 +218,7 @@ reads_word IsOf queued0 queued1 old0 old1 t m here left =
     ap (λ q. from_le_bytes w64 (bytes_at m q 8)) left.at.place ∙ home.code_is left.index there
 
 pub thread_goes : (IsOf : ℕ → Home → Type 0) (queued0 queued1 old0 old1 : ℕ) (t : Thread) (who : Who) (words m : List ℕ) → Finds IsOf m → ThreadStrict IsOf queued0 queued1 old0 old1 t
-    → glanced (thread_ready t queued0 queued1) m ≡ true → Comes who (ThreadGoes IsOf queued0 queued1 old0 old1 t (from_le_bytes w64 (bytes_at m t.place 8))) (thread_plan t words) m
+    → glance_result (thread_ready t queued0 queued1) m ≡ true → Comes who (ThreadGoes IsOf queued0 queued1 old0 old1 t (from_le_bytes w64 (bytes_at m t.place 8))) (thread_plan t words) m
 unfolding thread_plan thread_ready
 thread_goes IsOf queued0 queued1 old0 old1 t who words m here left ready =
     let read = reads_word IsOf queued0 queued1 old0 old1 t m here left in
@@ -237,6 +237,6 @@ thread_begins IsOf j launch known = record {
   pending = record { tmu0 = refl; tmu1 = refl };
   tmu0 = refl;
   tmu1 = refl;
-  split0 = split_none (acted known.home.code 0) [] 0 refl refl;
-  split1 = split_none (acted known.home.code 0) [] 0 refl refl;
+  split0 = split_none (last_act known.home.code 0) [] 0 refl refl;
+  split1 = split_none (last_act known.home.code 0) [] 0 refl refl;
 }

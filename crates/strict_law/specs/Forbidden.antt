@@ -8,13 +8,13 @@ use Rattle.std.specs.Int.{from_le_bytes, w64}
 use Rattle.field_words.specs.declared.access.Actor.TheVariants.{Qpu as TheQpu}
 use Rattle.qpu_isa.specs.Word.{sig_of, waddr_add_of, waddr_mul_of, raddr_a_of, raddr_b_of}
 use Rattle.qpu_isa.specs.Terms.{is_alu, is_branch, is_end, has_small, names_address, writes_s}
-use Rattle.qpu_isa.specs.Setups.{kept}
+use Rattle.qpu_isa.specs.Setups.{setups_kept}
 use Rattle.machine_plan.specs.Memory.{bytes_at}
 use Rattle.qpu_machine.specs.{declared.state.Qpu.Qpu, declared.state.Thread.Thread}
 use Rattle.qpu_machine.specs.declared.state.Fate.TheVariants.{Ends, Switches}
-use Rattle.qpu_machine.specs.{Qpu.active_of, Qpu.queued, Qpu.resting_of, Wild.takes_one, Writes.fate_of, Writes.loads}
+use Rattle.qpu_machine.specs.{Qpu.active_of, Qpu.queue_count, Qpu.resting_of, Wild.takes_one, Writes.fate_of, Writes.loads}
 use Rattle.machine.specs.{State.State, State.item_at, Step.Event}
-use Rattle.promises.specs.{Steps.one_if, Finished.unloaded}
+use Rattle.promises.specs.{Steps.one_if, Finished.count_unloaded}
 
 -- The event is a step of a processor whose active thread executes this instruction.
 pub record Executes (s : State) (event : Event) (q : Qpu) (t : Thread) (word : ℕ) : Type 0 where
@@ -26,7 +26,7 @@ pub record Executes (s : State) (event : Event) (q : Qpu) (t : Thread) (word : �
 
 -- behind the instruction a TMU keeps set-up words of the thread
 unfoldable pub keeps_words : Thread → ℕ → Bool
-keeps_words t word = nat_lt 0 (length (kept word 0 0 t.setups0.items)) || nat_lt 0 (length (kept word 1 0 t.setups1.items))
+keeps_words t word = nat_lt 0 (length (setups_kept word 0 0 t.setups0.items)) || nat_lt 0 (length (setups_kept word 1 0 t.setups1.items))
 
 -- a TMU keeps set-up words of the thread now
 unfoldable pub has_words : Thread → Bool
@@ -34,10 +34,10 @@ has_words t = nat_lt 0 (length t.setups0.items) || nat_lt 0 (length t.setups1.it
 
 -- How many requests and results of the active thread a TMU has: none of these was loaded.
 unfoldable pub unloaded0 : Qpu → Thread → ℕ
-unloaded0 q t = queued q.second q.queue0.items + length t.results0.items
+unloaded0 q t = queue_count q.second q.queue0.items + length t.results0.items
 
 unfoldable pub unloaded1 : Qpu → Thread → ℕ
-unloaded1 q t = queued q.second q.queue1.items + length t.results1.items
+unloaded1 q t = queue_count q.second q.queue1.items + length t.results1.items
 
 -- it loads from a TMU that has nothing of the thread
 unfoldable pub loads_nothing : Qpu → Thread → ℕ → Bool
@@ -90,7 +90,7 @@ pub data IsForbidden (s : State) (event : Event) : Type 0 where
   RestsWithWords : (k : ℕ) (q : Qpu) (t : Thread) → item_at s.units.qpus k ≡ Some q → resting_of q ≡ Some t → has_words t ≡ true → IsForbidden s event
   EndsWithWords : (q : Qpu) (t : Thread) (word : ℕ) → Executes s event q t word → fate_of t ≡ Ends → keeps_words t word ≡ true → IsForbidden s event
   LoadsNothing : (q : Qpu) (t : Thread) (word : ℕ) → Executes s event q t word → loads_nothing q t word ≡ true → IsForbidden s event
-  LacksRoom : (q : Qpu) (t : Thread) (word : ℕ) → Executes s event q t word → sends word ≡ true → nat_le 4 (unloaded q) ≡ true → IsForbidden s event
+  LacksRoom : (q : Qpu) (t : Thread) (word : ℕ) → Executes s event q t word → sends word ≡ true → nat_le 4 (count_unloaded q) ≡ true → IsForbidden s event
   LeavesRequests : (q : Qpu) (t : Thread) (word : ℕ) → Executes s event q t word → fate_of t ≡ Ends → leaves_requests q t word ≡ true → IsForbidden s event
   UsesClosed : (q : Qpu) (t : Thread) (word : ℕ) → Executes s event q t word → is_last t word ≡ true → uses_closed t word ≡ true → IsForbidden s event
   UsesTwo : (q : Qpu) (t : Thread) (word : ℕ) → Executes s event q t word → nat_lt 1 (peripherals word) ≡ true → IsForbidden s event

@@ -4,10 +4,10 @@ use Rattle.machine_plan.specs.declared.launch.Launch.{Launch}
 use Rattle.machine_plan.specs.Regions.{Every, Interval, Rights, rights_of, HasReadOnly}
 use Rattle.packets.specs.declared.config.Config.{Config}
 use Rattle.shader_flow.specs.Flow.{is_threaded}
-use Rattle.strict_rules.specs.{declared.state.Request.Request, Queue.queue_of, Queue.acted}
+use Rattle.strict_rules.specs.{declared.state.Request.Request, Queue.queue_of, Queue.last_act}
 use Rattle.list_machine.specs.{declared.state.Frame.Frame, Lists.Lists, Lists.Turned}
 use Rattle.list_law.specs.{Binning.Allocates, Lists.ListsFine}
-use Rattle.qpu_machine.specs.{declared.state.Qpu.Qpu, declared.state.Thread.Thread, Bounds.finished0, Bounds.finished1, Qpu.queued, Qpu.resting_of}
+use Rattle.qpu_machine.specs.{declared.state.Qpu.Qpu, declared.state.Thread.Thread, Bounds.finished0, Bounds.finished1, Qpu.queue_count, Qpu.resting_of}
 use Rattle.qpu_machine.specs.declared.state.Fate.{Fate, TheVariants.Ends, TheVariants.Switches, TheVariants.GoesOn}
 use Rattle.qpu_law.specs.{Home.Home, Home.IsAt, Home.ArePending, Thread.IsHome}
 use Rattle.machine.specs.State.{Units}
@@ -16,13 +16,13 @@ use Rattle.served_law.specs.Known.{AreBeside}
 use Rattle.strict_law.specs.Strict.{IsStrict}
 
 -- The shader stands in this memory.
-pub record StandsIn (m : List ℕ) (home : Home) : Type 0 where
+pub record LiesIn (m : List ℕ) (home : Home) : Type 0 where
   pub region : List Interval
   pub is : IsHome m region home
 
 -- IsOf says of a job's number and a shader that its programs may run for the job: then it stands in this memory.
 abbrev pub Finds : (ℕ → Home → Type 0) → List ℕ → Type 0
-Finds IsOf m = (j : ℕ) (home : Home) → IsOf j home → StandsIn m home
+Finds IsOf m = (j : ℕ) (home : Home) → IsOf j home → LiesIn m home
 
 -- The program is that of a strict shader of which this is known.
 pub record LaunchStrict (IsOwn : Home → Type 0) (launch : Launch) : Type 0 where
@@ -54,8 +54,8 @@ pub record ThreadStrict (IsOf : ℕ → Home → Type 0) (queued0 queued1 old0 o
   pub pending : ArePending home.code index t
   pub tmu0 : queued0 + length t.results0.items ≡ length (queue_of home.code 0 index)
   pub tmu1 : queued1 + length t.results1.items ≡ length (queue_of home.code 1 index)
-  pub split0 : IsSplit (acted home.code index) (queue_of home.code 0 index) old0
-  pub split1 : IsSplit (acted home.code index) (queue_of home.code 1 index) old1
+  pub split0 : IsSplit (last_act home.code index) (queue_of home.code 0 index) old0
+  pub split1 : IsSplit (last_act home.code index) (queue_of home.code 1 index) old1
 
 -- How many these are after an instruction, of all: each, where the thread switches, and none, where it ends.
 abbrev pub next_old : Fate → ℕ → ℕ → ℕ
@@ -88,12 +88,12 @@ pub record QpuStrict (IsOf : ℕ → Home → Type 0) (order0 order1 : List Bool
   pub first1 : ℕ
   pub other0 : ℕ
   pub other1 : ℕ
-  pub first : SlotStrict IsOf (queued false q.queue0.items) (queued false q.queue1.items) first0 first1 q.first
-  pub other : SlotStrict IsOf (queued true q.queue0.items) (queued true q.queue1.items) other0 other1 q.other
+  pub first : SlotStrict IsOf (queue_count false q.queue0.items) (queue_count false q.queue1.items) first0 first1 q.first
+  pub other : SlotStrict IsOf (queue_count true q.queue0.items) (queue_count true q.queue1.items) other0 other1 q.other
   pub beside : AreBeside q.first q.other
   pub rests : IfSome (resting_of q) KeepsNone
-  pub in0 : InOrder q.second order0 first0 (queued false q.queue0.items + finished0 q.first) other0 (queued true q.queue0.items + finished0 q.other)
-  pub in1 : InOrder q.second order1 first1 (queued false q.queue1.items + finished1 q.first) other1 (queued true q.queue1.items + finished1 q.other)
+  pub in0 : InOrder q.second order0 first0 (queue_count false q.queue0.items + finished0 q.first) other0 (queue_count true q.queue0.items + finished0 q.other)
+  pub in1 : InOrder q.second order1 first1 (queue_count false q.queue1.items + finished1 q.first) other1 (queue_count true q.queue1.items + finished1 q.other)
 
 -- of each job's lists OfJob is known, and so it is of each processor, with its orders by TMU
 pub record UnitsStrict (OfJob : ℕ → Lists → Type 0) (IsOf : ℕ → Home → Type 0) (orders : ℕ → ℕ → List Bool) (u : Units) : Type 0 where

@@ -73,14 +73,14 @@ abbrev pub words_in : Option Thread → ℕ
 words_in None = 0
 words_in (Some t) = length t.setups0.items + length t.setups1.items
 
-abbrev pub filled : (ℕ → Bool → List ℕ) → Bool → Option Thread → ℕ
-filled slots second slot = (sum (slots 0 second) + sum (slots 1 second)) + words_in slot
+abbrev pub words_filled : (ℕ → Bool → List ℕ) → Bool → Option Thread → ℕ
+words_filled slots second slot = (sum (slots 0 second) + sum (slots 1 second)) + words_in slot
 
 -- both at most eight, and a threaded program at most four
 pub record HasRoom (slots : ℕ → Bool → List ℕ) (q : Qpu) : Type 0 where
-  pub all : filled slots false q.first + filled slots true q.other ≤ 8
-  pub first : IfSome q.first (λ t. t.threaded ≡ true → filled slots false q.first ≤ 4)
-  pub other : IfSome q.other (λ t. t.threaded ≡ true → filled slots true q.other ≤ 4)
+  pub all : words_filled slots false q.first + words_filled slots true q.other ≤ 8
+  pub first : IfSome q.first (λ t. t.threaded ≡ true → words_filled slots false q.first ≤ 4)
+  pub other : IfSome q.other (λ t. t.threaded ≡ true → words_filled slots true q.other ≤ 4)
 
 -- In each state to which a run of strict jobs comes, also while others write, each processor has room.
 abbrev pub RunsHaveRoom : Type 0

@@ -1,8 +1,8 @@
 -- The walk over a list, packet by packet.
 use Rattle.std.proofs.Common.{◌≡◌, ◌≤◌, ◌+◌, ℕ, false, List, [], ◌∷◌, ◌++◌, Some, None, length, refl, sym, ap, arith, ◌∙◌}
-use Rattle.field_words.specs.Questions.{first_of, answered}
+use Rattle.field_words.specs.Questions.{first_of, with_answers}
 use Rattle.field_words.proofs.Questions.{passes, stops, answered_none, answered_some}
-use Rattle.bin_list.specs.{Packets.front_packet, Packets.behind, Packets.cut, Packets.packets, Seen.place}
+use Rattle.bin_list.specs.{Packets.front_packet, Packets.behind, Packets.front_packets, Packets.packets, Seen.place}
 use Rattle.bin_list.proofs.Walk.{cut_step, cut_nothing}
 use Rattle.strict_lists.specs.{declared.course.Course.Course, declared.rule.ListRule.ListRule}
 use Rattle.strict_lists.specs.Rules.{course_before, packet_questions, list_fault, asked_from, list_questions}
@@ -17,22 +17,22 @@ unfolding course_before course_after
 course_step packet earlier = refl
 
 -- what is asked of the bytes that are left, at a packet
-left : (list rest : List ℕ) (course : Course) (u : IsUnderway list rest course) (n : ℕ) → cut u.fuel rest ≡ front_packet rest ∷ cut n (behind rest)
+left : (list rest : List ℕ) (course : Course) (u : IsUnderway list rest course) (n : ℕ) → front_packets u.fuel rest ≡ front_packet rest ∷ front_packets n (behind rest)
     → first_of (list_questions list)
-    ≡ first_of (answered (list_fault course.at) (packet_questions course (front_packet rest)) ++ asked_from (front_packet rest ∷ u.earlier) (cut n (behind rest)))
+    ≡ first_of (with_answers (list_fault course.at) (packet_questions course (front_packet rest)) ++ asked_from (front_packet rest ∷ u.earlier) (front_packets n (behind rest)))
 unfolding course_before
 left list rest course u n is =
     sym u.none ∙ ap (λ l. first_of (asked_from u.earlier l)) is
-    ∙ ap (λ (c : Course). first_of (answered (list_fault (place u.earlier)) (packet_questions c (front_packet rest)) ++ asked_from (front_packet rest ∷ u.earlier) (cut n (behind rest)))) (sym u.kept)
-    ∙ ap (λ m. first_of (answered (list_fault m) (packet_questions course (front_packet rest)) ++ asked_from (front_packet rest ∷ u.earlier) (cut n (behind rest)))) (sym (ap (λ (c : Course). c.at) u.kept))
+    ∙ ap (λ (c : Course). first_of (with_answers (list_fault (place u.earlier)) (packet_questions c (front_packet rest)) ++ asked_from (front_packet rest ∷ u.earlier) (front_packets n (behind rest)))) (sym u.kept)
+    ∙ ap (λ m. first_of (with_answers (list_fault m) (packet_questions course (front_packet rest)) ++ asked_from (front_packet rest ∷ u.earlier) (front_packets n (behind rest)))) (sym (ap (λ (c : Course). c.at) u.kept))
 
 pub stops_at : (list rest packet : List ℕ) (course : Course) (rule : ListRule) → IsUnderway list rest course → 1 ≤ length rest → packet ≡ front_packet rest
     → Some rule ≡ first_of (packet_questions course packet) → first_of (list_questions list) ≡ Some (list_fault course.at rule)
-stops_at list rest packet course rule u some is stands =
+stops_at list rest packet course rule u some is broken =
     let step = cut_step u.fuel rest some u.enough in
-    let here = answered_some (list_fault course.at) (packet_questions course (front_packet rest)) rule (ap (λ p. first_of (packet_questions course p)) (sym is) ∙ sym stands) in
+    let here = answered_some (list_fault course.at) (packet_questions course (front_packet rest)) rule (ap (λ p. first_of (packet_questions course p)) (sym is) ∙ sym broken) in
     left list rest course u step.0 step.1.is
-    ∙ stops (answered (list_fault course.at) (packet_questions course (front_packet rest))) (asked_from (front_packet rest ∷ u.earlier) (cut step.0 (behind rest))) (list_fault course.at rule) here
+    ∙ stops (with_answers (list_fault course.at) (packet_questions course (front_packet rest))) (asked_from (front_packet rest ∷ u.earlier) (front_packets step.0 (behind rest))) (list_fault course.at rule) here
 
 moved : (next course : Course) (packet : List ℕ) → next ≡ course_after course packet → next.at ≡ course.at + length packet
 unfolding course_after
@@ -41,9 +41,9 @@ moved next course packet after = ap (λ (c : Course). c.at) after
 pub goes_on : (list rest packet later : List ℕ) (course next : Course) → IsUnderway list rest course → 1 ≤ length rest → packet ≡ front_packet rest
     → later ≡ behind rest → length packet + length later ≤ length rest → None ≡ first_of (packet_questions course packet)
     → next ≡ course_after course packet → next.primitives ≤ next.at → IsUnderway list later next
-goes_on list rest packet later course next u some is rest_is fits stands after near =
+goes_on list rest packet later course next u some is rest_is fits broken after near =
     let step = cut_step u.fuel rest some u.enough in
-    let none = answered_none (list_fault course.at) (packet_questions course (front_packet rest)) (ap (λ p. first_of (packet_questions course p)) (sym is) ∙ sym stands) in
+    let none = answered_none (list_fault course.at) (packet_questions course (front_packet rest)) (ap (λ p. first_of (packet_questions course p)) (sym is) ∙ sym broken) in
     let e : next.at ≡ course.at + length packet = moved next course packet after in
     record {
       earlier = front_packet rest ∷ u.earlier;
@@ -53,8 +53,8 @@ goes_on list rest packet later course next u some is rest_is fits stands after n
       inside = omega (arith, e, fits, u.inside);
       near = near;
       none =
-          ap (λ l. first_of (asked_from (front_packet rest ∷ u.earlier) (cut step.0 l))) rest_is
-          ∙ sym (passes (answered (list_fault course.at) (packet_questions course (front_packet rest))) (asked_from (front_packet rest ∷ u.earlier) (cut step.0 (behind rest))) none)
+          ap (λ l. first_of (asked_from (front_packet rest ∷ u.earlier) (front_packets step.0 l))) rest_is
+          ∙ sym (passes (with_answers (list_fault course.at) (packet_questions course (front_packet rest))) (asked_from (front_packet rest ∷ u.earlier) (front_packets step.0 (behind rest))) none)
           ∙ sym (left list rest course u step.0 step.1.is);
     }
 

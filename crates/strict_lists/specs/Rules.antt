@@ -1,6 +1,6 @@
 -- The strict rules on a binner list, each as a sentence about a packet and those before it, which come the nearest first.
 use Rattle.std.specs.Prelude.{ℕ, ◌+◌, ◌/◌, ◌%◌, ◌==◌, Bool, false, not, ◌&&◌, ◌||◌, List, [], ◌∷◌, ◌++◌, slice_index, nat_lt, if◌then◌else◌}
-use Rattle.field_words.specs.Questions.{Question, Ask, answered}
+use Rattle.field_words.specs.Questions.{Question, Ask, with_answers}
 use Rattle.packets.specs.Opcode.{start_tile_binning, indexed_primitive_list, array_primitive_list, primitive_list_format}
 use Rattle.bin_list.specs.{Packets.opcode, Packets.packets, Seen.place, Seen.last_opcode}
 use Rattle.strict_lists.specs.{declared.course.Course.Course, declared.rule.ListRule.ListRule, declared.rule.ListFault.ListFault}
@@ -66,7 +66,7 @@ list_fault at rule = record { rule = rule; at = at }
 abbrev pub asked_from : List (List ℕ) → List (List ℕ) → List (Question ListFault)
 asked_from earlier [] = []
 asked_from earlier (packet ∷ later) =
-    answered (list_fault (place earlier)) (packet_questions (course_before earlier) packet) ++ asked_from (packet ∷ earlier) later
+    with_answers (list_fault (place earlier)) (packet_questions (course_before earlier) packet) ++ asked_from (packet ∷ earlier) later
 
 unfoldable pub list_questions : List ℕ → List (Question ListFault)
 list_questions list = asked_from [] (packets list)

@@ -1,6 +1,6 @@
 -- The rules are asked by index, and at an index by number.
 use Rattle.std.proofs.Common.{◌+◌, ℕ, List, inl, inr, refl, arith}
-use Rattle.field_words.specs.Questions.{answered}
+use Rattle.field_words.specs.Questions.{with_answers}
 use Rattle.field_words.proofs.Least.{IsOrder, Rises, pairs, rises_each}
 use Rattle.shader_flow.specs.Flow.{checked_of}
 use Rattle.strict_rules.specs.{declared.rule.StrictFault.StrictFault, Least.number_of, Least.IsUpTo}
@@ -11,7 +11,7 @@ pub order : IsOrder IsUpTo
 order = pairs (λ (f : StrictFault). (f.at, number_of f.rule))
 
 index_rises : (code : List ℕ) (i : ℕ) → Rises IsUpTo (strict_at i SetupAtSwitch) (questions_at code i) (strict_at (i + 1) SetupAtSwitch)
-unfolding answered questions_at index_questions strict_at
+unfolding with_answers questions_at index_questions strict_at
 index_rises code i = (
   inr (refl, omega arith),
   (

@@ -6,7 +6,7 @@ use Rattle.std.specs.List.{list_any}
 use Rattle.qpu_isa.specs.Terms.{is_switch, writes_s}
 use Rattle.shader_flow.specs.{Bounded.last_below, Flow.word, Flow.checked_of, Pending.pending_of}
 use Rattle.shader_flow.proofs.Bounded.{last_below-suc, last_below_found}
-use Rattle.strict_rules.specs.{declared.state.Request.Request, Words.loads, Rules.has_older, Queue.request_at, Queue.queue_after, Queue.queue_of, Queue.acts_at, Queue.acted, Walk.load_count}
+use Rattle.strict_rules.specs.{declared.state.Request.Request, Words.loads, Rules.has_older, Queue.request_at, Queue.queue_after, Queue.queue_of, Queue.acts_at, Queue.last_act, Walk.load_count}
 
 queue_next : (code : List ℕ) (tmu i : ℕ)
     → queue_of code tmu (i + 1)
@@ -130,12 +130,12 @@ acts_near i code None found = omega arith
 acts_near i code (Some s) found =
     let here = last_below_found (i - 2) s (λ s. is_switch (word code s)) found in omega (arith, here.0)
 
-pub acted_near : (code : List ℕ) (i : ℕ) → acted code i ≤ i
-unfolding acted
+pub acted_near : (code : List ℕ) (i : ℕ) → last_act code i ≤ i
+unfolding last_act
 acted_near code i = acts_near i code (last_below (i - 2) (λ s. is_switch (word code s))) refl
 
-pub acted_here : (code : List ℕ) (i : ℕ) → 2 ≤ i → is_switch (word code (i - 2)) ≡ true → acted code (i + 1) ≡ i + 1
-unfolding acted
+pub acted_here : (code : List ℕ) (i : ℕ) → 2 ≤ i → is_switch (word code (i - 2)) ≡ true → last_act code (i + 1) ≡ i + 1
+unfolding last_act
 acted_here code i two here =
     let e : i + 1 - 2 ≡ i - 2 + 1 = omega (arith, two) in
     let sum : i - 2 + 3 ≡ i + 1 = omega (arith, two) in
@@ -144,16 +144,16 @@ acted_here code i two here =
     ∙ ap (λ b. acts_at (if b then Some (i - 2) else last_below (i - 2) (λ s. is_switch (word code s)))) here
     ∙ sum
 
-pub acted_same : (code : List ℕ) (i : ℕ) → 2 ≤ i → is_switch (word code (i - 2)) ≡ false → acted code (i + 1) ≡ acted code i
-unfolding acted
+pub acted_same : (code : List ℕ) (i : ℕ) → 2 ≤ i → is_switch (word code (i - 2)) ≡ false → last_act code (i + 1) ≡ last_act code i
+unfolding last_act
 acted_same code i two none =
     let e : i + 1 - 2 ≡ i - 2 + 1 = omega (arith, two) in
     ap (λ n. acts_at (last_below n (λ s. is_switch (word code s)))) e
     ∙ ap acts_at (last_below-suc (i - 2) (λ s. is_switch (word code s)))
     ∙ ap (λ b. acts_at (if b then Some (i - 2) else last_below (i - 2) (λ s. is_switch (word code s)))) none
 
-pub acted_early : (code : List ℕ) (i : ℕ) → i < 2 → acted code (i + 1) ≡ acted code i
-unfolding acted
+pub acted_early : (code : List ℕ) (i : ℕ) → i < 2 → last_act code (i + 1) ≡ last_act code i
+unfolding last_act
 acted_early code i early =
     let e : i + 1 - 2 ≡ i - 2 = omega (arith, early) in ap (λ n. acts_at (last_below n (λ s. is_switch (word code s)))) e
 
@@ -162,8 +162,8 @@ pub queue_zero : (code : List ℕ) (tmu : ℕ) → queue_of code tmu 0 ≡ []
 unfolding queue_of
 queue_zero code tmu = refl
 
-pub acted_zero : (code : List ℕ) → acted code 0 ≡ 0
-unfolding acted last_below
+pub acted_zero : (code : List ℕ) → last_act code 0 ≡ 0
+unfolding last_act last_below
 acted_zero code = refl
 
 -- a queue as the code keeps it, after the instruction
@@ -178,14 +178,14 @@ kept_requests code tmu at pending queue after inside words requests is =
     ∙ sym (queue_inside code tmu at inside)
 
 -- a queue as the code keeps it, behind those that the next three instructions load
-pub older_kept : (code : List ℕ) (tmu at a taken : ℕ) (queue : List Request) → a ≡ acted code at → queue ≡ queue_of code tmu at
+pub older_kept : (code : List ℕ) (tmu at a taken : ℕ) (queue : List Request) → a ≡ last_act code at → queue ≡ queue_of code tmu at
     → taken ≡ load_count code tmu at + load_count code tmu (at + 1) + load_count code tmu (at + 2)
-    → has_older a (drop taken queue) ≡ has_older (acted code at) (queue_of code tmu (at + 3))
+    → has_older a (drop taken queue) ≡ has_older (last_act code at) (queue_of code tmu (at + 3))
 older_kept code tmu at a taken queue latest requests is =
     ap (λ b. has_older b (drop taken queue)) latest
-    ∙ ap (λ q. has_older (acted code at) (drop taken q)) requests
-    ∙ ap (λ n. has_older (acted code at) (drop n (queue_of code tmu at))) is
-    ∙ sym (older_ahead code tmu at (acted code at) (acted_near code at))
+    ∙ ap (λ q. has_older (last_act code at) (drop taken q)) requests
+    ∙ ap (λ n. has_older (last_act code at) (drop n (queue_of code tmu at))) is
+    ∙ sym (older_ahead code tmu at (last_act code at) (acted_near code at))
 
 pub none_behind : (a taken : ℕ) (queue : List Request) → length queue ≤ taken → false ≡ has_older a (drop taken queue)
 none_behind a taken queue past = sym (ap (has_older a) (drop_of_length-le queue past))

@@ -3,7 +3,7 @@ use Rattle.std.proofs.Common.{◌≡◌, ◌≤◌, ◌<◌, ℕ, Bool, true, fa
 use Rattle.std.proofs.lemmas.Bool.{or_parts, and_cases, or_left, or_right, true≢false, leb-false}
 use Rattle.std.proofs.Common.{inl, inr}
 use Rattle.field_words.specs.Questions.{first_of}
-use Rattle.field_words.proofs.Questions.{none_stands}
+use Rattle.field_words.proofs.Questions.{none_broken}
 use Rattle.qpu_isa.specs.Terms.{writes_s}
 use Rattle.shader_flow.specs.{Flow.word, Flow.is_threaded}
 use Rattle.strict_rules.specs.Queue.{queue_of, requests_of, most_requests}
@@ -11,7 +11,7 @@ use Rattle.strict_rules.specs.Rules.{e2, meets_requests, loads_none, lacks_slot,
 
 pub no_e3 : (code : List ℕ) (i : ℕ) → first_of (index_questions code i) ≡ None → e3 code i ≡ false
 unfolding index_questions
-no_e3 code i none = (none_stands (index_questions code i) none).1.1.0
+no_e3 code i none = (none_broken (index_questions code i) none).1.1.0
 
 pub never_waits : (code : List ℕ) (i : ℕ) → waits_at code i ≡ false → e3 code i ≡ false
 unfolding waits_at

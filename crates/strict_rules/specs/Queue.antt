@@ -47,5 +47,5 @@ acts_at None = 0
 acts_at (Some s) = s + 3
 
 -- where the last switch up to i acts, one at s at s + 3; 0 where none does
-unfoldable pub acted : List ℕ → ℕ → ℕ
-acted code i = acts_at (last_below (i - 2) (λ s. is_switch (word code s)))
+unfoldable pub last_act : List ℕ → ℕ → ℕ
+last_act code i = acts_at (last_below (i - 2) (λ s. is_switch (word code s)))

@@ -1,12 +1,12 @@
 -- The strict rules on shaders, each as a sentence about the instruction at i, and all in the order of refusal.
 use Rattle.std.specs.{Prelude.ℕ, Prelude.◌+◌, Prelude.◌==◌, Prelude.Bool, Prelude.not, Prelude.◌&&◌, Prelude.◌||◌, Prelude.List, Prelude.[], Prelude.◌∷◌, Prelude.length, Prelude.nat_lt, Prelude.nat_le, List.list_any}
-use Rattle.field_words.specs.Questions.{Question, Ask, each, answered}
+use Rattle.field_words.specs.Questions.{Question, Ask, each, with_answers}
 use Rattle.qpu_isa.specs.Terms.{is_switch, writes_tmu, writes_s}
 use Rattle.shader_flow.specs.{Bounded.some_below, Flow.word, Flow.end_of, Flow.checked_of, Flow.is_target, Flow.is_threaded, Pending.takes}
 use Rattle.strict_rules.specs.{declared.state.Request.Request, declared.rule.StrictRule.StrictRule, declared.rule.StrictFault.StrictFault}
 use Rattle.strict_rules.specs.declared.rule.StrictRule.TheVariants.{SetupAtSwitch, SetupAtEnd, Requests, Stretch, LastThree, Coupled, Mutex}
 use Rattle.strict_rules.specs.Words.{reads_address, loads, uses_vpm, uses_tile, coupled_of}
-use Rattle.strict_rules.specs.Queue.{keeps_words, queue_of, requests_of, slots_of, most_slots, most_requests, acted}
+use Rattle.strict_rules.specs.Queue.{keeps_words, queue_of, requests_of, slots_of, most_slots, most_requests, last_act}
 
 -- a switch that acts while a TMU keeps setup words
 unfoldable pub e1 : List ℕ → ℕ → Bool
@@ -49,13 +49,13 @@ has_older i queue = list_any (λ r. nat_lt r.sent i) queue
 -- a load of a request that no switch has acted after: the oldest was sent at or behind where the last switch acted
 unfoldable pub loads_early : List ℕ → ℕ → ℕ → Bool
 loads_early code tmu i =
-    loads (word code i) tmu && (nat_lt 0 (length (queue_of code tmu i)) && not (has_older (acted code i) (queue_of code tmu i)))
+    loads (word code i) tmu && (nat_lt 0 (length (queue_of code tmu i)) && not (has_older (last_act code i) (queue_of code tmu i)))
 
 -- a switch that acts over a request which the one before has acted after already
 unfoldable pub switches_late : List ℕ → ℕ → Bool
 switches_late code i =
     is_switch (word code i)
-    && (has_older (acted code i) (queue_of code 0 (i + 3)) || has_older (acted code i) (queue_of code 1 (i + 3)))
+    && (has_older (last_act code i) (queue_of code 0 (i + 3)) || has_older (last_act code i) (queue_of code 1 (i + 3)))
 
 -- in a shader that switches, each request is loaded in the stretch that the next switch begins
 unfoldable pub e4 : List ℕ → ℕ → Bool
@@ -85,7 +85,7 @@ strict_at i rule = record { rule = rule; at = i }
 
 -- all rules at all checked instructions, by index and then by number
 unfoldable pub questions_at : List ℕ → ℕ → List (Question StrictFault)
-questions_at code i = answered (strict_at i) (index_questions code i)
+questions_at code i = with_answers (strict_at i) (index_questions code i)
 
 unfoldable pub strict_questions : List ℕ → List (Question StrictFault)
 strict_questions code = each (questions_at code) 0 (checked_of code)

@@ -2,7 +2,7 @@
 use Rattle.std.specs.Prelude.{◌≡◌, ◌≤◌, ◌<◌, ℕ, ◌*◌, ◌&&◌, List, length, nat_lt, if◌then◌else◌}
 use Rattle.shader_flow.specs.{Flow.word, Flow.checked_of, Flow.IsFlow, Pending.pending_of}
 use Rattle.shader_flow.specs.declared.state.Flow.{Flow}
-use Rattle.strict_rules.specs.{declared.state.Unit.Unit as Kept, declared.state.Walked.Walked, Words.loads, Queue.queue_of, Queue.acted}
+use Rattle.strict_rules.specs.{declared.state.Unit.Unit as Kept, declared.state.Walked.Walked, Words.loads, Queue.queue_of, Queue.last_act}
 
 -- of one TMU
 pub record IsKept (code : List ℕ) (tmu at : ℕ) (unit : Kept) : Type 0 where
@@ -13,7 +13,7 @@ pub record IsKept (code : List ℕ) (tmu at : ℕ) (unit : Kept) : Type 0 where
 pub record IsWalked (code : List ℕ) (at : ℕ) (walked : Walked) : Type 0 where
   pub first : IsKept code 0 at walked.unit0
   pub second : IsKept code 1 at walked.unit1
-  pub last : walked.acted ≡ acted code at
+  pub last : walked.acted ≡ last_act code at
 
 -- a checked instruction, with what is known before it
 pub record IsHere (code : List ℕ) (flow : Flow) (at : ℕ) (walked : Walked) : Type 0 where

@@ -3,7 +3,7 @@ ghost use Rattle.std.specs.Prelude.{◌≡◌, ◌<◌, ◌≤◌, ◌+◌, ◌*
 ghost use Rattle.field_words.specs.Sizes.{most_words};
 ghost use Rattle.shader_flow.specs.Flow.{checked_of};
 ghost use Rattle.shader_flow.specs.Pending.{pending_of};
-ghost use Rattle.strict_rules.specs.Queue.{keeps_words, queue_of, requests_of, acted};
+ghost use Rattle.strict_rules.specs.Queue.{keeps_words, queue_of, requests_of, last_act};
 ghost use Rattle.strict_rules.specs.Rules.{has_older};
 ghost use Rattle.strict_rules.specs.Walk.{IsWalked, load_count};
 
@@ -88,8 +88,8 @@ pub(crate) fn keeps_older(code: &[u64], last: usize, at: usize, walked: &Walked)
     requires inside { last ≤ length code.now }
     requires near { at < most_words }
     requires walked { IsWalked code.now at walked.now }
-    ensures { result ≡ (has_older (acted code.now at) (queue_of code.now 0 (at + 3))
-        || has_older (acted code.now at) (queue_of code.now 1 (at + 3))) }
+    ensures { result ≡ (has_older (last_act code.now at) (queue_of code.now 0 (at + 3))
+        || has_older (last_act code.now at) (queue_of code.now 1 (at + 3))) }
 {
     let taken0 = taken_ahead(code, last, 0, at);
     let taken1 = taken_ahead(code, last, 1, at);

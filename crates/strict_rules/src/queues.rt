@@ -31,7 +31,7 @@ pub(crate) fn has_older(queue: &[Request], acted: u32) -> bool
     false
 }
 
-/// The same of the requests behind the first `taken`.
+/// Whether a request behind the first `taken` was sent before the last switch acted.
 pub(crate) fn has_older_behind(queue: &[Request], taken: usize, acted: u32) -> bool
     ensures { result ≡ has_older acted (drop taken queue.now) }
 {

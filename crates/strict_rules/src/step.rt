@@ -6,7 +6,7 @@ ghost use Rattle.shader_flow.specs.Flow.{word, checked_of};
 ghost use Rattle.shader_flow.specs.Pending.{pending_of};
 ghost use Rattle.qpu_isa.specs.Terms.{writes_s};
 ghost use Rattle.strict_rules.specs.Words.{loads};
-ghost use Rattle.strict_rules.specs.Queue.{request_at, queue_after, queue_of, acted};
+ghost use Rattle.strict_rules.specs.Queue.{request_at, queue_after, queue_of, last_act};
 ghost use Rattle.strict_rules.specs.Walk.{IsKept, IsWalked, load_count};
 
 use crate::state::{Request, Unit, Walked};
@@ -121,8 +121,8 @@ fn next_unit(code: &[u64], last: usize, tmu: u8, at: usize, unit: &mut Unit)
 fn next_acted(code: &[u64], at: usize, latest: u32) -> u32
     requires few { length code.now ≤ most_words }
     requires inside { at < length code.now }
-    requires before { latest ≡ acted code.now at }
-    ensures { result ≡ acted code.now (at + 1) }
+    requires before { latest ≡ last_act code.now at }
+    ensures { result ≡ last_act code.now (at + 1) }
 {
     if at < 2 {
         return latest;

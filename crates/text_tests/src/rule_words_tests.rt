@@ -62,7 +62,7 @@ fn small_file() -> [u8; 243] {
 }
 
 /// The place of this refusal in the first `size` bytes of that file, as text.
-fn told(alloc: Global, size: usize, rule: (Stage, u8), offset: u64) -> Result<String, AllocError> {
+fn report(alloc: Global, size: usize, rule: (Stage, u8), offset: u64) -> Result<String, AllocError> {
     let bytes = small_file();
     let (stage, number) = rule;
     let rule = Rule { stage, number };
@@ -73,7 +73,7 @@ fn told(alloc: Global, size: usize, rule: (Stage, u8), offset: u64) -> Result<St
 }
 
 #[test]
-fn a_place_is_told_by_its_thing(rt: HostRuntime) -> Result<(), Fail> {
+fn a_place_is_reported_by_its_thing(rt: HostRuntime) -> Result<(), Fail> {
     let alloc = rt.alloc();
     for (rule, offset, place) in [
         ((Stage::F, 4), 28, "header, byte 28"),
@@ -99,7 +99,7 @@ fn a_place_is_told_by_its_thing(rt: HostRuntime) -> Result<(), Fail> {
         ((Stage::F, 3), 243, "file, byte 243"),
         ((Stage::F, 3), u64::MAX, "file, byte 18446744073709551615"),
     ] {
-        assert_eq!(rt; told(alloc, 243, rule, offset)?.as_str(), place);
+        assert_eq!(rt; report(alloc, 243, rule, offset)?.as_str(), place);
     }
     Ok(())
 }
@@ -116,7 +116,7 @@ fn a_file_that_ends_early_has_places_too(rt: HostRuntime) -> Result<(), Fail> {
         (199, 200, "file, byte 200"),
         (201, 200, "contents of buffer 1, byte 0"),
     ] {
-        assert_eq!(rt; told(alloc, size, ends_early, offset)?.as_str(), place);
+        assert_eq!(rt; report(alloc, size, ends_early, offset)?.as_str(), place);
     }
     Ok(())
 }
@@ -139,7 +139,7 @@ fn a_refusal_is_one_line(rt: HostRuntime) -> Result<(), Fail> {
 #[test]
 fn a_rule_goes_by_its_letter_and_number(rt: HostRuntime) -> Result<(), Fail> {
     let alloc = rt.alloc();
-    for (word, told) in [
+    for (word, report) in [
         ("S24", "S24: "),
         ("b3", "B3: "),
         ("f7", "F7: "),
@@ -149,7 +149,7 @@ fn a_rule_goes_by_its_letter_and_number(rt: HostRuntime) -> Result<(), Fail> {
         assert!(rt;
             explain(alloc, name)?
                 .as_slice()
-                .starts_with(told.as_bytes())
+                .starts_with(report.as_bytes())
         );
     }
     for word in [

@@ -2,7 +2,7 @@
 use Rattle.std.proofs.Common.{◌≡◌, ℕ, zero, suc, ◌+◌, ◌-◌, ◌*◌, ◌<◌, ◌≤◌, false, None, sym, subst, arith, ◌∙◌, ◌⊎◌}
 use Rattle.std.proofs.{Math.Nat.mul-le-mul_right, lemmas.Bool.ltb-false}
 use Rattle.field_words.specs.Questions.{first_of}
-use Rattle.field_words.proofs.Questions.{none_stands}
+use Rattle.field_words.proofs.Questions.{none_broken}
 use Rattle.texture_layouts.specs.Setup.{TextureModel, type_of, pixel_bytes_of, texture_of, faces_of, face_place, size_at, size_below, level_place_of}
 use Rattle.texture_layouts.specs.{Surface.IsPixelSize, Fits.is_unlisted, Fits.has_level_below, Fits.texture_questions, Fits.IsInBuffer}
 use Rattle.texture_layouts.proofs.{Faces.last_decides, Levels.below_none, Levels.below_more}
@@ -43,7 +43,7 @@ pub in_buffer : (p0 p1 p2 p3 size : ℕ) → first_of (texture_questions p0 p1 p
 unfolding texture_questions has_level_below
 in_buffer p0 p1 p2 p3 size none =
     let t : TextureModel = texture_of p0 p1 p2 p3 in
-    let asked = none_stands (texture_questions p0 p1 p2 p3 size) none in
+    let asked = none_broken (texture_questions p0 p1 p2 p3 size) none in
     let last : face_place t (faces_of t - 1) + size_at t 0 ≤ size =
     ltb-false size (face_place t (faces_of t - 1) + size_at t 0) (sym (last_decides t size) ∙ asked.1.1.1.0) in
     let all : size_below t t.levels ≤ t.base = ltb-false t.base (size_below t t.levels) asked.1.1.1.1.0 in

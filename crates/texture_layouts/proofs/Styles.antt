@@ -2,14 +2,14 @@
 use Rattle.std.proofs.Common.{◌≡◌, ℕ, ◌==◌, ◌&&◌, Bool, true, false, if◌then◌else◌, Option, Some, None, refl, inl, inr}
 use Rattle.std.specs.Prelude.{IfSome}
 use Rattle.field_words.specs.Words.{bits_of}
-use Rattle.texture_layouts.specs.Format.{general_tiling, general_pixel, frame_tiling, frame_pixel, styled, general_style, frame_style, IsShort}
+use Rattle.texture_layouts.specs.Format.{general_tiling, general_pixel, frame_tiling, frame_pixel, style_named, general_style, frame_style, IsShort}
 use Rattle.texture_layouts.specs.{declared.surface.Tiling.Tiling, Surface.IsPixelSize}
 
 pub short_pixel : (cpp : ℕ) → IsShort cpp → IsPixelSize cpp
 short_pixel cpp (inl two) = inr (inl two)
 short_pixel cpp (inr four) = inr (inr (inl four))
 
-styled_short : (tiling : Option Tiling) (pixel : Option ℕ) → IfSome pixel IsShort → IfSome (styled tiling pixel) (λ s. IsShort s.cpp)
+styled_short : (tiling : Option Tiling) (pixel : Option ℕ) → IfSome pixel IsShort → IfSome (style_named tiling pixel) (λ s. IsShort s.cpp)
 styled_short None pixel short = tt
 styled_short (Some tiling) None short = tt
 styled_short (Some tiling) (Some cpp) short = short

@@ -1,7 +1,7 @@
 -- The rules of textures, U2 to U9, over four set-up words and the bytes of the buffer.
 use Rattle.std.specs.Prelude.{◌≤◌, ◌<◌, ℕ, ◌+◌, ◌==◌, ◌&&◌, ◌||◌, nat_lt, nat_le, Bool, List, [], ◌∷◌, Result, Ok, Err, slice_index}
 use Rattle.std.specs.List.{list_any, range_with_len}
-use Rattle.field_words.specs.{Questions.Question, Questions.Ask, Least.Stands, Least.IsLeast}
+use Rattle.field_words.specs.{Questions.Question, Questions.Ask, Least.IsBroken, Least.IsLeast}
 use Rattle.texture_layouts.specs.declared.rule.TextureRule.TheVariants.{BaseOutside, BoundOutside, TwoStrides, NoStride, UnlistedType, FaceOutside, LevelBelow, ChildImage}
 use Rattle.texture_layouts.specs.Setup.{TextureModel, is_cube_word, kind_of, cube_stride_of, texture_of, faces_of, face_place, size_at, size_below, level_place_of}
 use Rattle.texture_layouts.specs.{declared.rule.TextureRule.TextureRule, Surface.IsPixelSize}
@@ -54,7 +54,7 @@ texture_questions p0 p1 p2 p3 size =
     ∷ (Ask (has_face_past (texture_of p0 p1 p2 p3) size) (number_of FaceOutside)
     ∷ (Ask (has_level_below (texture_of p0 p1 p2 p3)) (number_of LevelBelow) ∷ (Ask (has_child_image p2 p3) (number_of ChildImage) ∷ [])))))
 
--- the same of the words as a row
+-- U4 to U9 of the words as a row
 abbrev pub texture_rules : List ℕ → ℕ → List (Question ℕ)
 texture_rules p size = texture_questions (slice_index p 0) (slice_index p 1) (slice_index p 2) (slice_index p 3) size
 
@@ -64,9 +64,9 @@ unfoldable pub direct_questions : ℕ → ℕ → ℕ → List (Question ℕ)
 direct_questions base bound size =
     Ask (nat_lt size (base + 4)) (number_of BaseOutside) ∷ (Ask (nat_lt size (base + bound + 4)) (number_of BoundOutside) ∷ [])
 
--- Ok comes exactly where no rule stands, and a fault is the least number of those that do.
+-- Ok comes exactly where no rule is broken, and a fault is the least number of those that are.
 abbrev pub AnswersLeast : {T : Type 0} → List (Question ℕ) → Result T ℕ → Type 0
-AnswersLeast questions (Ok _) = (number : ℕ) → ¬ Stands questions number
+AnswersLeast questions (Ok _) = (number : ℕ) → ¬ IsBroken questions number
 AnswersLeast questions (Err number) = IsLeast (λ n m. n ≤ m) questions number
 
 -- A texture that breaks none of U4 to U9 lies in its buffer: each level of each face, level 0 among

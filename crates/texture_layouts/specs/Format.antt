@@ -38,15 +38,15 @@ abbrev pub styled_with : Tiling → Option ℕ → Option Style
 styled_with tiling None = None
 styled_with tiling (Some cpp) = Some (record { tiling = tiling; cpp = cpp })
 
-abbrev pub styled : Option Tiling → Option ℕ → Option Style
-styled None cpp = None
-styled (Some tiling) cpp = styled_with tiling cpp
+abbrev pub style_named : Option Tiling → Option ℕ → Option Style
+style_named None cpp = None
+style_named (Some tiling) cpp = styled_with tiling cpp
 
 abbrev pub general_style : ℕ → Option Style
-general_style bits = styled (general_tiling bits) (general_pixel bits)
+general_style bits = style_named (general_tiling bits) (general_pixel bits)
 
 abbrev pub frame_style : ℕ → Option Style
-frame_style bits = styled (frame_tiling bits) (frame_pixel bits)
+frame_style bits = style_named (frame_tiling bits) (frame_pixel bits)
 
 -- the pixels of a surface take two bytes or four
 abbrev pub IsShort : ℕ → Type 0

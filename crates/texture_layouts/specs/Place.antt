@@ -53,7 +53,7 @@ IsMicrotileApart tiling width cpp mx my place =
     (x y i j : ℕ) → mx < microtiles_across tiling width cpp → x < microtiles_across tiling width cpp → i < 64 → j < 64
     → place + i ≡ microtile_place_of tiling width cpp x y + j → (mx ≡ x) × (my ≡ y)
 
--- the same of a pixel's bytes
+-- a pixel's bytes lie in the buffer, and none is another pixel's
 abbrev pub IsPixelInside : Tiling → ℕ → ℕ → ℕ → ℕ → ℕ → Type 0
 IsPixelInside tiling width cpp x y place =
     (height : ℕ) → x < aligned_across tiling width cpp → y < aligned_down tiling height cpp → place + cpp ≤ size_for tiling width height cpp

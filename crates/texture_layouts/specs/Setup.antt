@@ -72,7 +72,7 @@ texture_of p0 p1 p2 p3 =
       is_raster = type_of p0 p1 == 16;
     }
 
--- the same of the words as a row
+-- the texture of the words as a row
 abbrev pub texture_in : List ℕ → TextureModel
 texture_in p = texture_of (slice_index p 0) (slice_index p 1) (slice_index p 2) (slice_index p 3)
 

@@ -58,7 +58,7 @@ pub fn has_child_image(words: &[u32; 4]) -> bool
     kind(words[2]) >= 2 || kind(words[3]) >= 2
 }
 
-/// The first of U4 to U9 that stands.
+/// The first of U4 to U9 that is broken.
 #[tactic(auto, unfolding(crate::specs::Fits::texture_questions))]
 pub fn texture_fault(words: &[u32; 4], size: u32) -> Option<TextureRule>
     ensures { option_map number_of result ≡ first_of (texture_rules words.now size) }
@@ -87,7 +87,7 @@ pub fn texture_fault(words: &[u32; 4], size: u32) -> Option<TextureRule>
 
 /// Whether a texture with these set-up words lies in a buffer of `size` bytes and is one that the
 /// checker knows. Its base counts from the buffer's start. The fault is the number of the first of
-/// U4 to U9 that stands, which is the least number of all that stand.
+/// U4 to U9 that is broken, which is the least number of all that are broken.
 ///
 /// After `Ok` each level of each face lies in the buffer, and so does whatever is fetched for a pixel.
 pub fn texture_fits(p: [u32; 4], size: u32) -> Result<(), u8>
@@ -102,7 +102,7 @@ pub fn texture_fits(p: [u32; 4], size: u32) -> Result<(), u8>
     }
 }
 
-/// The first of U2 and U3 that stands.
+/// The first of U2 and U3 that is broken.
 #[inline(always)]
 #[tactic(auto, unfolding(crate::specs::Fits::direct_questions))]
 pub fn direct_fault(base: u32, bound: u32, size: u32) -> Option<TextureRule>
@@ -118,8 +118,8 @@ pub fn direct_fault(base: u32, bound: u32, size: u32) -> Option<TextureRule>
 }
 
 /// Whether a buffer of `size` bytes may be read at `base` plus an offset of at most `bound`, one
-/// word of 4 bytes at a time. The fault is the number of the first of U2 and U3 that stands, which
-/// is the least number of those that stand.
+/// word of 4 bytes at a time. The fault is the number of the first of U2 and U3 that is broken, which
+/// is the least number of those that are broken.
 pub fn direct_fits(base: u32, bound: u32, size: u32) -> Result<(), u8>
     ensures first { GoesOn (direct_questions base bound size) (λ _. Unit {0}) result }
     ensures least { AnswersLeast (direct_questions base bound size) result }

@@ -1,6 +1,6 @@
 //! How the pixels of a frame's surfaces lie, by the bits of the packets that load and store them.
 ghost use Rattle.std.specs.Prelude.{◌≡◌, IfSome};
-ghost use Rattle.texture_layouts.specs.Format.{tiling_named, general_tiling, general_pixel, frame_tiling, frame_pixel, styled, general_style, frame_style, IsShort};
+ghost use Rattle.texture_layouts.specs.Format.{tiling_named, general_tiling, general_pixel, frame_tiling, frame_pixel, style_named, general_style, frame_style, IsShort};
 
 use crate::surface::Tiling;
 use field_words::field;
@@ -71,7 +71,7 @@ pub fn frame_pixel(bits: u16) -> Option<u32>
 /// A style of this tiling and pixel, where there are both.
 pub fn styled(tiling: Option<Tiling>, pixel: Option<u32>) -> Option<Style>
     requires { IfSome pixel IsShort }
-    ensures value { result ≡ styled tiling pixel }
+    ensures value { result ≡ style_named tiling pixel }
     ensures short { IfSome result (λ style. IsShort style.cpp) }
 {
     Some(Style {

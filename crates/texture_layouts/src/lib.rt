@@ -2,7 +2,7 @@
 //! texture lies in its buffer.
 //!
 //! [`Texture`] is what four set-up words say. [`texture_fits`] and [`direct_fits`] ask the rules of
-//! samples; what they answer is the number of the first [`TextureRule`] that stands. Nothing here takes
+//! samples; what they answer is the number of the first [`TextureRule`] that is broken. Nothing here takes
 //! memory.
 #![tactic(auto)]
 

@@ -104,7 +104,7 @@ fn power_across(tiling: Tiling, cpp: u32) -> u32
     }
 }
 
-/// The same of the height.
+/// The power of 2 that a unit's height is.
 #[inline(always)]
 #[tactic(auto, unfolding(crate::specs::Surface::microtile_height_of))]
 fn power_down(tiling: Tiling, cpp: u32) -> u32

@@ -4,7 +4,7 @@ use Rattle.job_format.specs.Model.{FileModel}
 use Rattle.job_check.specs.Shaders.{table_of}
 use Rattle.qpu_isa.specs.Shader.{ShaderModel}
 use Rattle.shader_records.specs.Inputs.{InputModel}
-use Rattle.textured_job.specs.Job.{fragment_told, vertex_told, records, uniforms, textured, two_clients, one_client}
+use Rattle.textured_job.specs.Job.{fragment_report, vertex_report, records, uniforms, textured_file, two_clients, one_client}
 
 pub data Case : Type 0 where
   Alone : Case
@@ -14,7 +14,7 @@ pub data Case : Type 0 where
 
 -- its file, its number there, and its handles
 abbrev pub file_in : Case → FileModel
-file_in Alone = textured
+file_in Alone = textured_file
 file_in First = two_clients
 file_in Second = two_clients
 file_in Single = one_client
@@ -31,15 +31,15 @@ handles_in First = 0 ∷ 1 ∷ 2 ∷ 3 ∷ []
 handles_in Second = 4 ∷ 5 ∷ 6 ∷ 7 ∷ []
 handles_in Single = 0 ∷ 1 ∷ 2 ∷ 3 ∷ []
 
--- what is told of a client's shaders, and of all in the file
-abbrev pub told : List (Option ShaderModel)
-told = Some fragment_told ∷ Some vertex_told ∷ None ∷ None ∷ []
+-- what is reported of a client's shaders, and of all in the file
+abbrev pub report : List (Option ShaderModel)
+report = Some fragment_report ∷ Some vertex_report ∷ None ∷ None ∷ []
 
-abbrev pub told_in : Case → List (Option ShaderModel)
-told_in Alone = told
-told_in First = told ++ told
-told_in Second = told ++ told
-told_in Single = told
+abbrev pub report_in : Case → List (Option ShaderModel)
+report_in Alone = report
+report_in First = report ++ report
+report_in Second = report ++ report
+report_in Single = report
 
 -- what its records are checked with
 abbrev pub input_in : Case → InputModel
@@ -49,5 +49,5 @@ input_in c = record {
   uniforms = uniforms;
   table = table_of (file_in c);
   handles = handles_in c;
-  shaders = told_in c;
+  shaders = report_in c;
 }

@@ -5,9 +5,9 @@ use Rattle.field_words.specs.{WordBytes.word_bytes, Words.u32_at, Words.rounded_
 use Rattle.packets.specs.Length.{bin_length, bin_taken}
 use Rattle.packets.specs.StateWord.{attribute_count, record_size, record_room, is_extended}
 use Rattle.buffer_table.specs.{Table.buffer_at, Handles.code_of, Handles.data_of}
-use Rattle.bin_list.specs.Packets.{packets, passed, front_packet, behind}
+use Rattle.bin_list.specs.Packets.{packets, packets_passed, front_packet, behind}
 use Rattle.bin_list.specs.{Seen.seen_before, Emitted.packet_text, Emitted.state_text, Emitted.config_text}
-use Rattle.shader_records.specs.Emission.{emitted_records, emitted_uniforms, records_text, record_text, emitted_word, shader_word, attribute_word, stream_place, uniforms_text, streams_text, stream_text, addressed_word, moved_word, moved, is_address}
+use Rattle.shader_records.specs.Emission.{emitted_records, emitted_uniforms, records_text, record_text, emitted_word, shader_word, attribute_word, stream_place, uniforms_text, streams_text, stream_text, addressed_word, moved_word, place_added, is_address}
 use Rattle.shader_records.specs.Sources.{record_source, record_offset, handles_size, record_word, source_word, sample_number, uniform_source, stream_offset, taken_before, given_before, shader_used, code_number, attribute_number}
 use Rattle.shader_records.specs.Emitted.{streams_place}
 use Rattle.render_list.specs.{Surfaces.place_in, Text.render_text}
@@ -58,7 +58,7 @@ same_layout = refl
 -- The lists are as long: the binner list by what it says, records and streams by their states and shaders, and the renderer list by the
 -- layout.
 same_bin : length (bin_list_of two_clients 0) ≡ length (bin_list_of one_client 0)
-unfolding bin_list_of two_clients one_client has_bin job_of passed packets packet_text state_text config_text seen_before front_packet behind bin_taken bin_length u32_at
+unfolding bin_list_of two_clients one_client has_bin job_of packets_passed packets packet_text state_text config_text seen_before front_packet behind bin_taken bin_length u32_at
 same_bin = refl
 
 records_long : (c : Case) → length (records_of (file_in c) (number_in c)) ≡ record_offset (input_in c) 1
@@ -119,7 +119,7 @@ near = record { jobs = same_jobs; places = placed_alike }
 
 -- The job holds the same in both: where its packets, its record and its stream name buffers, these stand at the same places.
 same_bin_list : bin_list_of two_clients 0 ≡ bin_list_of one_client 0
-unfolding bin_list_of layout_of two_clients one_client lists_begin has_bin job_of slot_of passed packets packet_text state_text config_text seen_before front_packet behind bin_taken bin_length u32_at
+unfolding bin_list_of layout_of two_clients one_client lists_begin has_bin job_of slot_of packets_passed packets packet_text state_text config_text seen_before front_packet behind bin_taken bin_length u32_at
 same_bin_list = refl
 
 records_are : (c : Case) → records_of (file_in c) (number_in c) ≡ emitted_records (input_in c) (streams_place (layout_of (file_in c) (number_in c)))
@@ -135,7 +135,7 @@ unfolding streams_of
 streams_are c = grind (arith, common_steps, nat_tests, file_in, number_in, bin_there, input_is)
 
 stream_same : (first : ℕ) → emitted_uniforms (input_in First) first ≡ emitted_uniforms (input_in Single) first
-unfolding two_clients one_client uniforms_text streams_text stream_text addressed_word moved_word moved is_address source_word sample_number uniform_source stream_offset record_source taken_before given_before shader_used code_number code_of data_of u32_at buffer_at
+unfolding two_clients one_client uniforms_text streams_text stream_text addressed_word moved_word place_added is_address source_word sample_number uniform_source stream_offset record_source taken_before given_before shader_used code_number code_of data_of u32_at buffer_at
 stream_same first = refl
 
 same_places : places_in two_clients 0 ≡ places_in one_client 0

@@ -2,7 +2,7 @@
 use Rattle.std.proofs.Common.{◌≡◌, ◌≢◌, ◌<◌, ◌≤◌, ◌^◌, ℕ, Bool, true, List, [], ◌∷◌, length, None, refl, sym, ap, subst, arith, ◌∙◌, lit<}
 use Rattle.std.proofs.lemmas.Bool.{and_parts, Decides.nat_tests}
 use Rattle.std.specs.{List.AllByRecursion, Prelude.nat_lt, Prelude.◌&&◌}
-use Rattle.field_words.specs.{Questions.first_of, Questions.answered, Words.IsBytes}
+use Rattle.field_words.specs.{Questions.first_of, Questions.with_answers, Words.IsBytes}
 use Rattle.field_words.proofs.Questions.{passes, answered_none}
 use Rattle.job_format.specs.File.{BufferFits, SurfaceFits, FrameFits, JobFits, Fits, IsJobWellFormed, IsWellFormed, IsFileOf}
 use Rattle.job_format.specs.Text.{header_text, buffer_text, surface_text, frame_text, job_text, parts_text, file_text}
@@ -13,7 +13,7 @@ use Rattle.job_check.specs.{Faults.file_stages, Jobs.job_of, Whole.all_questions
 use Rattle.strict_check.specs.{Stages.strict_stages, Whole.strict_questions, Whole.strict_refusal_of}
 use Rattle.shader_records.specs.Sources.{shader_used}
 use Rattle.render_list.specs.Frame.{no_surface}
-use Rattle.textured_job.specs.Job.{code_bytes, fragment_words, vertex_words, fragment_told, page, colour_write, frame, bin_list, records, uniforms, job, textured, two_clients, one_client}
+use Rattle.textured_job.specs.Job.{code_bytes, fragment_words, vertex_words, fragment_report, page, colour_write, frame, bin_list, records, uniforms, job, textured_file, two_clients, one_client}
 use Rattle.textured_job.specs.Laws.{UsesAll, HasAll, IsAccepted, IsWitness, IsWitnessOfTwo, textured_bytes, two_clients_bytes, one_client_bytes}
 use Rattle.textured_job.proofs.Cases.{Case, Alone, First, Second, Single, file_in, number_in}
 use Rattle.textured_job.proofs.{Lists.bin_there, Records.drawn_is}
@@ -36,7 +36,7 @@ bytes_of (x ∷ xs) all =
     bytes_cons x xs (is_small x both.0) (bytes_of xs both.1)
 
 text_bytes : IsBytes textured_bytes
-unfolding textured code_bytes header_text buffer_text surface_text frame_text job_text parts_text file_text
+unfolding textured_file code_bytes header_text buffer_text surface_text frame_text job_text parts_text file_text
 text_bytes = bytes_of textured_bytes refl
 
 one_text_bytes : IsBytes one_client_bytes
@@ -102,8 +102,8 @@ second_job_fits = job_fits 2 (4 ∷ 5 ∷ 6 ∷ 7 ∷ []) (lit< tt) (lit< tt, (l
 empty_bytes : IsBytes []
 empty_bytes = bytes_of [] refl
 
-fits : Fits textured
-unfolding textured
+fits : Fits textured_file
+unfolding textured_file
 fits = record {
   version = lit< tt;
   mem_size = lit< tt;
@@ -169,8 +169,8 @@ job_well_formed : (client : ℕ) (handles : List ℕ) → length handles ≤ 4 �
 job_well_formed client handles few =
     record { handles = omega (arith, few); bin = omega arith; records = omega arith; declared = omega arith; uniforms = omega arith; whole_words = refl }
 
-well_formed : IsWellFormed textured
-unfolding textured code_bytes
+well_formed : IsWellFormed textured_file
+unfolding textured_file code_bytes
 well_formed = record {
   a_version = omega arith;
   known = omega arith;
@@ -214,7 +214,7 @@ one_well_formed = record {
   jobs = (job_well_formed 1 (0 ∷ 1 ∷ 2 ∷ 3 ∷ []) (omega arith), tt);
 }
 
-pub is_file : IsFileOf textured_bytes textured
+pub is_file : IsFileOf textured_bytes textured_file
 is_file = record { fits = fits; well_formed = well_formed; text = refl }
 
 pub two_are_file : IsFileOf two_clients_bytes two_clients
@@ -229,7 +229,7 @@ unfolding refusal_of questions_within strict_refusal_of strict_questions
 accepted bytes f are_bytes is none strict =
     let again = read_again bytes f is in
     let asked : first_of (all_questions bytes) ≡ None =
-    passes (answered format_refused (format_questions bytes)) (file_stages (file_at bytes)) (answered_none format_refused (format_questions bytes) again.0)
+    passes (with_answers format_refused (format_questions bytes)) (file_stages (file_at bytes)) (answered_none format_refused (format_questions bytes) again.0)
     ∙ (ap (λ g. first_of (file_stages g)) again.1 ∙ none) in
     record {
       are_bytes = are_bytes;
@@ -239,7 +239,7 @@ accepted bytes f are_bytes is none strict =
     }
 
 -- the fragment shader has a texture, then a direct sample
-uses_all : UsesAll fragment_told
+uses_all : UsesAll fragment_report
 uses_all = record {
   threaded = refl;
   texture = 0;
@@ -254,13 +254,13 @@ has_all : (c : Case) → HasAll (file_in c) (number_in c)
 has_all c = record {
   bin = bin_there c;
   states = subst (λ i. 0 < length i.states) (sym (input_is c)) (lit< tt);
-  shader = fragment_told;
+  shader = fragment_report;
   drawn = ap (λ i. shader_used i 0 0) (input_is c) ∙ drawn_is c;
   uses = uses_all;
 }
 
-one_in : length textured.jobs ≡ 1
-unfolding textured
+one_in : length textured_file.jobs ≡ 1
+unfolding textured_file
 one_in = refl
 
 two_in : length two_clients.jobs ≡ 2
@@ -273,9 +273,9 @@ clients_differ same = absurd (omega (arith, same))
 
 pub textured_witness : IsWitness textured_bytes
 textured_witness =
-    let again = (read_again textured_bytes textured is_file).1 in
+    let again = (read_again textured_bytes textured_file is_file).1 in
     record {
-      accepted = accepted textured_bytes textured text_bytes is_file file_none (strict_none Alone);
+      accepted = accepted textured_bytes textured_file text_bytes is_file file_none (strict_none Alone);
       one_job = ap (λ f. length f.jobs) again ∙ one_in;
       has = subst (λ f. HasAll f 0) (sym again) (has_all Alone);
     }

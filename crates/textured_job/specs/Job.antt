@@ -2,7 +2,7 @@
 -- directly, by the texel that it got. It stands alone in a file, and there are two such jobs in another, of two clients.
 use Rattle.std.specs.Prelude.{ℕ, ◌+◌, true, false, List, [], ◌∷◌, ◌++◌, map, Some, None}
 use Rattle.std.specs.Int.{to_le_bytes, w64}
-use Rattle.field_words.specs.Pieces.{joined}
+use Rattle.field_words.specs.Pieces.{joined_texts}
 use Rattle.buffer_table.specs.{declared.buffer.Buffer.Buffer, declared.buffer.Kind.Kind, declared.buffer.Regions.Regions, declared.buffer.Kind.TheVariants.Plain, declared.buffer.Kind.TheVariants.Code}
 use Rattle.job_format.specs.{declared.file.Frame.Frame, declared.file.Surface.Surface, Model.JobModel, Model.FileModel}
 use Rattle.qpu_isa.specs.Shader.{ShaderModel}
@@ -37,11 +37,11 @@ vertex_words = 0x300009e7009e7000 ∷ 0x100009e7009e7000 ∷ 0x100009e7009e7000 
 
 -- words as bytes, the lowest first
 unfoldable pub code_bytes : List ℕ → List ℕ
-code_bytes words = joined (map (to_le_bytes w64) words)
+code_bytes words = joined_texts (map (to_le_bytes w64) words)
 
--- what is told of the two: the texture has the uniforms 0 and 1, and the direct read adds uniform 3 to what uniform 2 bounds
-abbrev pub fragment_told : ShaderModel
-fragment_told = record {
+-- what is reported of the two: the texture has the uniforms 0 and 1, and the direct read adds uniform 3 to what uniform 2 bounds
+abbrev pub fragment_report : ShaderModel
+fragment_report = record {
   uniforms = 4;
   samples =
       record { p = Some 0 ∷ Some 1 ∷ None ∷ None ∷ []; direct = false }
@@ -51,8 +51,8 @@ fragment_told = record {
   threaded = true;
 }
 
-abbrev pub vertex_told : ShaderModel
-vertex_told = record { uniforms = 0; samples = []; address_words = []; threaded = false }
+abbrev pub vertex_report : ShaderModel
+vertex_report = record { uniforms = 0; samples = []; address_words = []; threaded = false }
 
 -- the lists' region in the first page, and so many tile slots behind it
 abbrev pub regions : (slots : ℕ) → Regions
@@ -122,8 +122,8 @@ job client handles = record {
 }
 
 -- the file of the job alone
-unfoldable pub textured : FileModel
-textured = record {
+unfoldable pub textured_file : FileModel
+textured_file = record {
   version = 1;
   mem_size = 0x85000;
   regions = regions 1;
@@ -143,6 +143,6 @@ two_clients = record {
   jobs = job 1 (0 ∷ 1 ∷ 2 ∷ 3 ∷ []) ∷ job 2 (4 ∷ 5 ∷ 6 ∷ 7 ∷ []) ∷ [];
 }
 
--- The same file without client 2: neither its job nor its buffers are there.
+-- That file without client 2: neither its job nor its buffers are there.
 unfoldable pub one_client : FileModel
 one_client = record two_clients { buffers = buffers 1 0x101000; contents = contents; jobs = job 1 (0 ∷ 1 ∷ 2 ∷ 3 ∷ []) ∷ [] }

@@ -7,7 +7,7 @@ use Rattle.job_check.specs.{Jobs.job_of, Jobs.has_bin, Jobs.input_for, Emit.memo
 use Rattle.qpu_isa.specs.Shader.{ShaderModel, sample_at}
 use Rattle.shader_records.specs.Sources.{shader_used}
 use Rattle.promises.specs.Apart.{jobs_of, AreNeighbourFiles, AlikeTo}
-use Rattle.textured_job.specs.Job.{textured, two_clients, one_client}
+use Rattle.textured_job.specs.Job.{textured_file, two_clients, one_client}
 
 -- The shader switches threads, so that two of it share a processor. It takes a texture, and reads a word directly.
 pub record UsesAll (shader : ShaderModel) : Type 0 where
@@ -60,7 +60,7 @@ pub record AreWitnesses (bytes others : List ℕ) : Type 0 where
 
 -- the bytes of the files
 abbrev pub textured_bytes : List ℕ
-textured_bytes = file_text textured
+textured_bytes = file_text textured_file
 
 abbrev pub two_clients_bytes : List ℕ
 two_clients_bytes = file_text two_clients

@@ -1,8 +1,8 @@
 -- A level's part of the buffer, and its picture.
 use Rattle.std.proofs.Common.{◌≡◌, ℕ, ◌+◌, ◌-◌, ◌*◌, ◌<◌, ◌≤◌, List, not, nat_lt, false, Option, None, length, take, drop, get_or, length-drop, refl, sym, ap, subst, arith, ◌∙◌}
 use Rattle.std.proofs.{lemmas.List.get_or-drop, lemmas.List.get_or-take, lemmas.List.length-take-le, lemmas.Bool.ltb-false}
-use Rattle.field_words.specs.Questions.{first_of, answered}
-use Rattle.field_words.proofs.{Questions.none_stands, Nones.front_none, Nones.rest_none, Nones.none_answered}
+use Rattle.field_words.specs.Questions.{first_of, with_answers}
+use Rattle.field_words.proofs.{Questions.none_broken, Nones.front_none, Nones.rest_none, Nones.none_answered}
 use Rattle.texture_layouts.specs.Setup.{TextureModel, texture_of, faces_of, level_width_of, level_height_of, tiling_at, size_at, level_place_of}
 use Rattle.texture_layouts.specs.{declared.surface.Tiling.Tiling, Surface.IsPixelSize, Level.level_size_of, Level.image_size_of}
 use Rattle.texture_layouts.specs.{Place.pixel_place_of, Fits.texture_questions, Fits.is_unlisted, Fits.IsInBuffer}
@@ -67,9 +67,9 @@ is_there p0 p1 p2 p3 size face level none =
     let t : TextureModel = texture_of p0 p1 p2 p3 in
     let fine : first_of (texture_questions p0 p1 p2 p3 size) ≡ None =
     none_answered Texture (texture_questions p0 p1 p2 p3 size)
-    (front_none (answered Texture (texture_questions p0 p1 p2 p3 size)) (part_questions t face level) none) in
-    let asked = none_stands (texture_questions p0 p1 p2 p3 size) fine in
-    let part = none_stands (part_questions t face level) (rest_none (answered Texture (texture_questions p0 p1 p2 p3 size)) (part_questions t face level) none) in
+    (front_none (with_answers Texture (texture_questions p0 p1 p2 p3 size)) (part_questions t face level) none) in
+    let asked = none_broken (texture_questions p0 p1 p2 p3 size) fine in
+    let part = none_broken (part_questions t face level) (rest_none (with_answers Texture (texture_questions p0 p1 p2 p3 size)) (part_questions t face level) none) in
     record {
       listed = asked.1.1.0;
       inside = in_buffer p0 p1 p2 p3 size fine;
@@ -77,7 +77,7 @@ is_there p0 p1 p2 p3 size face level none =
       has_level = ltb-false t.levels level part.1.0;
     }
 
--- the same of what the code computes
+-- a level is there where what the code computes has no fault
 pub found_there : (t : TextureModel) (p0 p1 p2 p3 size face level : ℕ) (fault : Option LevelFault) → t ≡ texture_of p0 p1 p2 p3
     → fault ≡ first_of (level_questions p0 p1 p2 p3 size face level) → fault ≡ None → IsThere t face level size
 found_there t p0 p1 p2 p3 size face level fault decoded first none =

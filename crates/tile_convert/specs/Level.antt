@@ -1,6 +1,6 @@
 -- One level of a texture, and when there is none.
 use Rattle.std.specs.Prelude.{◌≡◌, ◌<◌, ℕ, ◌+◌, ◌*◌, not, nat_lt, List, [], ◌∷◌, ◌++◌, length, slice_index}
-use Rattle.field_words.specs.Questions.{Question, Ask, answered}
+use Rattle.field_words.specs.Questions.{Question, Ask, with_answers}
 use Rattle.texture_layouts.specs.Setup.{TextureModel, texture_of, faces_of, level_width_of, level_height_of, tiling_at, level_place_of}
 use Rattle.texture_layouts.specs.{Place.pixel_place_of, Fits.texture_questions}
 use Rattle.tile_convert.specs.declared.level.LevelFault.TheVariants.{Texture, Face, Level}
@@ -13,9 +13,9 @@ part_questions t face level = Ask (not (nat_lt face (faces_of t))) Face ∷ (Ask
 -- The rules in their order: those of the texture in a buffer of so many bytes, then the face, then the level.
 unfoldable pub level_questions : ℕ → ℕ → ℕ → ℕ → ℕ → ℕ → ℕ → List (Question LevelFault)
 level_questions p0 p1 p2 p3 size face level =
-    answered Texture (texture_questions p0 p1 p2 p3 size) ++ part_questions (texture_of p0 p1 p2 p3) face level
+    with_answers Texture (texture_questions p0 p1 p2 p3 size) ++ part_questions (texture_of p0 p1 p2 p3) face level
 
--- the same of the setup words as a row
+-- the rules of the setup words as a row
 abbrev pub level_rules : List ℕ → ℕ → ℕ → ℕ → List (Question LevelFault)
 level_rules p size face level = level_questions (slice_index p 0) (slice_index p 1) (slice_index p 2) (slice_index p 3) size face level
 

@@ -15,8 +15,8 @@ use thiserror::Error;
 /// Why a buffer has no such level.
 #[derive(Clone, Copy, Debug, PartialEq, Eq, Error)]
 pub enum LevelFault {
-    /// The texture doesn't lie in the buffer, or is none that the checker knows: the number of the first rule of textures that
-    /// stands.
+    /// The texture doesn't lie in the buffer, or is none that the checker knows: the number of the first broken rule of
+    /// textures.
     #[error("U{0}")]
     Texture(u8),
     /// The texture hasn't so many faces.
@@ -41,7 +41,7 @@ fn part_fault(texture: &Texture, face: u32, level: u32) -> Option<LevelFault>
     None
 }
 
-/// The first rule that stands.
+/// The first broken rule.
 fn level_fault(p: [u32; 4], size: u32, face: u32, level: u32) -> Option<LevelFault>
     ensures { result ≡ first_of (level_rules p size face level) }
 {

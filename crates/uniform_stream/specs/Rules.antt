@@ -54,11 +54,11 @@ s23 code i = has_setup (word code i) (pending_of code 0 i) (pending_of code 1 i)
 unfoldable pub s25 : List ℕ → ℕ → Bool
 s25 code i = is_target code i && (nat_lt 0 (pending_of code 0 i) || nat_lt 0 (pending_of code 1 i))
 
--- the rules that can stand at an instruction that writes registers alone
+-- the rules that can be broken at an instruction that writes registers alone
 unfoldable pub quiet_questions : List ℕ → ℕ → List (Question ℕ)
 quiet_questions code i = Ask (s18 code i) 18 ∷ Ask (s19 code i) 19 ∷ Ask (s25 code i) 25 ∷ []
 
--- These rules in the order of their numbers. Past the checked instructions those on the word alone can still stand; the
+-- These rules in the order of their numbers. Past the checked instructions those on the word alone can still be broken; the
 -- checker asks checked instructions alone.
 unfoldable pub stream_questions : List ℕ → ℕ → List (Question ℕ)
 stream_questions code i =

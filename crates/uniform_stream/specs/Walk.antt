@@ -3,7 +3,7 @@ use Rattle.std.specs.Prelude.{◌≡◌, ◌≤◌, ◌<◌, ℕ, ◌*◌, ◌-�
 use Rattle.shader_flow.specs.{Bounded.indexes, Flow.is_target, Pending.count_of, Pending.pending_of, Pending.takes, Site.SiteModel}
 use Rattle.uniform_stream.specs.{declared.walk.Running.Running, Stream.writes_address, Stream.is_known}
 
--- what the rules are told of an instruction
+-- what the rules learn of an instruction
 pub record IsAskedOf (site : SiteModel) (pending0 pending1 : ℕ) (taker known target : Bool) : Type 0 where
   pub first : pending0 ≡ pending_of site.code 0 site.at
   pub second : pending1 ≡ pending_of site.code 1 site.at

@@ -14,7 +14,7 @@ fn is_register_address(address: u8) -> bool
 }
 
 /// Whether the instruction writes registers alone, or nothing: neither unit writes a TMU, the uniforms' address or a register
-/// that reaches other units. Most rules can't stand there, so a walk over a shader asks this first.
+/// that reaches other units. Most rules can't be broken there, so a walk over a shader asks this first.
 #[inline]
 #[tactic(auto, unfolding(crate::specs::Quiet::writes_registers))]
 pub fn writes_registers(word: u64) -> bool

@@ -147,7 +147,7 @@ fn breaks_s25(asked: &Asked) -> bool
     asked.target && (0 < asked.pending0 || 0 < asked.pending1)
 }
 
-// The first of the rules that stands at an instruction that writes registers alone: the rules on writes don't.
+// The first of the rules that is broken at an instruction that writes registers alone: the rules on writes aren't.
 #[tactic(auto, unfolding(crate::specs::Rules::quiet_questions))]
 fn quiet_fault(asked: &Asked) -> Option<u8>
     ensures { result ≡ first_of (quiet_questions asked.now.code asked.now.at) }
@@ -164,7 +164,7 @@ fn quiet_fault(asked: &Asked) -> Option<u8>
     None
 }
 
-// The first of the rules that stands.
+// The first of the rules that is broken.
 #[tactic(auto, unfolding(crate::specs::Rules::stream_questions))]
 fn loud_fault(asked: &Asked) -> Option<u8>
     ensures { result ≡ first_of (stream_questions asked.now.code asked.now.at) }
@@ -202,7 +202,7 @@ fn loud_fault(asked: &Asked) -> Option<u8>
     None
 }
 
-// The first of the rules that stands; at most instructions few rules are asked.
+// The first of the rules that is broken; at most instructions few rules are asked.
 fn asked_fault(asked: &Asked) -> Option<u8>
     ensures { result ≡ first_of (stream_questions asked.now.code asked.now.at) }
 {
@@ -222,10 +222,10 @@ fn takes_here(code: &[u64], stream: &Stream, at: usize) -> bool
     stream.counts[at] < stream.counts[at + 1]
 }
 
-/// The number of the first of the rules S14, S15, S17 to S23 and S25 that stands at the instruction `at`; `None` where none
-/// of them does. They keep the uniforms that a shader takes those that the checker counts, and the words that a texture unit
+/// The number of the first of the rules S14, S15, S17 to S23 and S25 that is broken at the instruction `at`; `None` where none
+/// of them is. They keep the uniforms that a shader takes those that the checker counts, and the words that a texture unit
 /// gets those that it was shown. At an instruction past the checked ones, which is never executed, the rules on the word
-/// alone can stand too.
+/// alone can be broken too.
 pub fn stream_fault(code: &[u64], flow: &Flow, stream: &Stream, at: u32) -> Option<u8>
     requires inside { at < length code.now }
     requires made { IsFlow code.now flow.now }

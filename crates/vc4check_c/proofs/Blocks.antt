@@ -9,13 +9,13 @@ use Rattle.shader_flow.specs.{Bounded.indexes, Flow.checked_of, Flow.end_of}
 use Rattle.shader_flow.proofs.Counts.{count_le}
 use Rattle.uniform_stream.specs.Stream.{uniforms_of, is_open}
 use Rattle.shader_check.specs.Info.{samples_of, sample_of, is_sample}
-use Rattle.job_check.specs.Shaders.{words_of, told_of}
+use Rattle.job_check.specs.Shaders.{words_of, report_of}
 use Rattle.job_check.proofs.Codes.{length_words}
 use Rattle.vc4check_c.specs.Block.{findings_word, fault_place, findings_in_words, findings_in_block, known_whole, known_sample, known_address, block_of, position_in, sample_in, address_in, whole_word, read_of, IsBlockOf}
 use Rattle.strict_rules.specs.{declared.rule.StrictRule.StrictRule, declared.rule.StrictFault.StrictFault}
 use Rattle.strict_rules.specs.declared.rule.StrictRule.TheVariants.{SetupAtSwitch, SetupAtEnd, Requests, Stretch, LastThree, Coupled, Mutex}
 use Rattle.strict_check.specs.{declared.findings.Findings.Findings, Findings.findings_of}
-use Rattle.vc4check_c.specs.{Shader.told_position, Shader.told_flag, declared.block.Known.Known}
+use Rattle.vc4check_c.specs.{Shader.position_report, Shader.flag_report, declared.block.Known.Known}
 
 longer : (list : List ℕ) (n : ℕ) → length list ≤ n → length (list ++ (n ∷ [])) ≤ suc n
 longer list n few = subst (λ k. k ≤ suc n) (sym (length-append list (n ∷ []))) (omega (arith, few))
@@ -60,11 +60,11 @@ uniforms_fit : (code : List ℕ) → length code ≤ most_code → uniforms_of (
 uniforms_fit code few = let uniforms = few_uniforms (words_of code) in let words = few_words code few in omega (arith, uniforms, words)
 
 -- a position, a yes or no, and a sample
-position_back : (position : Option ℕ) → ((k : ℕ) → position ≡ Some k → k < 4294967295) → position_in (told_position position) ≡ position
+position_back : (position : Option ℕ) → ((k : ℕ) → position ≡ Some k → k < 4294967295) → position_in (position_report position) ≡ position
 position_back None below = refl
 position_back (Some k) below = grind (arith, below k refl)
 
-flag_back : (stands : Bool) → (told_flag stands == 1) ≡ stands
+flag_back : (stands : Bool) → (flag_report stands == 1) ≡ stands
 flag_back true = refl
 flag_back false = refl
 
@@ -93,9 +93,9 @@ samples_back (sample ∷ samples) all =
     let here = all 0 (omega arith) in
     cc (places_back sample.p sample.direct here.four here.below, samples_back samples (λ i inside. all (suc i) (omega (arith, inside))))
 
-told_back : (code : List ℕ) → length code ≤ most_code → IsSoundShader (told_of (words_of code)) → map sample_in (map known_sample (samples_of (words_of code))) ≡ samples_of (words_of code)
-unfolding told_of
-told_back code few sound = samples_back (samples_of (words_of code)) (λ i inside. let s = sound.samples i inside in record {
+report_back : (code : List ℕ) → length code ≤ most_code → IsSoundShader (report_of (words_of code)) → map sample_in (map known_sample (samples_of (words_of code))) ≡ samples_of (words_of code)
+unfolding report_of
+report_back code few sound = samples_back (samples_of (words_of code)) (λ i inside. let s = sound.samples i inside in record {
   four = s.four;
   below = λ n k is. let small = uniforms_fit code few in let here = s.below n k is in omega (arith, small, here);
 })
@@ -136,15 +136,15 @@ block_reads shader findings block is = subst (Reads shader findings) (sym is) (m
 abbrev model : ℕ → List Sample → List ℕ → Bool → ShaderModel
 model uniforms samples words threaded = record { uniforms = uniforms; samples = samples; address_words = words; threaded = threaded }
 
-pub made_read : (code : List ℕ) (block : List Known) → IsBlockOf code block → read_of block ≡ told_of (words_of code)
-unfolding read_of told_of
+pub made_read : (code : List ℕ) (block : List Known) → IsBlockOf code block → read_of block ≡ report_of (words_of code)
+unfolding read_of report_of
 made_read code block made =
-    let shader : ShaderModel = told_of (words_of code) in
-    let reads = block_reads shader (findings_of (words_of code)) block made.told in
+    let shader : ShaderModel = report_of (words_of code) in
+    let reads = block_reads shader (findings_of (words_of code)) block made.report in
     let count : whole_word block 2 ≡ length shader.samples = ap (λ entry. get_or entry.words 2 0) reads.whole in
     let uniforms : whole_word block 0 ≡ shader.uniforms = ap (λ entry. get_or entry.words 0 0) reads.whole in
     let threaded : (whole_word block 1 == 1) ≡ shader.threaded = ap (λ entry. get_or entry.words 1 0 == 1) reads.whole ∙ flag_back shader.threaded in
-    let samples = ap (λ n. map sample_in (take n (drop 1 block))) count ∙ ap (map sample_in) reads.samples ∙ told_back code made.few made.sound in
+    let samples = ap (λ n. map sample_in (take n (drop 1 block))) count ∙ ap (map sample_in) reads.samples ∙ report_back code made.few made.sound in
     let addresses = ap (λ n. map address_in (drop (1 + n) block)) count ∙ ap (map address_in) reads.addresses ∙ addresses_back shader.address_words in
     let read = read_of block in
     ap (λ n. model n read.samples read.address_words read.threaded) uniforms
@@ -205,5 +205,5 @@ findings_back findings = back findings.fault findings.uses.vpm findings.uses.til
 pub made_findings : (code : List ℕ) (block : List Known) → IsBlockOf code block → findings_in_block block ≡ findings_of (words_of code)
 made_findings code block made =
     let findings = findings_of (words_of code) in
-    let reads = block_reads (told_of (words_of code)) findings block made.told in
+    let reads = block_reads (report_of (words_of code)) findings block made.report in
     ap (λ entry. findings_in_words (get_or entry.words 3 0) (get_or entry.words 4 0)) reads.whole ∙ findings_back findings

@@ -9,4 +9,4 @@ mod Sizes
 pub mod Submissions
 pub mod Takes
 pub mod Texts
-mod Told
+mod Report

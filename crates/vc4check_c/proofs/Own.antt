@@ -6,7 +6,7 @@ use Rattle.vc4check_c.specs.{declared.submission.GivenBuffer.GivenBuffer, declar
 use Rattle.vc4check_c.specs.Submission.{entry_questions, entry_questions_at, buffer_questions, entries_questions, job_questions, job_questions_of, own_questions}
 use Rattle.std.specs.List.{slice_get}
 use Rattle.job_format.specs.{Rules.format_rule_number, declared.rule.FormatRule.TheVariants.OverLimit}
-use Rattle.job_check.specs.Faults.{refused}
+use Rattle.job_check.specs.Faults.{refusal_by}
 
 -- each question is by a rule of the format
 abbrev AreFormat : List (Question Refusal) → Type 0
@@ -52,4 +52,4 @@ few_or_header s refusal false later first few is found behind = few refl
 
 pub few_behind_header : (s : Submission) (refusal : Refusal) → first_of (own_questions s) ≡ Some refusal → header_size ≤ refusal.offset → length s.buffers.now ≤ most_buffers
 unfolding own_questions
-few_behind_header s refusal = few_or_header s refusal (nat_lt most_buffers (length s.buffers.now)) (entries_questions s.buffers.now ++ job_questions_of s) (refused F (format_rule_number OverLimit) 28) (λ no. grind (arith, no)) refl
+few_behind_header s refusal = few_or_header s refusal (nat_lt most_buffers (length s.buffers.now)) (entries_questions s.buffers.now ++ job_questions_of s) (refusal_by F (format_rule_number OverLimit) 28) (λ no. grind (arith, no)) refl

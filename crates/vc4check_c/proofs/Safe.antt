@@ -22,8 +22,8 @@ use Rattle.vc4check_c.specs.Joins.{MayJoin, job_of as job_of_answer}
 use Rattle.machine.specs.{State.State, State.Units, State.units_start, Step.step, Step.job_of as job_of_step}
 use Rattle.accepted_law.proofs.Unshared.{code_number}
 use Rattle.vc4check_c.specs.{declared.submission.GivenBuffer.GivenBuffer, declared.submission.Submission.Submission, declared.submit.Verdict.Verdict}
-use Rattle.vc4check_c.specs.{Jobs.told_lists, Submission.content_in, Submission.entry_in, Submission.job_in, Submission.file_of, Submit.accepted_verdict, Submit.IsTaken, Types.IsOfTypes}
-use Rattle.vc4check_c.specs.Safe.{where_code, named, data_buffers, code_buffers, rights_of, rights_from, start_of, data_of_job, HasShader, IsReady, IsSafeToRun}
+use Rattle.vc4check_c.specs.{Jobs.lists_report, Submission.content_in, Submission.entry_in, Submission.job_in, Submission.file_of, Submit.accepted_verdict, Submit.IsTaken, Types.IsOfTypes}
+use Rattle.vc4check_c.specs.Safe.{where_code, intervals_named, data_buffers, code_buffers, rights_of, rights_from, start_of, data_of_job, HasShader, IsReady, IsSafeToRun}
 use Rattle.std.specs.{List.range_with_len, Prelude.nat_lt, Prelude.slice_index_or}
 use Rattle.std.proofs.{Common.zero-add, lemmas.List.FromFn.get_or-map-range_with_len}
 use Rattle.field_words.specs.Words.{IsBytes}
@@ -32,7 +32,7 @@ use Rattle.job_check.specs.{Jobs.layouts_of, Emit.all_lengths_of}
 use Rattle.job_check.proofs.Counted.{as_many_layouts}
 use Rattle.job_safety.proofs.Prepared.{prepared_bytes_law}
 use Rattle.vc4check_c.specs.{declared.jobs.JobsAnswer.JobsAnswer, Jobs.no_lists, Jobs.no_layout, Jobs.no_lengths, Jobs.all_lists, Jobs.lists_at, Jobs.accepted_jobs, Places.ArePlaced}
-use Rattle.vc4check_c.specs.Safe.{slot_of, lists_of, told_of, rights_of_job, AreReady, AreSafeToRun}
+use Rattle.vc4check_c.specs.Safe.{slot_of, lists_of, report_of, rights_of_job, AreReady, AreSafeToRun}
 use Rattle.accepted_law.proofs.Prepared.{prepared_memories_agree_law}
 use Rattle.accepted_strict.specs.Files.{FileStrict}
 use Rattle.accepted_strict.proofs.Files.{strict_files_obey_law}
@@ -41,13 +41,13 @@ use Rattle.vc4check_c.proofs.{MayRun.faultless, MayRun.may_run, MayRun.unstrict_
 use Rattle.vc4check_c.proofs.Places.{unstrict_file, faultless_file, strict_file}
 
 -- Handles one after the other.
-named_append : (code : Bool) (buffers : List GivenBuffer) (xs ys : List ℕ) → named code buffers (xs ++ ys) ≡ named code buffers xs ++ named code buffers ys
-unfolding named
+named_append : (code : Bool) (buffers : List GivenBuffer) (xs ys : List ℕ) → intervals_named code buffers (xs ++ ys) ≡ intervals_named code buffers xs ++ intervals_named code buffers ys
+unfolding intervals_named
 named_append code buffers [] ys = refl
 named_append code buffers (x ∷ xs) ys = grind (arith, common_steps, named_append code buffers xs ys)
 
-named_one : (code : Bool) (buffers : List GivenBuffer) (handle : ℕ) → named code buffers (handle ∷ []) ≡ where_code code (slice_get buffers handle)
-unfolding named
+named_one : (code : Bool) (buffers : List GivenBuffer) (handle : ℕ) → intervals_named code buffers (handle ∷ []) ≡ where_code code (slice_get buffers handle)
+unfolding intervals_named
 named_one code buffers handle = grind (arith, common_steps)
 
 -- The file has the submission's buffers as its entries.
@@ -133,20 +133,20 @@ module _ (t : TableModel) (buffers : List GivenBuffer) (handles : List ℕ) (i :
 -- What the first n handles give.
 named_below : (code : Bool) (names : ℕ → Option ℕ) (entries : List Buffer) (buffers : List GivenBuffer) (handles : List ℕ)
     → ((i : ℕ) → i < length handles → interval_where entries (names i) ≡ where_code code (slice_get buffers (slice_index handles i)))
-    → (n : ℕ) → n ≤ length handles → named_buffers names entries n ≡ named code buffers (take n handles)
-unfolding named_buffers named
+    → (n : ℕ) → n ≤ length handles → named_buffers names entries n ≡ intervals_named code buffers (take n handles)
+unfolding named_buffers intervals_named
 named_below code names entries buffers handles each zero few = refl
 named_below code names entries buffers handles each (suc n) few =
     ap (λ front. front ++ interval_where entries (names n)) (named_below code names entries buffers handles each n (omega (arith, few)))
-    ∙ ap (λ one. named code buffers (take n handles) ++ one) (each n (omega (arith, few)) ∙ sym (named_one code buffers (slice_index handles n)))
+    ∙ ap (λ one. intervals_named code buffers (take n handles) ++ one) (each n (omega (arith, few)) ∙ sym (named_one code buffers (slice_index handles n)))
     ∙ sym (named_append code buffers (take n handles) (slice_index handles n ∷ []))
-    ∙ ap (named code buffers) (sym (take-suc handles n 0 (omega (arith, few))))
+    ∙ ap (intervals_named code buffers) (sym (take-suc handles n 0 (omega (arith, few))))
 
 all_named : (code : Bool) (names : ℕ → Option ℕ) (entries : List Buffer) (buffers : List GivenBuffer) (handles : List ℕ)
     → ((i : ℕ) → i < length handles → interval_where entries (names i) ≡ where_code code (slice_get buffers (slice_index handles i)))
-    → named_buffers names entries (length handles) ≡ named code buffers handles
+    → named_buffers names entries (length handles) ≡ intervals_named code buffers handles
 all_named code names entries buffers handles each =
-    named_below code names entries buffers handles each (length handles) (omega arith) ∙ ap (named code buffers) (take_all (length handles) handles (omega arith))
+    named_below code names entries buffers handles each (length handles) (omega arith) ∙ ap (intervals_named code buffers) (take_all (length handles) handles (omega arith))
 
 data_is : (s : Submission) → plain_of (file_of s) 0 ≡ data_buffers s
 unfolding plain_of file_of job_of job_in
@@ -184,29 +184,29 @@ sound_alike rights one other m u same sound = record {
 }
 
 -- The answer tells the slot, the lists and their beginnings.
-module _ (s : Submission) (size : ℕ) (answer : Verdict) (told : answer ≡ accepted_verdict size (layout_of (file_of s) 0) (lengths_of (file_of s) 0)) where
-  lists_told : answer.lists ≡ told_lists (layout_of (file_of s) 0) (lengths_of (file_of s) 0)
+module _ (s : Submission) (size : ℕ) (answer : Verdict) (report : answer ≡ accepted_verdict size (layout_of (file_of s) 0) (lengths_of (file_of s) 0)) where
+  lists_reported : answer.lists ≡ lists_report (layout_of (file_of s) 0) (lengths_of (file_of s) 0)
   unfolding accepted_verdict
-  lists_told = ap (λ v. v.lists) told
+  lists_reported = ap (λ v. v.lists) report
 
   rights_are : job_rights (file_of s) 0 ≡ rights_of s answer.lists
-  unfolding told_lists slot_in lists_in_file layout_of
+  unfolding lists_report slot_in lists_in_file layout_of
   rights_are =
       ap (λ plain. rights_from (slot_in (file_of s) 0) plain (lists_in_file (file_of s) 0) (codes_of (file_of s) 0)) (data_is s)
       ∙ ap (rights_from (slot_in (file_of s) 0) (data_buffers s) (lists_in_file (file_of s) 0)) (code_is s)
-      ∙ ap (rights_of s) (sym lists_told)
+      ∙ ap (rights_of s) (sym lists_reported)
 
   start_is : start_by (layout_of (file_of s) 0) (lengths_of (file_of s) 0) ≡ start_of answer.lists
-  unfolding told_lists start_by
-  start_is = ap start_of (sym lists_told)
+  unfolding lists_report start_by
+  start_is = ap start_of (sym lists_reported)
 
   place_is : answer.lists.lists ≡ s.lists
-  unfolding told_lists layout_of lists_begin file_of
-  place_is = ap (λ l. l.lists) lists_told
+  unfolding lists_report layout_of lists_begin file_of
+  place_is = ap (λ l. l.lists) lists_reported
 
   size_is : answer.size ≡ size
   unfolding accepted_verdict
-  size_is = ap (λ v. v.size) told
+  size_is = ap (λ v. v.size) report
 
 -- A memory that is ready is prepared for the file.
 content_there : (s : Submission) (number : ℕ) (given : GivenBuffer) → slice_get s.buffers.now number ≡ Some given → content_of (file_of s) number ≡ content_in given
@@ -262,8 +262,8 @@ unfolding file_of
 is_prepared s old window answer m taken put ready =
     let f = file_of s in
     let region = region_of f in
-    let front = ap (λ n. take n window) (size_is s (length region) answer taken.told) ∙ window_front old region window put in
-    let stands = ap (λ n. window_of m n (length region)) (sym (place_is s (length region) answer taken.told)) ∙ ap (window_of m answer.lists.lists) (sym (size_is s (length region) answer taken.told)) in
+    let front = ap (λ n. take n window) (size_is s (length region) answer taken.report) ∙ window_front old region window put in
+    let stands = ap (λ n. window_of m n (length region)) (sym (place_is s (length region) answer taken.report)) ∙ ap (window_of m answer.lists.lists) (sym (size_is s (length region) answer taken.report)) in
     record { long = is_long s m ready.long; lists = stands ∙ ready.lists ∙ front; code = each_code s window answer m ready }
 
 -- Every run from such a memory is safe.
@@ -271,12 +271,12 @@ pub submissions_are_safe : (s : Submission) (old window : List ℕ) (answer : Ve
     → IsSafeToRun s window answer
 unfolding file_rights file_starts file_of
 submissions_are_safe s old window answer types taken put m ready =
-    let told = taken.told in
+    let report = taken.report in
     let size = length (region_of (file_of s)) in
-    let sound = may_run s types (unstrict_none s taken.none_stands) m (is_prepared s old window answer m taken put ready) in
+    let sound = may_run s types (unstrict_none s taken.none_broken) m (is_prepared s old window answer m taken put ready) in
     let one = sound_alike (file_rights (file_of s)) (plain_of (file_of s)) (data_of_job s) m (units_start (file_starts (file_of s))) (data_by_job s) sound in
-    let righted = subst (λ r. Sound (r ∷ []) (data_of_job s) m (units_start (file_starts (file_of s)))) (rights_are s size answer told) one in
-    subst (λ a. Sound (rights_of s answer.lists ∷ []) (data_of_job s) m (units_start (a ∷ []))) (start_is s size answer told) righted
+    let righted = subst (λ r. Sound (r ∷ []) (data_of_job s) m (units_start (file_starts (file_of s)))) (rights_are s size answer report) one in
+    subst (λ a. Sound (rights_of s answer.lists ∷ []) (data_of_job s) m (units_start (a ∷ []))) (start_is s size answer report) righted
 
 -- And none does what the guide forbids.
 prepared_obeys : (f : FileModel) → IsFaultless f → FileStrict f → (m : List ℕ) → IsPrepared f m → Obeys (file_rights f) m (units_start (file_starts f))
@@ -289,12 +289,12 @@ pub submissions_obey : (s : Submission) (old window : List ℕ) (answer : Verdic
     → ObeysGuide s window answer
 unfolding file_rights file_starts file_of
 submissions_obey s old window answer types taken put m ready =
-    let told = taken.told in
+    let report = taken.report in
     let size = length (region_of (file_of s)) in
-    let accepted = faultless s types (unstrict_none s taken.none_stands) in
-    let one = prepared_obeys (file_of s) accepted (strict_none s taken.none_stands) m (is_prepared s old window answer m taken put ready) in
-    let righted = subst (λ r. Obeys (r ∷ []) m (units_start (file_starts (file_of s)))) (rights_are s size answer told) one in
-    subst (λ a. Obeys (rights_of s answer.lists ∷ []) m (units_start (a ∷ []))) (start_is s size answer told) righted
+    let accepted = faultless s types (unstrict_none s taken.none_broken) in
+    let one = prepared_obeys (file_of s) accepted (strict_none s taken.none_broken) m (is_prepared s old window answer m taken put ready) in
+    let righted = subst (λ r. Obeys (r ∷ []) m (units_start (file_starts (file_of s)))) (rights_are s size answer report) one in
+    subst (λ a. Obeys (rights_of s answer.lists ∷ []) m (units_start (a ∷ []))) (start_is s size answer report) righted
 
 -- And the job may join those that are live.
 abbrev job_from : Start → Rights → List Interval → Job
@@ -306,29 +306,29 @@ one_job s = omega arith
 
 lists_are : (s : Submission) (size : ℕ) (answer : Verdict) → answer ≡ accepted_verdict size (layout_of (file_of s) 0) (lengths_of (file_of s) 0)
     → lists_in_file (file_of s) 0 ≡ lists_of answer.lists
-unfolding told_lists lists_in_file
-lists_are s size answer told = ap lists_of (sym (lists_told s size answer told))
+unfolding lists_report lists_in_file
+lists_are s size answer report = ap lists_of (sym (lists_reported s size answer report))
 
 slot_is : (s : Submission) (size : ℕ) (answer : Verdict) → answer ≡ accepted_verdict size (layout_of (file_of s) 0) (lengths_of (file_of s) 0)
     → slot_in (file_of s) 0 ≡ slot_of answer.lists
-unfolding told_lists slot_in layout_of
-slot_is s size answer told = ap slot_of (sym (lists_told s size answer told))
+unfolding lists_report slot_in layout_of
+slot_is s size answer report = ap slot_of (sym (lists_reported s size answer report))
 
 pub submissions_may_join : (s : Submission) (old window : List ℕ) (answer : Verdict) → IsOfTypes s → IsTaken s answer → window ≡ with_bytes old 0 (region_of (file_of s))
     → MayJoin s window answer
 submissions_may_join s old window answer types taken put d owed =
     let f = file_of s in
-    let told = taken.told in
+    let report = taken.report in
     let size = length (region_of f) in
-    let lists = lists_are s size answer told in
-    let slot = slot_is s size answer told in
+    let lists = lists_are s size answer report in
+    let slot = slot_is s size answer report in
     let job : job_in_file f 0 ≡ job_of_answer s answer =
-    ap (λ a. job_from a (job_rights f 0) (plain_of f 0)) (start_is s size answer told)
-    ∙ ap (λ r. job_from (start_of answer.lists) r (plain_of f 0)) (rights_are s size answer told)
+    ap (λ a. job_from a (job_rights f 0) (plain_of f 0)) (start_is s size answer report)
+    ∙ ap (λ r. job_from (start_of answer.lists) r (plain_of f 0)) (rights_are s size answer report)
     ∙ ap (job_from (start_of answer.lists) (rights_of s answer.lists)) (data_is s) in
     subst (λ j. MayHappen d (Admits j)) job
     (may_be_admitted_law d f 0 (record {
-      accepted = faultless s types (unstrict_none s taken.none_stands);
+      accepted = faultless s types (unstrict_none s taken.none_broken);
       inside = one_job s;
       prepared = is_prepared s old window answer d.state.memory taken put owed.ready;
       apart = record {
@@ -351,44 +351,44 @@ each_job f one other each = same_row one other 0 (length f.jobs) (λ j above bel
 is_below : (j n : ℕ) → j < n → nat_lt j n ≡ true
 is_below j n below = grind (arith, nat_tests, below)
 
-module _ (f : FileModel) (few : length f.jobs ≤ most_jobs) (size : ℕ) (answer : JobsAnswer) (told : answer ≡ accepted_jobs size (layouts_of f) (all_lengths_of f)) where
-  told_lists_of : (j : ℕ) → j < length f.jobs → told_of answer j ≡ told_lists (layout_of f j) (lengths_of f j)
+module _ (f : FileModel) (few : length f.jobs ≤ most_jobs) (size : ℕ) (answer : JobsAnswer) (report : answer ≡ accepted_jobs size (layouts_of f) (all_lengths_of f)) where
+  lists_report_of : (j : ℕ) → j < length f.jobs → report_of answer j ≡ lists_report (layout_of f j) (lengths_of f j)
   unfolding accepted_jobs all_lists lists_at layouts_of all_lengths_of
-  told_lists_of j inside =
+  lists_report_of j inside =
       let n = length (layouts_of f) in
       let many = as_many_layouts f in
-      ap (λ a. told_of a j) told
+      ap (λ a. report_of a j) report
       ∙ get_or-map-range_with_len (lists_at (layouts_of f) (all_lengths_of f) n) 0 most_jobs j j no_lists (omega (arith, inside, few)) (zero-add j)
-      ∙ ap (λ b. if b then told_lists (slice_index_or (layouts_of f) j no_layout) (slice_index_or (all_lengths_of f) j no_lengths) else no_lists)
+      ∙ ap (λ b. if b then lists_report (slice_index_or (layouts_of f) j no_layout) (slice_index_or (all_lengths_of f) j no_lengths) else no_lists)
       (is_below j n (omega (arith, inside, many)))
-      ∙ ap (λ l. told_lists l (slice_index_or (all_lengths_of f) j no_lengths)) (get_or-map-range_with_len (layout_of f) 0 (length f.jobs) j j no_layout inside (zero-add j))
-      ∙ ap (told_lists (layout_of f j)) (get_or-map-range_with_len (lengths_of f) 0 (length f.jobs) j j no_lengths inside (zero-add j))
+      ∙ ap (λ l. lists_report l (slice_index_or (all_lengths_of f) j no_lengths)) (get_or-map-range_with_len (layout_of f) 0 (length f.jobs) j j no_layout inside (zero-add j))
+      ∙ ap (lists_report (layout_of f j)) (get_or-map-range_with_len (lengths_of f) 0 (length f.jobs) j j no_lengths inside (zero-add j))
 
   job_rights_are : (j : ℕ) → j < length f.jobs → job_rights f j ≡ rights_of_job f answer j
-  unfolding told_lists slot_in lists_in_file layout_of
-  job_rights_are j inside = ap (λ l. rights_from (slot_of l) (plain_of f j) (lists_of l) (codes_of f j)) (sym (told_lists_of j inside))
+  unfolding lists_report slot_in lists_in_file layout_of
+  job_rights_are j inside = ap (λ l. rights_from (slot_of l) (plain_of f j) (lists_of l) (codes_of f j)) (sym (lists_report_of j inside))
 
-  job_start_is : (j : ℕ) → j < length f.jobs → start_by (layout_of f j) (lengths_of f j) ≡ start_of (told_of answer j)
-  unfolding told_lists start_by
-  job_start_is j inside = ap start_of (sym (told_lists_of j inside))
+  job_start_is : (j : ℕ) → j < length f.jobs → start_by (layout_of f j) (lengths_of f j) ≡ start_of (report_of answer j)
+  unfolding lists_report start_by
+  job_start_is j inside = ap start_of (sym (lists_report_of j inside))
 
-  file_place_is : 0 < length f.jobs → (told_of answer 0).lists ≡ f.regions.lists_place
-  unfolding told_lists layout_of lists_begin
-  file_place_is some = ap (λ l. l.lists) (told_lists_of 0 some)
+  file_place_is : 0 < length f.jobs → (report_of answer 0).lists ≡ f.regions.lists_place
+  unfolding lists_report layout_of lists_begin
+  file_place_is some = ap (λ l. l.lists) (lists_report_of 0 some)
 
   file_size_is : answer.size ≡ size
   unfolding accepted_jobs
-  file_size_is = ap (λ a. a.size) told
+  file_size_is = ap (λ a. a.size) report
 
 are_prepared : (f : FileModel) (old window : List ℕ) (answer : JobsAnswer) (m : List ℕ) → length f.jobs ≤ most_jobs → 0 < length f.jobs
     → answer ≡ accepted_jobs (length (region_of f)) (layouts_of f) (all_lengths_of f) → window ≡ with_bytes old 0 (region_of f)
     → AreReady f window answer m → IsPrepared f m
-are_prepared f old window answer m few some told put ready =
+are_prepared f old window answer m few some report put ready =
     let region = region_of f in
-    let size = file_size_is f few (length region) answer told in
-    let place = file_place_is f few (length region) answer told some in
+    let size = file_size_is f few (length region) answer report in
+    let place = file_place_is f few (length region) answer report some in
     let front = ap (λ n. take n window) size ∙ window_front old region window put in
-    let stands = ap (λ p. window_of m p (length region)) (sym place) ∙ ap (window_of m (told_of answer 0).lists) (sym size) in
+    let stands = ap (λ p. window_of m p (length region)) (sym place) ∙ ap (window_of m (report_of answer 0).lists) (sym size) in
     record { long = ready.long; lists = stands ∙ ready.lists ∙ front; code = λ j inside handle number named. ready.code j handle number inside named }
 
 pub files_are_safe : (bytes : List ℕ) (old window : List ℕ) (answer : JobsAnswer) → IsBytes bytes → ArePlaced bytes answer
@@ -396,26 +396,26 @@ pub files_are_safe : (bytes : List ℕ) (old window : List ℕ) (answer : JobsAn
 unfolding file_rights file_starts
 files_are_safe bytes old window answer are placed put m ready =
     let f = file_at bytes in
-    let told = placed.told in
+    let report = placed.report in
     let few = placed.spelled.well_formed.few_jobs in
     let some = placed.spelled.well_formed.some_job in
     let size = length (region_of f) in
-    let sound = prepared_bytes_law bytes are (unstrict_file bytes placed.none_stands) m (are_prepared f old window answer m few some told put ready) in
-    let righted = subst (λ r. Sound r (plain_of f) m (units_start (file_starts f))) (each_job f (job_rights f) (rights_of_job f answer) (job_rights_are f few size answer told)) sound in
+    let sound = prepared_bytes_law bytes are (unstrict_file bytes placed.none_broken) m (are_prepared f old window answer m few some report put ready) in
+    let righted = subst (λ r. Sound r (plain_of f) m (units_start (file_starts f))) (each_job f (job_rights f) (rights_of_job f answer) (job_rights_are f few size answer report)) sound in
     subst (λ a. Sound (of_jobs f (rights_of_job f answer)) (plain_of f) m (units_start a))
-    (each_job f (λ j. start_by (layout_of f j) (lengths_of f j)) (λ j. start_of (told_of answer j)) (job_start_is f few size answer told)) righted
+    (each_job f (λ j. start_by (layout_of f j) (lengths_of f j)) (λ j. start_of (report_of answer j)) (job_start_is f few size answer report)) righted
 
 pub files_obey : (bytes : List ℕ) (old window : List ℕ) (answer : JobsAnswer) → IsBytes bytes → ArePlaced bytes answer
     → window ≡ with_bytes old 0 (region_of (file_at bytes)) → AllObeyGuide (file_at bytes) window answer
 unfolding file_rights file_starts
 files_obey bytes old window answer are placed put m ready =
     let f = file_at bytes in
-    let told = placed.told in
+    let report = placed.report in
     let few = placed.spelled.well_formed.few_jobs in
     let some = placed.spelled.well_formed.some_job in
     let size = length (region_of f) in
-    let prepared = are_prepared f old window answer m few some told put ready in
-    let all = prepared_obeys f (faultless_file bytes are placed.none_stands) (strict_file bytes placed.none_stands) m prepared in
-    let righted = subst (λ r. Obeys r m (units_start (file_starts f))) (each_job f (job_rights f) (rights_of_job f answer) (job_rights_are f few size answer told)) all in
+    let prepared = are_prepared f old window answer m few some report put ready in
+    let all = prepared_obeys f (faultless_file bytes are placed.none_broken) (strict_file bytes placed.none_broken) m prepared in
+    let righted = subst (λ r. Obeys r m (units_start (file_starts f))) (each_job f (job_rights f) (rights_of_job f answer) (job_rights_are f few size answer report)) all in
     subst (λ a. Obeys (of_jobs f (rights_of_job f answer)) m (units_start a))
-    (each_job f (λ j. start_by (layout_of f j) (lengths_of f j)) (λ j. start_of (told_of answer j)) (job_start_is f few size answer told)) righted
+    (each_job f (λ j. start_by (layout_of f j) (lengths_of f j)) (λ j. start_of (report_of answer j)) (job_start_is f few size answer report)) righted

@@ -16,7 +16,7 @@ pub record IsChecked (bytes memory : List ℕ) (layouts : List Layout) (lengths 
 
 sound : (bytes memory : List ℕ) (layouts : List Layout) (lengths : List Lengths) → IsChecked bytes memory layouts lengths → IsSound bytes
 sound bytes memory layouts lengths is = record {
-  none_stands = is.none;
+  none_broken = is.none;
   spelled = is.spelled;
   asked = subst (λ m. length m ≡ (file_at bytes).mem_size) is.emitted.memory_is is.size;
   placed = subst (λ l. IsPlaced (memory_of (file_at bytes)) l) is.emitted.layouts_are (subst (λ m. IsPlaced m layouts) is.emitted.memory_is is.placed);
@@ -31,14 +31,14 @@ as_many bytes memory layouts lengths spelled emitted =
     let same : length lengths ≡ length f.jobs = ap length emitted.lengths_are ∙ as_many_lengths f in
     (same ∙ sym long, omega (arith, long, spelled.well_formed.few_jobs))
 
--- What is told of an accepted file.
+-- What is reported of an accepted file.
 pub are_accepted : (bytes memory : List ℕ) (layouts : List Layout) (lengths : List Lengths) (answer : JobsAnswer)
     → IsChecked bytes memory layouts lengths → answer ≡ accepted_jobs (length memory) layouts lengths → AreAccepted bytes answer
-are_accepted bytes memory layouts lengths answer is told =
+are_accepted bytes memory layouts lengths answer is report =
     let f = file_at bytes in record {
       sound = sound bytes memory layouts lengths is;
-      told =
-          told
+      report =
+          report
           ∙ ap (λ m. accepted_jobs (length m) layouts lengths) is.emitted.memory_is
           ∙ ap (λ l. accepted_jobs (length (memory_of f)) l lengths) is.emitted.layouts_are
           ∙ ap (accepted_jobs (length (memory_of f)) (layouts_of f)) is.emitted.lengths_are;

@@ -1,10 +1,10 @@
--- What a submission's own numbers come to where no rule stands of them.
+-- What a submission's own numbers come to where no rule is broken by them.
 use Rattle.std.proofs.Common.{◌≡◌, ◌<◌, ◌≤◌, ◌+◌, ◌-◌, ◌++◌, ℕ, zero, suc, List, [], ◌∷◌, length, map, take, refl, sym, ap, subst, Some, None, add-one, arith, ◌∙◌}
 use Rattle.std.proofs.{lemmas.List.length-map, Math.Seq.take-suc, lemmas.Option.slice_get_within, lemmas.Option.get_or_from_slice_get}
 use Rattle.std.specs.List.{slice_get, AllByRecursion}
 use Rattle.field_words.specs.{declared.stop.Stop.Stop, declared.stop.Stop.TheVariants.Fault, declared.stop.Stop.TheVariants.NoMemory}
 use Rattle.field_words.specs.{Questions.Question, Questions.Refuses, Questions.first_of, Questions.each, Sizes.most_code}
-use Rattle.field_words.proofs.Questions.{each_stop, none_stands, stands_none}
+use Rattle.field_words.proofs.Questions.{each_stop, none_broken, first_none}
 use Rattle.field_words.proofs.Nones.{front_none, rest_none, each_none}
 use Rattle.buffer_table.specs.{declared.buffer.Kind.Kind, declared.buffer.Kind.TheVariants.Plain, declared.buffer.Kind.TheVariants.Code}
 use Rattle.job_format.specs.{Offsets.entry_offset, File.FitsShader, File.IsJobWellFormed, File.IsWellFormed}
@@ -34,10 +34,10 @@ shader_fits : (kind : Kind) (content : ℕ) → content ≤ most_code → FitsSh
 shader_fits Plain content few = tt
 shader_fits Code content few = few
 
--- what a buffer of which no rule stands comes to
+-- what a buffer in which no rule is broken comes to
 entry_passes : (given : GivenBuffer) (at : ℕ) → first_of (entry_questions given at) ≡ None → length (content_in given) ≤ most_code
 unfolding entry_questions
-entry_passes given at none = let n = none_stands (entry_questions given at) none in grind (arith, n.1.0)
+entry_passes given at none = let n = none_broken (entry_questions given at) none in grind (arith, n.1.0)
 
 entry_fits : (given : GivenBuffer) → length (content_in given) ≤ most_code → FitsShader (entry_in given).kind (entry_in given).content
 unfolding entry_in
@@ -64,7 +64,7 @@ entries_pass buffers none b given here =
 job_passes : (s : Submission) (at : ℕ) → first_of (job_questions s at) ≡ None → IsJobWellFormed (job_in s)
 unfolding job_questions job_in
 job_passes s at none =
-    let n = none_stands (job_questions s at) none in
+    let n = none_broken (job_questions s at) none in
     let rest = n.1.1.1.1 in
     record {
       handles = grind (arith, n.1.0);
@@ -75,23 +75,23 @@ job_passes s at none =
       whole_words = grind (arith, rest.1.1.0);
     }
 
--- where no rule of its own numbers stands, no shader is too long
+-- where no rule of its own numbers is broken, no shader is too long
 pub shaders_few : (s : Submission) → first_of (own_questions s) ≡ None
     → (b : ℕ) (given : GivenBuffer) → slice_get s.buffers.now b ≡ Some given → length (content_in given) ≤ most_code
 unfolding own_questions
 shaders_few s none =
     let buffers = s.buffers.now in
-    let n = none_stands (own_questions s) none in
-    let rest = stands_none (entries_questions buffers ++ job_questions_of s) n.1 in
+    let n = none_broken (own_questions s) none in
+    let rest = first_none (entries_questions buffers ++ job_questions_of s) n.1 in
     entries_pass buffers (front_none (entries_questions buffers) (job_questions_of s) rest)
 
--- A submission of whose own numbers no rule stands is a well-formed file.
+-- A submission of whose own numbers no rule is broken is a well-formed file.
 pub well_formed : (s : Submission) → first_of (own_questions s) ≡ None → IsWellFormed (file_of s)
 unfolding own_questions file_of
 well_formed s none =
     let buffers = s.buffers.now in
-    let n = none_stands (own_questions s) none in
-    let rest = stands_none (entries_questions buffers ++ job_questions_of s) n.1 in
+    let n = none_broken (own_questions s) none in
+    let rest = first_none (entries_questions buffers ++ job_questions_of s) n.1 in
     record {
       a_version = omega arith;
       known = omega arith;

@@ -1,4 +1,4 @@
--- What is told of a submission of which no rule stands.
+-- What is reported of a submission in which no rule is broken.
 use Rattle.std.proofs.Common.{◌≡◌, ℕ, ◌+◌, ◌≤◌, List, [], ◌∷◌, length, get_or, drop, zero-add, None, refl, ap, subst, arith, ◌∙◌}
 use Rattle.std.specs.List.{AllByRecursion}
 use Rattle.field_words.specs.{Questions.first_of, Writes.with_bytes}
@@ -17,7 +17,7 @@ inside : (s : Submission) (region : Region) → IsRegion (file_of s) region → 
 unfolding file_of
 inside s region is = let fits = is.fits in omega (arith, fits)
 
--- Whatever is told of the shaders: the lists take no more than they may, there is a layout, and there are lengths.
+-- Whatever is reported of the shaders: the lists take no more than they may, there is a layout, and there are lengths.
 pub size_inside : (s : Submission) (region : Region) → IsLaid (file_of s) region → length region.bytes.items ≤ s.lists_size
 unfolding file_of
 size_inside s region laid = let fits = laid.fits in omega (arith, laid.size, fits)
@@ -31,18 +31,18 @@ first_inside size (layout ∷ layouts) none some all = all.0
 
 pub is_taken : (s : Submission) (region : Region) (verdict : Verdict) → first_of (hardware_questions s) ≡ None → IsRegion (file_of s) region
     → verdict ≡ accepted_verdict (length region.bytes.items) (get_or region.layouts.items 0 no_layout) (get_or region.lengths.items 0 no_lengths) → IsTaken s verdict
-is_taken s region verdict stands is told =
+is_taken s region verdict broken is report =
     let f = file_of s in
     let layout_is = ap (λ ls. get_or ls 0 no_layout) is.layouts_are ∙ first_layout f no_layout (some_job s) in
     let lengths_are = ap (λ ls. get_or ls 0 no_lengths) is.lengths_are ∙ first_lengths f no_lengths (some_job s) in
     let some : 1 ≤ length region.layouts.items = omega (arith, ap length is.layouts_are, as_many_layouts f, some_job s) in
     let one = first_inside (region_end f.regions) region.layouts.items no_layout some is.each_job in
     record {
-      none_stands = stands;
+      none_broken = broken;
       inside = inside s region is;
       placed = subst (IsInside (region_end f.regions)) layout_is one;
-      told =
-          told
+      report =
+          report
           ∙ ap (λ b. accepted_verdict (length b) (get_or region.layouts.items 0 no_layout) (get_or region.lengths.items 0 no_lengths)) is.bytes_are
           ∙ ap (λ l. accepted_verdict (length (region_of f)) l (get_or region.lengths.items 0 no_lengths)) layout_is
           ∙ ap (accepted_verdict (length (region_of f)) (layout_of f 0)) lengths_are;

@@ -9,7 +9,7 @@ use Rattle.field_words.proofs.Questions.{passes, answered_none}
 use Rattle.buffer_table.specs.{declared.buffer.Kind.Kind, declared.buffer.Kind.TheVariants.Plain, declared.buffer.Kind.TheVariants.Code}
 use Rattle.buffer_table.specs.Table.{buffer_at, past_end}
 use Rattle.qpu_isa.specs.Shader.{ShaderModel, IsSoundShader}
-use Rattle.job_check.specs.Shaders.{table_of, words_of, told_of, code_questions, content_of, shader_for, shader_of, shaders_up_to, shaders_of}
+use Rattle.job_check.specs.Shaders.{table_of, words_of, report_of, code_questions, content_of, shader_for, shader_of, shaders_up_to, shaders_of}
 use Rattle.job_check.specs.{Faults.shader_questions_in, Faults.shader_refused, Faults.shader_stage, Faults.shaders_stage, Region.AreChecked, Region.Under}
 use Rattle.job_check.proofs.Codes.{AllSound, are_shaders}
 use Rattle.vc4check_c.specs.{declared.submission.GivenBuffer.GivenBuffer, declared.submission.Submission.Submission, Block.IsBlockOf}
@@ -21,14 +21,14 @@ use Rattle.strict_check.specs.{Stages.code_questions_in, Uses.uses_in, Uses.uses
 use Rattle.vc4check_c.proofs.{Submissions.inside_at, Blocks.made_read, Blocks.made_findings}
 
 -- what a check tells of the shader in a buffer
-told_in : GivenBuffer → Option ShaderModel
-told_in given = if given.kind == 1 then Some (told_of (words_of given.content.now)) else None
+report_in : GivenBuffer → Option ShaderModel
+report_in given = if given.kind == 1 then Some (report_of (words_of given.content.now)) else None
 
 -- Each of the first n Code buffers has the block of its shader.
 abbrev AreBlocks : List GivenBuffer → ℕ → Type 0
 AreBlocks buffers n = (b : ℕ) (given : GivenBuffer) → b < n → slice_get buffers b ≡ Some given → given.kind ≡ 1 → IsBlockOf given.content.now given.known.now
 
--- no rule stands of any item
+-- no rule is broken by any item
 each_nones : {F : Type 0} (questions : ℕ → List (Question F)) (i n : ℕ) → ((k : ℕ) → i ≤ k → k < i + n → first_of (questions k) ≡ None) → first_of (each questions i n) ≡ None
 unfolding each
 each_nones questions i zero all = refl
@@ -48,16 +48,16 @@ content_is : (s : Submission) (b : ℕ) (given : GivenBuffer) → slice_get s.bu
 unfolding content_of file_of
 content_is s b given here = mapped_at content_in s.buffers.now b given [] here
 
--- by the buffer's kind: no rule stands of its shader, and what is known of it is what is told
+-- by the buffer's kind: no rule is broken by its shader, and what is known of it is what is reported
 none_by : (is_code : Bool) (content : List ℕ) → (is_code ≡ true → first_of (code_questions content) ≡ None)
     → first_of (shader_questions_in (if is_code then Code else Plain) (if is_code then content else [])) ≡ None
 none_by true content none = none refl
 none_by false content none = refl
 
-told_by : (is_code : Bool) (content : List ℕ)
-    → shader_for (if is_code then Code else Plain) (if is_code then content else []) ≡ (if is_code then Some (told_of (words_of content)) else None)
-told_by true content = refl
-told_by false content = refl
+report_by : (is_code : Bool) (content : List ℕ)
+    → shader_for (if is_code then Code else Plain) (if is_code then content else []) ≡ (if is_code then Some (report_of (words_of content)) else None)
+report_by true content = refl
+report_by false content = refl
 
 sound_by : (is_code : Bool) (shader : ShaderModel) → (is_code ≡ true → IsSoundShader shader) → IfSome (if is_code then Some shader else None) IsSoundShader
 sound_by true shader sound = sound refl
@@ -65,11 +65,11 @@ sound_by false shader sound = tt
 
 none_in : (given : GivenBuffer) → (given.kind ≡ 1 → IsBlockOf given.content.now given.known.now) → first_of (shader_questions_in (entry_in given).kind (content_in given)) ≡ None
 unfolding entry_in content_in
-none_in given block = none_by (given.kind == 1) given.content.now (λ is. (block (eqb-true given.kind 1 is)).none_stands)
+none_in given block = none_by (given.kind == 1) given.content.now (λ is. (block (eqb-true given.kind 1 is)).none_broken)
 
-told_is : (given : GivenBuffer) → shader_for (entry_in given).kind (content_in given) ≡ told_in given
-unfolding entry_in content_in told_in
-told_is given = told_by (given.kind == 1) given.content.now
+report_is : (given : GivenBuffer) → shader_for (entry_in given).kind (content_in given) ≡ report_in given
+unfolding entry_in content_in report_in
+report_is given = report_by (given.kind == 1) given.content.now
 
 none_at : (s : Submission) (b : ℕ) → AreBlocks s.buffers.now (length s.buffers.now) → b < length s.buffers.now → (given : GivenBuffer) → slice_get s.buffers.now b ≡ Some given
     → first_of (shader_stage (file_of s) b) ≡ None
@@ -79,41 +79,41 @@ none_at s b blocks inside given here =
     (subst (λ e. first_of (shader_questions_in e.kind (content_of (file_of s) b)) ≡ None) (sym (buffer_is s b given here))
     (subst (λ c. first_of (shader_questions_in (entry_in given).kind c) ≡ None) (sym (content_is s b given here)) (none_in given (blocks b given inside here))))
 
-shader_is : (s : Submission) (b : ℕ) (given : GivenBuffer) → slice_get s.buffers.now b ≡ Some given → shader_of (file_of s) b ≡ told_in given
+shader_is : (s : Submission) (b : ℕ) (given : GivenBuffer) → slice_get s.buffers.now b ≡ Some given → shader_of (file_of s) b ≡ report_in given
 unfolding shader_of
 shader_is s b given here =
     ap (λ e. shader_for e.kind (content_of (file_of s) b)) (buffer_is s b given here)
     ∙ ap (shader_for (entry_in given).kind) (content_is s b given here)
-    ∙ told_is given
+    ∙ report_is given
 
 as_many : (s : Submission) → length (file_of s).buffers ≡ length s.buffers.now
 unfolding file_of
 as_many s = length-map s.buffers.now entry_in
 
 all_sound : (buffers : List GivenBuffer) → ((b : ℕ) (given : GivenBuffer) → slice_get buffers b ≡ Some given → given.kind ≡ 1 → IsBlockOf given.content.now given.known.now)
-    → AllSound (map told_in buffers)
-unfolding told_in
+    → AllSound (map report_in buffers)
+unfolding report_in
 all_sound [] all = tt
 all_sound (given ∷ buffers) all = (
-  sound_by (given.kind == 1) (told_of (words_of given.content.now)) (λ is. (all 0 given refl (eqb-true given.kind 1 is)).sound),
+  sound_by (given.kind == 1) (report_of (words_of given.content.now)) (λ is. (all 0 given refl (eqb-true given.kind 1 is)).sound),
   all_sound buffers (λ b. all (suc b)),
 )
 
-told_all : (s : Submission) → map told_in s.buffers.now ≡ shaders_of (file_of s)
+report_all : (s : Submission) → map report_in s.buffers.now ≡ shaders_of (file_of s)
 unfolding shaders_up_to
-told_all s =
+report_all s =
     let buffers = s.buffers.now in
     let f = file_of s in
-    let long : length (map told_in buffers) ≡ length f.buffers = length-map buffers told_in ∙ sym (as_many s) in
-    ext_get_or None (map told_in buffers) (shaders_of f) (long ∙ sym (length-map-range_with_len (shader_of f) 0 (length f.buffers)))
+    let long : length (map report_in buffers) ≡ length f.buffers = length-map buffers report_in ∙ sym (as_many s) in
+    ext_get_or None (map report_in buffers) (shaders_of f) (long ∙ sym (length-map-range_with_len (shader_of f) 0 (length f.buffers)))
     (λ b below.
-    let inside : b < length buffers = let many = length-map buffers told_in in omega (arith, below, many) in
+    let inside : b < length buffers = let many = length-map buffers report_in in omega (arith, below, many) in
     let here = inside_at buffers b inside in
-    mapped_at told_in buffers b here.0 None here.1
+    mapped_at report_in buffers b here.0 None here.1
     ∙ sym (shader_is s b here.0 here.1)
     ∙ sym (get_or-map-range_with_len (shader_of f) 0 (length f.buffers) b b None (omega (arith, below, long)) (omega arith)))
 
-blocks_checked : (s : Submission) → AreBlocks s.buffers.now (length s.buffers.now) → AreChecked (file_of s) (map told_in s.buffers.now)
+blocks_checked : (s : Submission) → AreBlocks s.buffers.now (length s.buffers.now) → AreChecked (file_of s) (map report_in s.buffers.now)
 unfolding shaders_stage
 blocks_checked s blocks =
     let buffers = s.buffers.now in
@@ -123,7 +123,7 @@ blocks_checked s blocks =
           let inside : b < length buffers = let many = as_many s in omega (arith, below, many) in
           let here = inside_at buffers b inside in
           none_at s b blocks inside here.0 here.1);
-      are = are_shaders f (map told_in buffers) (told_all s) (all_sound buffers (λ b given here. blocks b given (slice_get_within buffers b given here) here));
+      are = are_shaders f (map report_in buffers) (report_all s) (all_sound buffers (λ b given here. blocks b given (slice_get_within buffers b given here) here));
     }
 
 -- What the blocks tell has the shape that the check asks.
@@ -151,38 +151,38 @@ are_shaped s readable =
           ];
     }
 
--- what holds where what was told does
-pub where_told : {X : Type 0} {P : Type 0} (told : Option X) (Holds : X → Type 0) → Under told Holds P → IfSome told Holds → P
-where_told None Holds promise holds = promise
-where_told (Some told) Holds promise holds = promise holds
+-- what holds where what was reported does
+pub where_reported : {X : Type 0} {P : Type 0} (report : Option X) (Holds : X → Type 0) → Under report Holds P → IfSome report Holds → P
+where_reported None Holds promise holds = promise
+where_reported (Some report) Holds promise holds = promise holds
 
-pub some_readable : {X : Type 0} (A : X → Type 0) {R : Type 0} (told : Option X) → IfSome told (λ x. A x × R) → is_some told ≡ true → R
+pub some_readable : {X : Type 0} (A : X → Type 0) {R : Type 0} (report : Option X) → IfSome report (λ x. A x × R) → is_some report ≡ true → R
 some_readable A None both is = absurd (cc)
-some_readable A (Some told) both is = both.1
+some_readable A (Some report) both is = both.1
 
--- Blocks that can be read are those of the shaders, where the caller owes no more, and so they tell what is told of the shaders.
+-- Blocks that can be read are those of the shaders, where the caller owes no more, and so they tell what is reported of the shaders.
 are_blocks : (buffers : List GivenBuffer) → AreKnown buffers → AreReadable buffers (length buffers) → AreBlocks buffers (length buffers)
 are_blocks buffers known readable = λ b given inside here code. known b given here code (readable b given inside here code)
 
-same_by : (is_code : Bool) (read told : ShaderModel) → (is_code ≡ true → read ≡ told) → (if is_code then Some read else None) ≡ (if is_code then Some told else None)
-same_by true read told same = ap Some (same refl)
-same_by false read told same = refl
+same_by : (is_code : Bool) (read report : ShaderModel) → (is_code ≡ true → read ≡ report) → (if is_code then Some read else None) ≡ (if is_code then Some report else None)
+same_by true read report same = ap Some (same refl)
+same_by false read report same = refl
 
-read_told : (given : GivenBuffer) → (given.kind ≡ 1 → IsBlockOf given.content.now given.known.now) → read_in given ≡ told_in given
-unfolding read_in told_in
-read_told given block =
-    same_by (given.kind == 1) (read_of given.known.now) (told_of (words_of given.content.now)) (λ is. made_read given.content.now given.known.now (block (eqb-true given.kind 1 is)))
+read_reported : (given : GivenBuffer) → (given.kind ≡ 1 → IsBlockOf given.content.now given.known.now) → read_in given ≡ report_in given
+unfolding read_in report_in
+read_reported given block =
+    same_by (given.kind == 1) (read_of given.known.now) (report_of (words_of given.content.now)) (λ is. made_read given.content.now given.known.now (block (eqb-true given.kind 1 is)))
 
-all_told : (buffers : List GivenBuffer) → ((b : ℕ) (given : GivenBuffer) → slice_get buffers b ≡ Some given → given.kind ≡ 1 → IsBlockOf given.content.now given.known.now)
-    → map read_in buffers ≡ map told_in buffers
-all_told [] blocks = refl
-all_told (given ∷ buffers) blocks = cc (read_told given (blocks 0 given refl), all_told buffers (λ b. blocks (suc b)))
+all_reported : (buffers : List GivenBuffer) → ((b : ℕ) (given : GivenBuffer) → slice_get buffers b ≡ Some given → given.kind ≡ 1 → IsBlockOf given.content.now given.known.now)
+    → map read_in buffers ≡ map report_in buffers
+all_reported [] blocks = refl
+all_reported (given ∷ buffers) blocks = cc (read_reported given (blocks 0 given refl), all_reported buffers (λ b. blocks (suc b)))
 
 pub read_checked : (s : Submission) → AreKnown s.buffers.now → AreReadable s.buffers.now (length s.buffers.now) → AreChecked (file_of s) (map read_in s.buffers.now)
 read_checked s known readable =
     let buffers = s.buffers.now in
     let blocks = are_blocks buffers known readable in
-    subst (AreChecked (file_of s)) (sym (all_told buffers (λ b given here. blocks b given (slice_get_within buffers b given here) here))) (blocks_checked s blocks)
+    subst (AreChecked (file_of s)) (sym (all_reported buffers (λ b given here. blocks b given (slice_get_within buffers b given here) here))) (blocks_checked s blocks)
 
 -- the block of one buffer more
 last_or_before : (buffers : List GivenBuffer) (b i : ℕ) (given other : GivenBuffer) (is_last : Bool) → (i == b) ≡ is_last → i < b + 1 → AreReadable buffers b

@@ -3,13 +3,13 @@
 use Rattle.std.specs.Prelude.{◌≡◌, ◌≤◌, ◌==◌, ◌+◌, ◌*◌, ◌/◌, ◌%◌, ℕ, List, [], ◌∷◌, ◌++◌, length, map, take, drop, slice_index, slice_index_or, Option, Some, None, if◌then◌else◌}
 use Rattle.field_words.specs.{Sizes.most_code, Questions.first_of, Questions.IsFirst}
 use Rattle.qpu_isa.specs.{declared.inst.Sample.Sample, Shader.ShaderModel, Shader.position, Shader.IsSoundShader}
-use Rattle.job_check.specs.Shaders.{words_of, code_questions, told_of}
+use Rattle.job_check.specs.Shaders.{words_of, code_questions, report_of}
 use Rattle.shader_check.specs.declared.fault.ShaderFault.{ShaderFault}
 use Rattle.shader_records.specs.Inputs.{IsShaped}
 use Rattle.strict_rules.specs.{declared.rule.StrictRule.StrictRule, declared.rule.StrictFault.StrictFault, Least.number_of}
 use Rattle.strict_rules.specs.declared.rule.StrictRule.TheVariants.{SetupAtSwitch, SetupAtEnd, Requests, Stretch, LastThree, Coupled, Mutex}
 use Rattle.strict_check.specs.{declared.findings.Findings.Findings, Findings.findings_of}
-use Rattle.vc4check_c.specs.{declared.block.Known.Known, declared.block.MadeAnswer.MadeAnswer, Shader.told_position, Shader.told_flag}
+use Rattle.vc4check_c.specs.{declared.block.Known.Known, declared.block.MadeAnswer.MadeAnswer, Shader.position_report, Shader.flag_report}
 
 -- a strict rule by its number, 0 for none; and what the strict check found, in two words: the rule and what the shader uses, and the rule's
 -- instruction
@@ -22,16 +22,16 @@ fault_place None = 0
 fault_place (Some fault) = fault.at
 
 unfoldable pub findings_word : Findings → ℕ
-findings_word findings = fault_number findings.fault + 8 * told_flag findings.uses.vpm + 16 * told_flag findings.uses.tile
+findings_word findings = fault_number findings.fault + 8 * flag_report findings.uses.vpm + 16 * flag_report findings.uses.tile
 
 abbrev pub known_whole : ShaderModel → Findings → Known
 known_whole shader findings = record {
-  words = shader.uniforms ∷ told_flag shader.threaded ∷ length shader.samples ∷ findings_word findings ∷ fault_place findings.fault ∷ [];
+  words = shader.uniforms ∷ flag_report shader.threaded ∷ length shader.samples ∷ findings_word findings ∷ fault_place findings.fault ∷ [];
 }
 
 unfoldable pub known_sample : Sample → Known
 known_sample sample = record {
-  words = told_position (position sample 0) ∷ told_position (position sample 1) ∷ told_position (position sample 2) ∷ told_position (position sample 3) ∷ told_flag sample.direct ∷ [];
+  words = position_report (position sample 0) ∷ position_report (position sample 1) ∷ position_report (position sample 2) ∷ position_report (position sample 3) ∷ flag_report sample.direct ∷ [];
 }
 
 abbrev pub known_address : ℕ → Known
@@ -42,7 +42,7 @@ block_of shader findings = known_whole shader findings ∷ (map known_sample sha
 
 -- that of the shader which these bytes hold
 abbrev pub block_of_code : List ℕ → List Known
-block_of_code code = block_of (told_of (words_of code)) (findings_of (words_of code))
+block_of_code code = block_of (report_of (words_of code)) (findings_of (words_of code))
 
 -- and back
 abbrev pub position_in : ℕ → Option ℕ
@@ -94,21 +94,21 @@ pub record IsReadable (block : List Known) : Type 0 where
   pub count : 1 + whole_word block 2 ≤ length block
   pub shaped : IsShaped (read_of block)
 
--- No rule of shaders stands of these bytes, no more than a shader may have, and the block tells of the shader that they hold.
+-- No rule of shaders is broken by these bytes, no more than a shader may have, and the block tells of the shader that they hold.
 pub record IsBlockOf (code : List ℕ) (block : List Known) : Type 0 where
   pub few : length code ≤ most_code
-  pub none_stands : first_of (code_questions code) ≡ None
-  pub sound : IsSoundShader (told_of (words_of code))
-  pub told : block ≡ block_of_code code
+  pub none_broken : first_of (code_questions code) ≡ None
+  pub sound : IsSoundShader (report_of (words_of code))
+  pub report : block ≡ block_of_code code
 
--- what is told of a made block, and of a refused shader
+-- what is reported of a made block, and of a refused shader
 abbrev pub made_answer : List Known → MadeAnswer
 made_answer block = record { number = 0; index = 0; entries = length block }
 
 abbrev pub unmade_answer : ShaderFault → MadeAnswer
 unmade_answer fault = record { number = fault.number; index = fault.index; entries = 0 }
 
--- A rule stands of these bytes, none before it in the order of refusal does, and it is told.
+-- A rule is broken by these bytes, none before it in the order of refusal is, and it is reported.
 abbrev pub IsUnmade : List ℕ → Option ShaderFault → MadeAnswer → Type 0
 IsUnmade code None answer = ⊥
 IsUnmade code (Some fault) answer = IsFirst (code_questions code) fault × (answer ≡ unmade_answer fault)

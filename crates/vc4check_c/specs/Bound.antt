@@ -29,8 +29,8 @@ unbounded_answer refusal = record no_bound { offset = refusal.offset; letter = l
 
 -- No rule is broken, and the bound of the file is the answer.
 pub record IsBounded (bytes : List ℕ) (answer : BoundAnswer) : Type 0 where
-  pub none_stands : refusal_of bytes ≡ None
-  pub told : answer ≡ bounded_answer (bound_in (file_at bytes))
+  pub none_broken : refusal_of bytes ≡ None
+  pub report : answer ≡ bounded_answer (bound_in (file_at bytes))
 
 -- A rule is broken, none before it in the order of refusal is, and it is the answer.
 abbrev pub IsUnbounded : List ℕ → Option Refusal → BoundAnswer → Type 0

@@ -1,4 +1,4 @@
--- What is told of a job file, job by job.
+-- What is reported of a job file, job by job.
 use Rattle.std.specs.Prelude.{◌≡◌, ℕ, nat_lt, List, length, map, replicate, slice_index, slice_index_or, Option, Some, None, if◌then◌else◌}
 use Rattle.std.specs.List.{range_with_len}
 use Rattle.field_words.specs.Questions.{IsFirst}
@@ -8,8 +8,8 @@ use Rattle.job_check.specs.{Emit.memory_of, Emit.all_lengths_of, Emit.IsPlaced, 
 use Rattle.vc4check_c.specs.{declared.jobs.JobLists.JobLists, declared.jobs.JobsAnswer.JobsAnswer}
 
 -- of one job: where its lists lie, and how many bytes of each were emitted
-unfoldable pub told_lists : Layout → Lengths → JobLists
-told_lists layout lengths = record {
+unfoldable pub lists_report : Layout → Lengths → JobLists
+lists_report layout lengths = record {
   lists = layout.place;
   slot = layout.slot;
   bin = layout.bin;
@@ -36,12 +36,12 @@ no_lengths = record { bin = 0; records = 0; uniforms = 0; render = 0 }
 -- of the first n jobs in order, and of none behind them
 unfoldable pub lists_at : List Layout → List Lengths → ℕ → ℕ → JobLists
 lists_at layouts lengths n j =
-    if nat_lt j n then told_lists (slice_index_or layouts j no_layout) (slice_index_or lengths j no_lengths) else no_lists
+    if nat_lt j n then lists_report (slice_index_or layouts j no_layout) (slice_index_or lengths j no_lengths) else no_lists
 
 unfoldable pub all_lists : List Layout → List Lengths → ℕ → List JobLists
 all_lists layouts lengths n = map (lists_at layouts lengths n) (range_with_len 0 most_jobs)
 
--- of an accepted file: how long its memory is, how many jobs it has, and what is told of each
+-- of an accepted file: how long its memory is, how many jobs it has, and what is reported of each
 unfoldable pub accepted_jobs : ℕ → List Layout → List Lengths → JobsAnswer
 accepted_jobs size layouts lengths = record {
   offset = 0;
@@ -67,20 +67,20 @@ refused_jobs refusal = record {
   lists = replicate most_jobs no_lists;
 }
 
--- No rule stands: the bytes spell their file, its memory is as long as the file asks, whole pages of at most 64 MiB in which the lists of
+-- No rule is broken: the bytes spell their file, its memory is as long as the file asks, whole pages of at most 64 MiB in which the lists of
 -- each job lie in their order.
 pub record IsSound (bytes : List ℕ) : Type 0 where
-  pub none_stands : refusal_of bytes ≡ None
+  pub none_broken : refusal_of bytes ≡ None
   pub spelled : IsFileOf bytes (file_at bytes)
   pub asked : length (memory_of (file_at bytes)) ≡ (file_at bytes).mem_size
   pub placed : IsPlaced (memory_of (file_at bytes)) (layouts_of (file_at bytes))
 
--- So it is, and this is told of the file.
+-- So it is, and this is reported of the file.
 pub record AreAccepted (bytes : List ℕ) (answer : JobsAnswer) : Type 0 where
   pub sound : IsSound bytes
-  pub told : answer ≡ accepted_jobs (length (memory_of (file_at bytes))) (layouts_of (file_at bytes)) (all_lengths_of (file_at bytes))
+  pub report : answer ≡ accepted_jobs (length (memory_of (file_at bytes))) (layouts_of (file_at bytes)) (all_lengths_of (file_at bytes))
 
--- A rule stands, none before it in the order of refusal does, and it is told.
+-- A rule is broken, none before it in the order of refusal is, and it is reported.
 abbrev pub AreRefused : List ℕ → Option Refusal → JobsAnswer → Type 0
 AreRefused bytes None answer = ⊥
 AreRefused bytes (Some refusal) answer = IsFirst (all_questions bytes) refusal × (answer ≡ refused_jobs refusal)

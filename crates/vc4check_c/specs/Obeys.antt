@@ -7,7 +7,7 @@ use Rattle.promises.specs.Holdings.{of_jobs}
 use Rattle.strict_law.specs.Strict.{NeverForbidden}
 use Rattle.accepted_strict.specs.Files.{TakesOldest}
 use Rattle.vc4check_c.specs.declared.{submission.Submission.Submission, submit.Verdict.Verdict, jobs.JobsAnswer.JobsAnswer}
-use Rattle.vc4check_c.specs.Safe.{rights_of, start_of, IsReady, told_of, rights_of_job, AreReady}
+use Rattle.vc4check_c.specs.Safe.{rights_of, start_of, IsReady, report_of, rights_of_job, AreReady}
 
 -- In every run from these units over this memory, also while others write, no event is forbidden; and a load takes the oldest request that
 -- the processor has sent to the texture unit and not loaded, whichever thread sent it.
@@ -25,4 +25,4 @@ ObeysGuide s window answer =
 abbrev pub AllObeyGuide : FileModel → (window : List ℕ) → JobsAnswer → Type 0
 AllObeyGuide f window answer =
     (m : List ℕ) → AreReady f window answer m
-    → Obeys (of_jobs f (rights_of_job f answer)) m (units_start (of_jobs f (λ j. start_of (told_of answer j))))
+    → Obeys (of_jobs f (rights_of_job f answer)) m (units_start (of_jobs f (λ j. start_of (report_of answer j))))

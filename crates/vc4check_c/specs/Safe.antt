@@ -29,15 +29,15 @@ where_code true (Some buffer) = if is_code buffer then bytes_from buffer.address
 where_code false (Some buffer) = if is_code buffer then [] else bytes_from buffer.address buffer.size ∷ []
 
 -- those of the code buffers that handles name, or of the data buffers, handle by handle
-unfoldable pub named : Bool → List GivenBuffer → (handles : List ℕ) → List Interval
-named code buffers [] = []
-named code buffers (handle ∷ handles) = where_code code (slice_get buffers handle) ++ named code buffers handles
+unfoldable pub intervals_named : Bool → List GivenBuffer → (handles : List ℕ) → List Interval
+intervals_named code buffers [] = []
+intervals_named code buffers (handle ∷ handles) = where_code code (slice_get buffers handle) ++ intervals_named code buffers handles
 
 abbrev pub data_buffers : Submission → List Interval
-data_buffers s = named false s.buffers.now s.handles.now
+data_buffers s = intervals_named false s.buffers.now s.handles.now
 
 abbrev pub code_buffers : Submission → List Interval
-code_buffers s = named true s.buffers.now s.handles.now
+code_buffers s = intervals_named true s.buffers.now s.handles.now
 
 -- the tile slot and the four lists, as the answer tells them
 abbrev pub slot_of : JobLists → Interval
@@ -92,19 +92,19 @@ IsSafeToRun s window answer =
     (m : List ℕ) → IsReady s window answer m
     → Sound (rights_of s answer.lists ∷ []) (data_of_job s) m (units_start (start_of answer.lists ∷ []))
 
--- The same of all jobs of a job file: what the answer tells of job j,
-abbrev pub told_of : JobsAnswer → ℕ → JobLists
-told_of answer j = slice_index_or answer.lists j no_lists
+-- All jobs of a job file are safe to run: what the answer tells of job j,
+abbrev pub report_of : JobsAnswer → ℕ → JobLists
+report_of answer j = slice_index_or answer.lists j no_lists
 
 -- what the job may reach, whose data and code buffers are those of the file that its handles name,
 abbrev pub rights_of_job : FileModel → JobsAnswer → ℕ → Rights
-rights_of_job f answer j = rights_from (slot_of (told_of answer j)) (plain_of f j) (lists_of (told_of answer j)) (codes_of f j)
+rights_of_job f answer j = rights_from (slot_of (report_of answer j)) (plain_of f j) (lists_of (report_of answer j)) (codes_of f j)
 
 -- a memory that has the window's bytes from the place on at which the lists of job 0 begin, and in each code buffer that a handle names its
 -- shader,
 pub record AreReady (f : FileModel) (window : List ℕ) (answer : JobsAnswer) (m : List ℕ) : Type 0 where
   pub long : length m ≡ f.mem_size
-  pub lists : bytes_at m (told_of answer 0).lists answer.size ≡ take answer.size window
+  pub lists : bytes_at m (report_of answer 0).lists answer.size ≡ take answer.size window
   pub code : (j handle number : ℕ) → j < length f.jobs → code_of (table_of f) (job_of f j).handles handle ≡ Some number
       → HasShader m (buffer_at f.buffers number).place (buffer_at f.buffers number).size (content_of f number)
 
@@ -112,4 +112,4 @@ pub record AreReady (f : FileModel) (window : List ℕ) (answer : JobsAnswer) (m
 abbrev pub AreSafeToRun : FileModel → (window : List ℕ) → JobsAnswer → Type 0
 AreSafeToRun f window answer =
     (m : List ℕ) → AreReady f window answer m
-    → Sound (of_jobs f (rights_of_job f answer)) (plain_of f) m (units_start (of_jobs f (λ j. start_of (told_of answer j))))
+    → Sound (of_jobs f (rights_of_job f answer)) (plain_of f) m (units_start (of_jobs f (λ j. start_of (report_of answer j))))

@@ -12,8 +12,8 @@ sentence_by None number = []
 sentence_by (Some family) number = sentence_in (words_of (record { family = family; number = number }))
 
 -- the sentence of the rule of this letter, in either case, and this number; empty where there is none
-unfoldable pub sentence_told : (letter number : ℕ) → List ℕ
-sentence_told letter number = if nat_lt letter 256 && nat_lt number 256 then sentence_by (family_named letter) number else []
+unfoldable pub sentence_reported : (letter number : ℕ) → List ℕ
+sentence_reported letter number = if nat_lt letter 256 && nat_lt number 256 then sentence_by (family_named letter) number else []
 
 -- as much of a text as there is room for before a zero byte
 unfoldable pub cut_text : (room : ℕ) → List ℕ → List ℕ

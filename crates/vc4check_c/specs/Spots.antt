@@ -20,7 +20,7 @@ start_of f part index =
     else (if part == 7 then uniforms_offset f 0 else 0))))))
 
 -- The part that a rule speaks of. The format's rules are asked of entries: of a buffer's, or of the job's behind them. A shader without
--- words (S1) is told at its buffer's entry, and uniforms that are cut off (A8) where they end.
+-- words (S1) is reported at its buffer's entry, and uniforms that are cut off (A8) where they end.
 abbrev pub part_of : Stage → ℕ → (is_behind : Bool) → ℕ
 part_of F number is_behind = if is_behind then 2 else 1
 part_of M number is_behind = 1
@@ -41,7 +41,7 @@ unfoldable pub part_at : FileModel → Refusal → ℕ
 part_at f refusal =
     within f (part_of refusal.rule.stage refusal.rule.number (not (nat_lt refusal.offset (job_offset f 0)))) refusal.offset
 
--- a shader without an end (S2), or with more than one program end behind (S26), is told where it ends
+-- a shader without an end (S2), or with more than one program end behind (S26), is reported where it ends
 abbrev pub is_at_end : Stage → ℕ → Bool
 is_at_end S number = (number == 2) || (number == 26)
 is_at_end stage number = false

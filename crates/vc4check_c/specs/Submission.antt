@@ -7,7 +7,7 @@ use Rattle.job_format.specs.{declared.file.Surface.Surface, declared.file.Frame.
 use Rattle.job_format.specs.declared.rule.FormatRule.TheVariants.{OverLimit, WithoutMeaning}
 use Rattle.job_format.specs.{Rules.format_rule_number, Model.JobModel, Model.FileModel, declared.rule.Refusal.Refusal}
 use Rattle.job_format.specs.Offsets.{most_buffers, most_handles, most_states, entry_offset}
-use Rattle.job_check.specs.Faults.{refused, place_stages}
+use Rattle.job_check.specs.Faults.{refusal_by, place_stages}
 use Rattle.vc4check_c.specs.{declared.submission.GivenBuffer.GivenBuffer, declared.submission.GivenSurface.GivenSurface}
 use Rattle.vc4check_c.specs.{declared.submission.GivenFrame.GivenFrame, declared.submission.Submission.Submission, Hardware.hardware_stages}
 
@@ -32,7 +32,7 @@ frame_in given flags = record {
 abbrev pub kind_in : ℕ → Kind
 kind_in kind = if kind == 1 then Code else Plain
 
--- the shader in a Code buffer, and nothing of a Plain one
+-- the shader in a Code buffer, and nothing of a data buffer
 unfoldable pub content_in : GivenBuffer → List ℕ
 content_in given = if given.kind == 1 then given.content.now else []
 
@@ -56,7 +56,7 @@ job_in s = record {
   frame = frame_in s.frame s.flags;
 }
 
--- The file of version 2: its one job has one tile slot, and what is told of no buffer is the memory's.
+-- The file of version 2: its one job has one tile slot, and what is reported of no buffer is the memory's.
 unfoldable pub file_of : Submission → FileModel
 file_of s = record {
   version = 2;
@@ -67,12 +67,12 @@ file_of s = record {
   jobs = job_in s ∷ [];
 }
 
--- F4: a number is over its limit; F5: it has no meaning. Both are told at a field of the file.
+-- F4: a number is over its limit; F5: it has no meaning. Both are reported at a field of the file.
 abbrev pub over : (number limit offset : ℕ) → Question Refusal
-over number limit offset = Ask (nat_lt limit number) (refused F (format_rule_number OverLimit) offset)
+over number limit offset = Ask (nat_lt limit number) (refusal_by F (format_rule_number OverLimit) offset)
 
 abbrev pub unknown : Bool → (offset : ℕ) → Question Refusal
-unknown stands offset = Ask stands (refused F (format_rule_number WithoutMeaning) offset)
+unknown broken offset = Ask broken (refusal_by F (format_rule_number WithoutMeaning) offset)
 
 -- of a buffer: its kind, and the length of its shader
 unfoldable pub entry_questions : GivenBuffer → (at : ℕ) → List (Question Refusal)

@@ -4,7 +4,7 @@ use Rattle.qpu_isa.specs.Shader.{ShaderModel}
 use Rattle.strict_check.specs.{declared.findings.Findings.Findings, Findings.findings_nothing}
 use Rattle.vc4check_c.specs.{declared.submission.GivenBuffer.GivenBuffer, Block.read_of, Block.findings_in_block, Block.IsReadable, Block.IsBlockOf}
 
--- what is told of the shader in a buffer by the block of a Code one
+-- what is reported of the shader in a buffer by the block of a Code one
 unfoldable pub read_in : GivenBuffer → Option ShaderModel
 read_in given = if given.kind == 1 then Some (read_of given.known.now) else None
 

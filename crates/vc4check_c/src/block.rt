@@ -28,7 +28,7 @@ pub struct Known {
     pub words: [u32; 5],
 }
 
-/// What is told of a shader that is to be kept. Of an accepted one: how many entries its block takes. Of a refused one: the number of the
+/// What is reported of a shader that is to be kept. Of an accepted one: how many entries its block takes. Of a refused one: the number of the
 /// rule S, and the index of the instruction, which is the number of instructions for a rule on the whole shader. The other fields are zero.
 #[repr(C)]
 #[derive(Clone, Copy, Debug, PartialEq, Eq)]
@@ -137,13 +137,13 @@ fn put_block(block: &[Known], room: &mut [Known]) -> u32
     ACCEPTED
 }
 
-/// Checks the shader that these bytes hold, at most 65,536 of them. Where no rule stands, what the check found out is put into the room,
+/// Checks the shader that these bytes hold, at most 65,536 of them. Where no rule is broken, what the check found out is put into the room,
 /// from its start on, for `vc4check_submit`; what further room there is stays.
 ///
 /// | Status | Meaning | `answer` | `room` |
 /// |---|---|---|---|
 /// | 0 | accepted | how many entries the block takes | the block at its start |
-/// | 1 | refused | the rule's number, and the index where it stands | as before |
+/// | 1 | refused | the rule's number, and the index where it is broken | as before |
 /// | 2 | accepted, and there is too little room | how many entries the block takes | as before |
 /// | 3 | out of memory; nothing is said of the shader | as before | as before |
 /// | 4 | more than 65,536 bytes; no rule was asked | as before | as before |
@@ -157,7 +157,8 @@ pub extern "C" fn vc4check_make_shader(
 ) -> u32
     ensures statuses { result ≤ 4 }
     ensures accepted { (result ≡ 0) ⊎ (result ≡ 2) → IsBlockOf code.now (block_of_code code.now) }
-    ensures told { (result ≡ 0) ⊎ (result ≡ 2) → answer.new ≡ made_answer (block_of_code code.now) }
+    ensures report { (result ≡ 0) ⊎ (result ≡ 2)
+        → answer.new ≡ made_answer (block_of_code code.now) }
     ensures written { result ≡ 0 → room.new ≡ with_front room.old (block_of_code code.now) }
     ensures refused { result ≡ 1 → IsUnmade code.now (first_of (code_questions code.now))
         answer.new }
@@ -322,7 +323,7 @@ fn is_sample_shaped(info: &ShaderInfo, sample: &Sample) -> bool
         && is_inside(fourth, info.uniforms)
 }
 
-/// The same of all samples.
+/// Whether all samples have their shape.
 fn are_samples_shaped(info: &ShaderInfo) -> bool
     ensures { result ≡ true → (i : ℕ) → i < length info.now.samples.items →
         IsShapedSample (shader_view info.now) (sample_at (shader_view info.now) i) }

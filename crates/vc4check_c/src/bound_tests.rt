@@ -36,7 +36,7 @@ const NO_SURFACE: GivenSurface = GivenSurface {
     flags: 0,
 };
 
-// The same job as a submission.
+// That job as a submission.
 #[test]
 fn bounds_a_submission(rt: HostRuntime) -> Result<(), Fail> {
     let mut surfaces = [NO_SURFACE; 6];

@@ -69,7 +69,7 @@ fn guide_stages(file: &FileParts, region: &Region, findings: &[Findings]) -> Res
 }
 
 /// Checks the parts of a file whose jobs are for hardware, as `check_parts` does, and asks the strict rules last; `findings` has what was
-/// found of the shader of each buffer. Where that is wrong, as where `told` is, the answer may be.
+/// found of the shader of each buffer. Where that is wrong, as where `report` is, the answer may be.
 ///
 /// # Errors
 /// The first rule that is broken, with its place in the file; or want of memory.
@@ -77,19 +77,20 @@ fn guide_stages(file: &FileParts, region: &Region, findings: &[Findings]) -> Res
 pub(crate) fn check_for_hardware(
     alloc: Global,
     parts: &FileParts,
-    told: Option<Vec<Option<ShaderInfo>>>,
+    report: Option<Vec<Option<ShaderInfo>>>,
     findings: &[Findings],
 ) -> Result<Region, Stop<Refusal>>
     requires well_formed { IsWellFormed (parts_view parts.now) }
-    requires shaped { IfSome told (λ shaders.
+    requires shaped { IfSome report (λ shaders.
         AreShaped (table_of (parts_view parts.now)) (shaders_view shaders.items)) }
     requires many { length findings.now ≡ length parts.now.buffers.items }
     ensures laid { IfOk result (IsLaid (parts_view parts.now)) }
     ensures answers { findings.now ≡ all_findings (parts_view parts.now)
-        → Under told (λ shaders. AreChecked (parts_view parts.now) (shaders_view shaders.items))
-        (Answers (hardware_stages (parts_view parts.now)) (IsRegion (parts_view parts.now)) result) }
+        → Under report (λ shaders. AreChecked (parts_view parts.now) (shaders_view shaders.items))
+        (Answers (hardware_stages (parts_view parts.now))
+        (IsRegion (parts_view parts.now)) result) }
 {
-    let region = check_parts(alloc, MOST_PLACE, parts, told)?;
+    let region = check_parts(alloc, MOST_PLACE, parts, report)?;
     match guide_stages(parts, &region, findings) {
         Ok(()) => Ok(region),
         Err(refusal) => Err(Stop::Fault(refusal)),

@@ -5,7 +5,7 @@ ghost use Rattle.job_format.specs.Offsets.{most_jobs};
 ghost use Rattle.job_format.specs.Reading.{file_at};
 ghost use Rattle.job_check.specs.Emit.{memory_of};
 ghost use Rattle.job_check.specs.Whole.{refusal_of};
-ghost use Rattle.vc4check_c.specs.Jobs.{told_lists, all_lists, letter_code, accepted_jobs, refused_jobs, AreAccepted, AreRefused};
+ghost use Rattle.vc4check_c.specs.Jobs.{lists_report, all_lists, letter_code, accepted_jobs, refused_jobs, AreAccepted, AreRefused};
 
 use crate::status::{ACCEPTED, NO_MEMORY, REFUSED, SHORT};
 use field_words::Stop;
@@ -18,7 +18,7 @@ use std::alloc::Global;
 /// The most jobs of a file.
 const MOST: usize = 8;
 
-/// What is told of one job of an accepted file: the place in memory where its lists begin and that of its tile slot, where each list
+/// What is reported of one job of an accepted file: the place in memory where its lists begin and that of its tile slot, where each list
 /// lies (offsets from where they begin) and how many bytes of each were emitted.
 #[repr(C)]
 #[derive(Clone, Copy, Debug, PartialEq, Eq)]
@@ -36,7 +36,7 @@ pub struct JobLists {
     pub render_length: u32,
 }
 
-/// What is told of a job file. Of an accepted one: the size of its memory in bytes, how many jobs it has, and their lists in order. Of
+/// What is reported of a job file. Of an accepted one: the size of its memory in bytes, how many jobs it has, and their lists in order. Of
 /// a refused one: the rule, by its letter in ASCII and its number, and the offset in the file of what it is about. The other fields, and
 /// the lists behind the last job's, are zero.
 #[repr(C)]
@@ -65,10 +65,10 @@ pub(crate) const NO_LISTS: JobLists = JobLists {
     render_length: 0,
 };
 
-/// What is told of one job.
-#[tactic(auto, unfolding(crate::specs::Jobs::told_lists))]
+/// What is reported of one job.
+#[tactic(auto, unfolding(crate::specs::Jobs::lists_report))]
 pub(crate) fn lists_of(layout: &Layout, lengths: &Lengths) -> JobLists
-    ensures { result ≡ told_lists layout.now lengths.now }
+    ensures { result ≡ lists_report layout.now lengths.now }
 {
     JobLists {
         lists: layout.place,
@@ -85,7 +85,7 @@ pub(crate) fn lists_of(layout: &Layout, lengths: &Lengths) -> JobLists
     }
 }
 
-/// What is told of each job.
+/// What is reported of each job.
 fn all_lists(layouts: &[Layout], lengths: &[Lengths]) -> [JobLists; MOST]
     requires each { length lengths.now ≡ length layouts.now }
     requires few { length layouts.now ≤ most_jobs }
@@ -98,7 +98,7 @@ fn all_lists(layouts: &[Layout], lengths: &[Lengths]) -> [JobLists; MOST]
     all
 }
 
-/// What is told of an accepted file.
+/// What is reported of an accepted file.
 #[tactic(auto, unfolding(crate::specs::Jobs::accepted_jobs))]
 pub(crate) fn accepted(size: u32, layouts: &[Layout], lengths: &[Lengths]) -> JobsAnswer
     requires each { length lengths.now ≡ length layouts.now }
@@ -133,7 +133,7 @@ pub(crate) fn letter(stage: Stage) -> u8
     }
 }
 
-/// What is told of a refused one.
+/// What is reported of a refused one.
 #[tactic(auto, unfolding(crate::specs::Jobs::refused_jobs))]
 pub(crate) fn refused(refusal: &Refusal) -> JobsAnswer
     ensures { result ≡ refused_jobs refusal.now }
@@ -163,7 +163,7 @@ pub(crate) fn put(bytes: &[u8], room: &mut [u8]) -> u32
     ACCEPTED
 }
 
-/// The same of all of the memory.
+/// Copies all of the memory into the block, where it has room.
 fn deliver(mut memory: PhysMem, block: &mut [u8]) -> u32
     ensures statuses { (result ≡ 0) ⊎ (result ≡ 2) }
     ensures put { result ≡ 0 → block.new ≡ with_bytes block.old 0 memory }
@@ -175,13 +175,13 @@ fn deliver(mut memory: PhysMem, block: &mut [u8]) -> u32
     put(memory.window(0, size), block)
 }
 
-/// Checks the job file that `bytes` hold, of 1 to 8 jobs. Where no rule stands, the memory that all of them are to run in is put into
+/// Checks the job file that `bytes` hold, of 1 to 8 jobs. Where no rule is broken, the memory that all of them are to run in is put into
 /// the block, from its start on, with all lists relocated; the block's further bytes stay.
 ///
 /// | Status | Meaning | `answer` | `block` |
 /// |---|---|---|---|
 /// | 0 | accepted | size, and by job places and lengths | the memory at its start |
-/// | 1 | refused | the first rule that stands, and its offset | as before |
+/// | 1 | refused | the first broken rule, and its offset | as before |
 /// | 2 | accepted, and the block is too short | size, and by job places and lengths | as before |
 /// | 3 | want of memory; nothing is said of the file | as before | as before |
 #[unsafe(no_mangle)]

@@ -10,7 +10,7 @@ use qpu_isa::ShaderInfo;
 use std::alloc::{AllocError, Global};
 use strict_check::Findings;
 
-/// What a buffer's block tells of its shader, of which a Plain one has none; and `None` where the block can't be read.
+/// What a buffer's block tells of its shader, of which a data buffer has none; and `None` where the block can't be read.
 #[tactic(auto, unfolding(crate::specs::Telling::read_in))]
 fn shader_at(alloc: Global, given: &GivenBuffer) -> Result<Option<Option<ShaderInfo>>, AllocError>
     ensures { IfOk result (λ found. IfSome found (λ shader.
@@ -55,7 +55,7 @@ pub(crate) fn shaders_in(
     Ok(Some(shaders))
 }
 
-/// What a buffer's block tells of the strict check of its shader, of which a Plain one has none.
+/// What a buffer's block tells of the strict check of its shader, of which a data buffer has none.
 #[tactic(auto, unfolding(crate::specs::Telling::findings_by_block))]
 fn findings_by_block(given: &GivenBuffer) -> Findings
     ensures { result ≡ findings_by_block given.now }

@@ -7,7 +7,7 @@ use crate::jobs::vc4check_check;
 use crate::place::vc4check_place;
 use crate::shader::vc4check_shader;
 use crate::status::{ACCEPTED, SHORT};
-use crate::tests::{NO_JOBS, UNTOLD};
+use crate::tests::{NO_JOBS, UNSET};
 use std::test::Fail;
 
 /// The smallest job with a buffer of 48 MiB, up to its contents. With them, zeros, the file has 48 MiB; its last four bytes are the handle 0.
@@ -38,7 +38,7 @@ fn shaders_of_8192_words(rt: HostRuntime) -> Result<(), Fail> {
     let alloc = rt.alloc();
     let mut code = vec![in alloc; 0x100009e7009e7000u64; 8189]?;
     code.extend_from_slice(&[0x300009e7009e7000, 0x100009e7009e7000, 0x100009e7009e7000])?;
-    let mut answer = UNTOLD;
+    let mut answer = UNSET;
     let status = vc4check_shader(alloc, &code, &mut [], &mut [], &mut answer);
     assert_eq!(rt; status, ACCEPTED);
     let mut bytes = Vec::new(alloc);

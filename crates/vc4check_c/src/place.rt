@@ -33,14 +33,14 @@ fn check(alloc: Global, bytes: &[u8]) -> Result<Region, Stop<Refusal>>
 }
 
 /// Checks the job file that `bytes` hold, of 1 to 8 jobs, whose places are addresses of the bus below 0xFF000000. No memory of the jobs is
-/// made. Where no rule stands, the lists of all jobs, relocated, are put into the window, from its start on, which stands for the start of
+/// made. Where no rule is broken, the lists of all jobs, relocated, are put into the window, from its start on, which stands for the start of
 /// the lists' region; the window's further bytes stay. `size` tells how many bytes they take, which is never more than the file's size of
 /// that region. The strict rules are asked last.
 ///
 /// | Status | Meaning | `answer` | `window` |
 /// |---|---|---|---|
 /// | 0 | accepted | size, and by job places and lengths | the lists at its start |
-/// | 1 | refused | the first rule that stands, and its offset | as before |
+/// | 1 | refused | the first broken rule, and its offset | as before |
 /// | 2 | accepted, and the window is too short | size, and by job places and lengths | as before |
 /// | 3 | want of memory; nothing is said of the file | as before | as before |
 #[unsafe(no_mangle)]

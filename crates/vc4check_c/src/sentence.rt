@@ -1,14 +1,14 @@
 //! What a rule's letter and number mean, in words.
 ghost use Rattle.std.specs.Prelude.{◌≡◌, ◌<◌, ◌++◌, ◌∷◌, [], length};
 ghost use Rattle.vc4check_c.specs.Shader.{with_front};
-ghost use Rattle.vc4check_c.specs.Sentence.{sentence_told, cut_text, c_text};
+ghost use Rattle.vc4check_c.specs.Sentence.{sentence_reported, cut_text, c_text};
 
 use rule_words::{Family, RuleName};
 
 /// The sentence of the rule of this letter, in either case, and this number; empty where there is none.
-#[tactic(auto, unfolding(crate::specs::Sentence::sentence_told))]
+#[tactic(auto, unfolding(crate::specs::Sentence::sentence_reported))]
 fn sentence(letter: u32, number: u32) -> &'static [u8]
-    ensures { result.now ≡ sentence_told letter number }
+    ensures { result.now ≡ sentence_reported letter number }
 {
     if letter > 255 || number > 255 {
         return b"";
@@ -57,9 +57,9 @@ fn put_text(text: &[u8], room: &mut [u8])
 #[unsafe(no_mangle)]
 #[tactic(auto, unfolding(crate::specs::Sentence::c_text))]
 pub extern "C" fn vc4check_sentence(letter: u32, number: u32, room: &mut [u8]) -> usize
-    ensures whole { result ≡ length (sentence_told letter number) }
-    ensures told { room.new ≡ with_front room.old
-        (c_text (length room.old) (sentence_told letter number)) }
+    ensures whole { result ≡ length (sentence_reported letter number) }
+    ensures report { room.new ≡ with_front room.old
+        (c_text (length room.old) (sentence_reported letter number)) }
 {
     let text = sentence(letter, number);
     if !room.is_empty() {

@@ -3,11 +3,11 @@ ghost use Rattle.std.specs.Prelude.{◌≡◌, ◌≢◌, ◌≤◌, ◌<◌, �
 ghost use Rattle.field_words.specs.Sizes.{most_words};
 ghost use Rattle.field_words.specs.Questions.{Answers, first_of};
 ghost use Rattle.qpu_isa.specs.Shader.{IsSoundShader};
-ghost use Rattle.job_check.specs.Shaders.{told_of};
+ghost use Rattle.job_check.specs.Shaders.{report_of};
 ghost use Rattle.shader_check.specs.Info.{IsInfo, samples_of};
 ghost use Rattle.shader_check.specs.Rules.{shader_questions};
 ghost use Rattle.uniform_stream.specs.Stream.{address_words_of};
-ghost use Rattle.vc4check_c.specs.Shader.{told_position, told_sample, told_shader, told_fault, with_front, IsAcceptedShader, IsRefusedShader};
+ghost use Rattle.vc4check_c.specs.Shader.{position_report, sample_report, shader_report, fault_report, with_front, IsAcceptedShader, IsRefusedShader};
 
 use crate::status::{ACCEPTED, NO_MEMORY, REFUSED, SHORT, TOO_LONG};
 use field_words::{MOST_WORDS, Stop};
@@ -15,7 +15,7 @@ use qpu_isa::{Sample, ShaderInfo};
 use shader_check::{ShaderFault, check_code};
 use std::alloc::Global;
 
-/// What is told of a shader. Of an accepted one: how many uniforms it takes, how many samples it asks for, how many address words
+/// What is reported of a shader. Of an accepted one: how many uniforms it takes, how many samples it asks for, how many address words
 /// its stream has, and whether it switches threads (1) or not (0). Of a refused one: the number of the rule S, and the
 /// index of the instruction, which is the number of words for a rule on the whole shader. The other fields are zero.
 #[repr(C)]
@@ -40,15 +40,15 @@ pub struct ShaderSample {
 
 /// A position, all ones for none.
 pub(crate) fn position(position: Option<u32>) -> u32
-    ensures { result ≡ told_position position }
+    ensures { result ≡ position_report position }
 {
     position.unwrap_or(u32::MAX)
 }
 
 /// A sample as C knows it.
-#[tactic(auto, unfolding(crate::specs::Shader::told_sample))]
+#[tactic(auto, unfolding(crate::specs::Shader::sample_report))]
 fn sample(sample: &Sample) -> ShaderSample
-    ensures { result ≡ told_sample sample.now }
+    ensures { result ≡ sample_report sample.now }
 {
     let [first, second, third, fourth] = sample.p;
     ShaderSample {
@@ -65,7 +65,7 @@ fn sample(sample: &Sample) -> ShaderSample
 /// Writes the samples from the room's start on.
 fn put_samples(samples: &[Sample], room: &mut [ShaderSample])
     requires { length samples.now ≤ length room.old }
-    ensures { room.new ≡ with_front room.old (map told_sample samples.now) }
+    ensures { room.new ≡ with_front room.old (map sample_report samples.now) }
 {
     for k in 0..samples.len() {
         room[k] = sample(&samples[k]);
@@ -80,10 +80,10 @@ fn put_numbers(numbers: &[u32], room: &mut [u32])
     room[..numbers.len()].copy_from_slice(numbers);
 }
 
-/// What is told of an accepted shader.
-#[tactic(auto, unfolding(crate::specs::Shader::told_shader))]
+/// What is reported of an accepted shader.
+#[tactic(auto, unfolding(crate::specs::Shader::shader_report))]
 fn accepted(info: &ShaderInfo) -> ShaderAnswer
-    ensures { (code : List ℕ) → IsInfo code info.now → result ≡ told_shader code }
+    ensures { (code : List ℕ) → IsInfo code info.now → result ≡ shader_report code }
 {
     ShaderAnswer {
         number: 0,
@@ -95,10 +95,10 @@ fn accepted(info: &ShaderInfo) -> ShaderAnswer
     }
 }
 
-/// What is told of a refused one.
-#[tactic(auto, unfolding(crate::specs::Shader::told_fault))]
+/// What is reported of a refused one.
+#[tactic(auto, unfolding(crate::specs::Shader::fault_report))]
 fn refused(fault: &ShaderFault) -> ShaderAnswer
-    ensures { result ≡ told_fault fault.now }
+    ensures { result ≡ fault_report fault.now }
 {
     ShaderAnswer {
         number: u32::from(fault.number),
@@ -111,22 +111,22 @@ fn refused(fault: &ShaderFault) -> ShaderAnswer
 }
 
 /// The checker's answer.
-#[tactic(auto, unfolding(job_check::specs::Shaders::told_of))]
+#[tactic(auto, unfolding(job_check::specs::Shaders::report_of))]
 fn checked(alloc: Global, code: &[u64]) -> Result<ShaderInfo, Stop<ShaderFault>>
     requires { length code.now ≤ most_words }
     ensures answers { Answers (shader_questions code.now) (IsInfo code.now) result }
-    ensures sound { IfOk result (λ _. IsSoundShader (told_of code.now)) }
+    ensures sound { IfOk result (λ _. IsSoundShader (report_of code.now)) }
 {
     check_code(alloc, code)
 }
 
-/// Checks a shader of at most 8,192 words. Where no rule stands, its samples are put into `samples` and the numbers of its address
+/// Checks a shader of at most 8,192 words. Where no rule is broken, its samples are put into `samples` and the numbers of its address
 /// words into `address_words`, each from its start on; what further room there is stays.
 ///
 /// | Status | Meaning | `answer` | `samples`, `address_words` |
 /// |---|---|---|---|
 /// | 0 | accepted | what the shader takes, and the two counts | written |
-/// | 1 | refused | the rule's number, and the index where it stands | as before |
+/// | 1 | refused | the rule's number, and the index where it is broken | as before |
 /// | 2 | accepted, and one of the two has too little room | what the shader takes, and the two counts | as before |
 /// | 3 | want of memory; nothing is said of the shader | as before | as before |
 /// | 4 | more than 8,192 words; no rule was asked | as before | as before |
@@ -141,9 +141,9 @@ pub extern "C" fn vc4check_shader(
 ) -> u32
     ensures statuses { result ≤ 4 }
     ensures accepted { result ≡ 0 → IsAcceptedShader code.now answer.new }
-    ensures sound { result ≡ 0 → IsSoundShader (told_of code.now) }
+    ensures sound { result ≡ 0 → IsSoundShader (report_of code.now) }
     ensures samples { result ≡ 0 → samples.new
-        ≡ with_front samples.old (map told_sample (samples_of code.now)) }
+        ≡ with_front samples.old (map sample_report (samples_of code.now)) }
     ensures address_words { result ≡ 0 → address_words.new
         ≡ with_front address_words.old (address_words_of code.now) }
     ensures refused { result ≡ 1 → IsRefusedShader code.now (first_of (shader_questions code.now))

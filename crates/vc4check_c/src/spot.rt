@@ -87,7 +87,7 @@ fn start_of(parts: &FileParts, part: u32) -> u64
     }
 }
 
-/// Whether a rule is told where a shader ends, and not at a byte of it.
+/// Whether a rule is reported where a shader ends, and not at a byte of it.
 fn is_at_end(rule: Rule) -> bool
     ensures { result ≡ is_at_end rule.stage rule.number }
 {
@@ -121,7 +121,7 @@ fn content(index: u32, offset: u64) -> Spot
     }
 }
 
-/// The place at `rest` from where the contents of these buffers begin; a rule that is told at an end is told there, and not at the start of
+/// The place at `rest` from where the contents of these buffers begin; a rule that is reported at an end is reported there, and not at the start of
 /// the next.
 #[tactic(auto, unfolding(crate::specs::Spots::content_room, buffer_table::specs::Table::buffer_at))]
 fn content_spot(buffers: &[Buffer], is_end: bool, rest: u64) -> Spot

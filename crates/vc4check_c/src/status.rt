@@ -1,12 +1,12 @@
 //! How a call ended, as C knows it.
 
-/// No rule stands, and all that was asked for is written.
+/// No rule is broken, and all that was asked for is written.
 pub const ACCEPTED: u32 = 0;
 
-/// A rule stands, and it is told.
+/// A rule is broken, and it is reported.
 pub const REFUSED: u32 = 1;
 
-/// No rule stands, and the caller's room is too small for what was asked for.
+/// No rule is broken, and the caller's room is too small for what was asked for.
 pub const SHORT: u32 = 2;
 
 /// Memory ran out before the answer was known.

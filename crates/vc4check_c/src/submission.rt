@@ -6,7 +6,7 @@ ghost use Rattle.job_format.specs.declared.rule.Stage.TheVariants.{F as StageF};
 ghost use Rattle.job_format.specs.Parts.{job_parts_view, parts_view};
 ghost use Rattle.job_format.specs.Offsets.{most_buffers};
 ghost use Rattle.job_format.specs.Rules.{format_rule_number};
-ghost use Rattle.job_check.specs.Faults.{refused};
+ghost use Rattle.job_check.specs.Faults.{refusal_by};
 ghost use Rattle.vc4check_c.specs.Submission.{surface_in, frame_in, content_in, entry_in, job_in, file_of, entry_questions, buffer_questions, entries_questions, job_questions, own_questions};
 
 use crate::block::Known;
@@ -118,7 +118,7 @@ fn frame_in(given: &GivenFrame, flags: u32) -> Frame
     }
 }
 
-/// The shader in a Code buffer; nothing of a Plain one.
+/// The shader in a Code buffer; nothing of a data buffer.
 #[tactic(auto, unfolding(crate::specs::Submission::content_in))]
 fn content_in<'a>(given: &GivenBuffer<'a>) -> &'a [u8]
     ensures { result.now ≡ content_in given.now }
@@ -145,10 +145,10 @@ fn entry_in(given: &GivenBuffer) -> Buffer
     }
 }
 
-/// A rule of the format that stands, at this offset in the file.
+/// A rule of the format that is broken, at this offset in the file.
 fn limit(rule: FormatRule, offset: usize) -> Refusal
     requires { offset ≤ 65536 }
-    ensures { result ≡ refused StageF (format_rule_number rule) offset }
+    ensures { result ≡ refusal_by StageF (format_rule_number rule) offset }
 {
     Refusal {
         rule: Rule {

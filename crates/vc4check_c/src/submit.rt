@@ -27,7 +27,7 @@ use relocation::{Layout, Lengths};
 use std::alloc::Global;
 use strict_check::{Findings, all_findings};
 
-/// What is told of a submission. Of an accepted one: how many bytes of the window its lists take, where they lie and how long they are. Of a
+/// What is reported of a submission. Of an accepted one: how many bytes of the window its lists take, where they lie and how long they are. Of a
 /// refused one: the rule, by its letter in ASCII and its number, and the place of what it is about: the part (0 the memory, 1 a buffer, 2
 /// the job, 3 a buffer's content, 4 the handles, 5 the binner list, 6 the records, 7 the uniforms), of which buffer, and the offset in bytes
 /// from the part's start. The other fields are zero.
@@ -43,7 +43,7 @@ pub struct Verdict {
     pub lists: JobLists,
 }
 
-/// What is told of an accepted submission.
+/// What is reported of an accepted submission.
 #[tactic(auto, unfolding(crate::specs::Submit::accepted_verdict))]
 fn accepted(size: u32, layout: &Layout, lengths: &Lengths) -> Verdict
     ensures { result ≡ accepted_verdict size layout.now lengths.now }
@@ -59,7 +59,7 @@ fn accepted(size: u32, layout: &Layout, lengths: &Lengths) -> Verdict
     }
 }
 
-/// What is told of a refused one.
+/// What is reported of a refused one.
 #[tactic(auto, unfolding(crate::specs::Submit::refused_verdict))]
 fn refused(refusal: &Refusal, spot: &Spot) -> Verdict
     ensures { result ≡ refused_verdict refusal.now spot.now }
@@ -104,21 +104,21 @@ fn check_file(alloc: Global, given: &Submission, parts: &FileParts) -> Result<Re
     ensures answers { AreKnown given.now.buffers.now
         → Answers (hardware_stages (file_of given.now)) (IsRegion (file_of given.now)) result }
 {
-    let told = shaders_in(alloc, given.buffers)?;
-    let findings = findings_of(alloc, given, parts, told.is_some())?;
-    check_for_hardware(alloc, parts, told, &findings)
+    let report = shaders_in(alloc, given.buffers)?;
+    let findings = findings_of(alloc, given, parts, report.is_some())?;
+    check_for_hardware(alloc, parts, report, &findings)
 }
 
 /// A refusal, and the place of what it is about.
 #[derive(Clone, Copy, Debug, PartialEq, Eq)]
-pub struct Told {
+pub struct Report {
     pub refusal: Refusal,
     pub spot: Spot,
 }
 
 /// All rules of a submission, and its lists.
 #[tactic(auto, using(field_words::proofs::Questions::passes, field_words::proofs::Questions::stops))]
-fn check(alloc: Global, given: &Submission) -> Result<Region, Stop<Told>>
+fn check(alloc: Global, given: &Submission) -> Result<Region, Stop<Report>>
     ensures laid { IfOk result (IsLaid (file_of given.now)) }
     ensures tells { AreKnown given.now.buffers.now → Tells given.now result }
 {
@@ -127,13 +127,13 @@ fn check(alloc: Global, given: &Submission) -> Result<Region, Stop<Told>>
             Ok(region) => Ok(region),
             Err(Stop::Fault(refusal)) => {
                 let spot = spot_of(&parts, &refusal);
-                Err(Stop::Fault(Told { refusal, spot }))
+                Err(Stop::Fault(Report { refusal, spot }))
             }
             Err(Stop::NoMemory) => Err(Stop::NoMemory),
         },
         Err(Stop::Fault(refusal)) => {
             let spot = own_spot(given, &refusal);
-            Err(Stop::Fault(Told { refusal, spot }))
+            Err(Stop::Fault(Report { refusal, spot }))
         }
         Err(Stop::NoMemory) => Err(Stop::NoMemory),
     }
@@ -147,7 +147,7 @@ fn size_of(bytes: &[u8], most: u32) -> u32
     bytes.len() as u32
 }
 
-/// Checks a job of a driver, whose places are addresses of the bus below 0xFF000000. No memory of it is made. Where no rule stands, its
+/// Checks a job of a driver, whose places are addresses of the bus below 0xFF000000. No memory of it is made. Where no rule is broken, its
 /// lists, relocated, are put into the window, from its start on, which stands for the start of the lists' region; the window's further bytes
 /// stay. The strict rules are asked last.
 ///
@@ -157,7 +157,7 @@ fn size_of(bytes: &[u8], most: u32) -> u32
 /// | Status | Meaning | `answer` | `window` |
 /// |---|---|---|---|
 /// | 0 | accepted | size, places and lengths | the lists at its start |
-/// | 1 | refused | the first rule that stands, and its place | as before |
+/// | 1 | refused | the first broken rule, and its place | as before |
 /// | 2 | accepted, and the window is too short | size, places and lengths | as before |
 /// | 3 | out of memory; nothing is said of the job | as before | as before |
 #[unsafe(no_mangle)]
@@ -201,8 +201,8 @@ pub extern "C" fn vc4check_submit(
             *answer = accepted(size, &region.layouts[0], &region.lengths[0]);
             put(&region.bytes, window)
         }
-        Err(Stop::Fault(told)) => {
-            *answer = refused(&told.refusal, &told.spot);
+        Err(Stop::Fault(report)) => {
+            *answer = refused(&report.refusal, &report.spot);
             REFUSED
         }
         Err(Stop::NoMemory) => NO_MEMORY,

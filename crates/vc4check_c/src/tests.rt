@@ -17,7 +17,7 @@ pub(crate) const SMALLEST: &str =
     ffffffff0000000000000000ffffffff0000000000000000ffffffff0000000000000000\
     0000000000000000000000000000000000000000";
 
-/// No job, and nothing told of any.
+/// No job, and nothing reported of any.
 pub(crate) const NO_LISTS: JobLists = JobLists {
     lists: 0,
     slot: 0,
@@ -41,14 +41,14 @@ pub(crate) const NO_JOBS: JobsAnswer = JobsAnswer {
     lists: [NO_LISTS; 8],
 };
 
-// What is told of the only job.
+// What is reported of the only job.
 fn only(job: JobLists) -> [JobLists; 8] {
     let mut lists = NO_JOBS.lists;
     lists[0] = job;
     lists
 }
 
-// What a block of so many bytes gets, and what is told.
+// What a block of so many bytes gets, and what is reported.
 fn checked(alloc: Global, bytes: &[u8], room: usize) -> Result<(u32, JobsAnswer, Vec<u8>), Fail> {
     let mut block = vec![in alloc; 0xa5u8; room]?;
     let mut answer = NO_JOBS;
@@ -66,7 +66,7 @@ fn accepts(rt: HostRuntime) -> Result<(), Fail> {
         render_length: 15,
         ..NO_LISTS
     };
-    let told = JobsAnswer {
+    let report = JobsAnswer {
         size: 532_480,
         jobs: 1,
         lists: only(job),
@@ -74,13 +74,13 @@ fn accepts(rt: HostRuntime) -> Result<(), Fail> {
     };
     let (status, answer, block) = checked(rt.alloc(), &bytes, 532_481)?;
     assert_eq!(rt; status, ACCEPTED);
-    assert_eq!(rt; answer, told);
+    assert_eq!(rt; answer, report);
     assert_eq!(rt; block.get(0).copied(), Some(113));
     assert_eq!(rt; block.get(15).copied(), Some(0));
     assert_eq!(rt; block.get(532_480).copied(), Some(0xa5));
     let (status, answer, block) = checked(rt.alloc(), &bytes, 15)?;
     assert_eq!(rt; status, SHORT);
-    assert_eq!(rt; answer, told);
+    assert_eq!(rt; answer, report);
     assert_eq!(rt; block.get(0).copied(), Some(0xa5));
     Ok(())
 }
@@ -88,14 +88,14 @@ fn accepts(rt: HostRuntime) -> Result<(), Fail> {
 // No file: it ends before its header does.
 #[test]
 fn refuses(rt: HostRuntime) -> Result<(), Fail> {
-    let told = JobsAnswer {
+    let report = JobsAnswer {
         letter: 70,
         number: 2,
         ..NO_JOBS
     };
     let (status, answer, block) = checked(rt.alloc(), &[], 1)?;
     assert_eq!(rt; status, REFUSED);
-    assert_eq!(rt; answer, told);
+    assert_eq!(rt; answer, report);
     assert_eq!(rt; block.get(0).copied(), Some(0xa5));
     assert_eq!(rt; vc4check_version(), 5);
     Ok(())
@@ -137,12 +137,12 @@ fn tells_of_all_jobs(rt: HostRuntime) -> Result<(), Fail> {
     Ok(())
 }
 
-// The same file with a byte too few: the handles of the second job are cut off.
+// That file with a byte too few: the handles of the second job are cut off.
 #[test]
 fn refuses_all_jobs(rt: HostRuntime) -> Result<(), Fail> {
     let mut bytes = hex::decode(rt.alloc(), PAIR)?;
     bytes.pop();
-    let told = JobsAnswer {
+    let report = JobsAnswer {
         offset: 328,
         letter: 70,
         number: 2,
@@ -150,7 +150,7 @@ fn refuses_all_jobs(rt: HostRuntime) -> Result<(), Fail> {
     };
     let (status, answer, _) = checked(rt.alloc(), &bytes, 1)?;
     assert_eq!(rt; status, REFUSED);
-    assert_eq!(rt; answer, told);
+    assert_eq!(rt; answer, report);
     Ok(())
 }
 
@@ -162,7 +162,7 @@ const PLACED: &str = "5643344a01000000002008c0000000c000100000001000c00100000001
     ffffffff0000000000000000ffffffff0000000000000000ffffffff0000000000000000\
     0000000000000000000000000000000000000000";
 
-// The same 15 bytes in the window's start, and each place moved by as much. Below 64 MiB it is no job.
+// These 15 bytes in the window's start, and each place moved by as much. Below 64 MiB it is no job.
 #[test]
 fn places(rt: HostRuntime) -> Result<(), Fail> {
     let bytes = hex::decode(rt.alloc(), PLACED)?;
@@ -201,13 +201,13 @@ const READ: [u64; 7] = [
     0x100009e7009e7000,
 ];
 
-// A sample's place, and what is told of a shader, before any call.
+// A sample's place, and what is reported of a shader, before any call.
 const NO_SAMPLE: ShaderSample = ShaderSample {
     positions: [7; 4],
     direct: 7,
 };
 
-pub(crate) const UNTOLD: ShaderAnswer = ShaderAnswer {
+pub(crate) const UNSET: ShaderAnswer = ShaderAnswer {
     number: 7,
     index: 7,
     uniforms: 7,
@@ -220,9 +220,9 @@ pub(crate) const UNTOLD: ShaderAnswer = ShaderAnswer {
 #[test]
 fn checks_shaders(rt: HostRuntime) -> Result<(), Fail> {
     let mut samples = [NO_SAMPLE; 2];
-    let mut answer = UNTOLD;
+    let mut answer = UNSET;
     let none = &mut [];
-    let told = ShaderAnswer {
+    let report = ShaderAnswer {
         number: 0,
         index: 0,
         uniforms: 2,
@@ -236,12 +236,12 @@ fn checks_shaders(rt: HostRuntime) -> Result<(), Fail> {
     };
     let status = vc4check_shader(rt.alloc(), &READ, &mut samples, none, &mut answer);
     assert_eq!(rt; status, ACCEPTED);
-    assert_eq!(rt; answer, told);
+    assert_eq!(rt; answer, report);
     assert_eq!(rt; samples, [read, NO_SAMPLE]);
-    answer = UNTOLD;
+    answer = UNSET;
     let status = vc4check_shader(rt.alloc(), &READ, &mut samples[..0], none, &mut answer);
     assert_eq!(rt; status, SHORT);
-    assert_eq!(rt; answer, told);
+    assert_eq!(rt; answer, report);
     let status = vc4check_shader(rt.alloc(), &READ[..4], &mut samples, none, &mut answer);
     assert_eq!(rt; status, REFUSED);
     assert_eq!(rt; (answer.number, answer.index), (2, 4));

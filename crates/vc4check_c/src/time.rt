@@ -44,7 +44,7 @@ fn bound_of(alloc: Global, given: &Submission) -> Result<Bound, Stop<Refusal>>
     Ok(bound_with(alloc, &parts, &region)?)
 }
 
-/// The same answer without an offset: a submission has no file.
+/// An answer without its offset: a submission has no file.
 fn without_offset(answer: BoundAnswer) -> BoundAnswer
     ensures { result ≡ without_offset answer }
 {

@@ -8,8 +8,8 @@ use Rattle.commands.specs.declared.cause.Cause.TheVariants.{Words}
 use Rattle.commands.specs.declared.command.{Command.Command, Task.Task, Task.TheVariants.Read, Task.TheVariants.Make, Task.TheVariants.Tell}
 use Rattle.commands.specs.declared.help.Topic.{Topic}
 use Rattle.commands.specs.declared.word_fault.WordFault.{WordFault}
-use Rattle.commands.specs.{Answer.IsAnswer, Answer.IsExampleAnswer, Cause.IsCause, Cause.is_told, Run.IsAnswered, Run.IsServed, Run.IsSaid, Topics.IsTopicAnswer, Words.limit_of}
-use Rattle.job_io.specs.Faults.{Rose, counted}
+use Rattle.commands.specs.{Answer.IsAnswer, Answer.IsExampleAnswer, Cause.IsCause, Cause.is_reported, Run.IsAnswered, Run.IsServed, Run.IsSaid, Topics.IsTopicAnswer, Words.limit_of}
+use Rattle.job_io.specs.Faults.{Rose, count_after}
 use Rattle.vc4check_web.specs.Call.{IsReply, IsReport}
 
 by_order : (status : ℕ) → (status ≡ 2) ⊎ ((status < 2) ⊎ (2 < status)) → (status ≡ 6) ⊎ ((status < 6) ⊎ (6 < status))
@@ -38,7 +38,7 @@ sizes_by command input rest before text status (inr six) served = let over = ser
 
 -- what was appended to an empty sink is all that it holds
 answered_by : (IsText : ℕ → List ℕ → Type 0) (status : ℕ) (before text : List ℕ) → before ≡ [] → IsAnswered IsText status (Some before) (Some text) → IsText status text
-answered_by IsText status before text empty (told, answer, appends) = subst (IsText status) (sym (subst (λ b. text ≡ b ++ told) empty appends)) answer
+answered_by IsText status before text empty (report, answer, appends) = subst (IsText status) (sym (subst (λ b. text ≡ b ++ report) empty appends)) answer
 
 not_two : (status : ℕ) → (status < 2) ⊎ (status ≡ 6) → status ≢ 2
 not_two status (inl few) two = omega (arith, few, two)
@@ -46,7 +46,7 @@ not_two status (inr six) two = omega (arith, six, two)
 
 reply_by : (command : Command) (input rest before text : List ℕ) (status : ℕ) (cause : Option Cause) → before ≡ [] → (status < 2) ⊎ (status ≡ 6)
     → (1 < status → text ≡ []) → IsServed command (Some input) (Some rest) (Some before) (Some text) status
-    → (is_told command status ≡ true → IsCause command input cause) → (is_told command status ≡ false → status ≢ 2 → cause ≡ None)
+    → (is_reported command status ≡ true → IsCause command input cause) → (is_reported command status ≡ false → status ≢ 2 → cause ≡ None)
     → IsReply command input status text cause
 reply_by command input rest before text status cause empty statuses nothing served why quiet = record {
   statuses = sizes_by command input rest before text status statuses served;
@@ -82,7 +82,7 @@ no_tell topic command same = cc
 
 -- a source that never fails is no reason to end
 pub never_failed : (status : ℕ) → (status ≡ 3 → Rose 0 0) → status ≢ 3
-never_failed status rose three = let more : counted 0 ≤ 0 = rose three in omega (arith, more)
+never_failed status rose three = let more : count_after 0 ≤ 0 = rose three in omega (arith, more)
 
 -- A run of these words over this input, with a sink that was empty and that has this text now, is reported.
 pub reported : (asked : Result Task WordFault) (input rest before text : List ℕ) (status : ℕ) (cause : Option Cause)
@@ -90,15 +90,15 @@ pub reported : (asked : Result Task WordFault) (input rest before text : List �
     → ((command : Command) → result_ok asked ≡ Some (Read command) → IsServed command (Some input) (Some rest) (Some before) (Some text) status)
     → ((number : ℕ) → result_ok asked ≡ Some (Make number) → IsSaid (IsExampleAnswer number) input rest (Some before) (Some text) status)
     → ((topic : Topic) → result_ok asked ≡ Some (Tell topic) → IsSaid (IsTopicAnswer topic) input rest (Some before) (Some text) status)
-    → ((command : Command) → result_ok asked ≡ Some (Read command) → is_told command status ≡ true → IsCause command input cause)
+    → ((command : Command) → result_ok asked ≡ Some (Read command) → is_reported command status ≡ true → IsCause command input cause)
     → IfErr asked (λ fault. cause ≡ Some (Words fault))
-    → (((command : Command) → result_ok asked ≡ Some (Read command) → is_told command status ≡ false) → status ≢ 2 → cause ≡ None)
+    → (((command : Command) → result_ok asked ≡ Some (Read command) → is_reported command status ≡ false) → status ≢ 2 → cause ≡ None)
     → IsReport asked input status text cause
 reported (Err fault) input rest before text status cause empty most three four five words nothing served made said why wrong quiet =
     let two = words.1 refl in (two, nothing (omega (arith, two)), wrong)
 reported (Ok (Read command)) input rest before text status cause empty most three four five words nothing served made said why wrong quiet =
     reply_by command input rest before text status cause empty (few_or_six status most (asks (Read command) status words) three four five) nothing (served command refl) (why command refl)
-    (λ silent. quiet (λ other same. subst (λ c. is_told c status ≡ false) (same_command command other same) silent))
+    (λ silent. quiet (λ other same. subst (λ c. is_reported c status ≡ false) (same_command command other same) silent))
 reported (Ok (Make number)) input rest before text status cause empty most three four five words nothing served made said why wrong quiet =
     said_by (IsExampleAnswer number) input rest before text status cause empty four five (made number refl)
     (quiet (λ command same. absurd (no_make number command same)))

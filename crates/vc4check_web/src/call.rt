@@ -97,7 +97,7 @@ fn write(
 }
 
 /// Does what the program does for these words with this input. It writes the answer to the start of `text`, and to the start of `line` what
-/// a person is told besides, each cut off where its room is too small; `lengths` says how many bytes both have.
+/// a person reads besides, each cut off where its room is too small; `lengths` says how many bytes both have.
 ///
 /// | Status | Meaning | `text` | `line` |
 /// |---|---|---|---|
@@ -121,7 +121,7 @@ pub extern "C" fn vc4check_run(
         text.old text.new line.old line.new lengths.new }
     ensures kept { result ≡ 5 → (text.new ≡ text.old) × (line.new ≡ line.old)
         × (lengths.new ≡ lengths.old) }
-    // Each job of a file that `check` accepts may run from just the memory that is told.
+    // Each job of a file that `check` accepts may run from just the memory that is reported.
     ensures safe { task_of (words_text words.now) ≡ Some (Read Check) → result ≡ 0
         → MayRun input.now }
     ensures promises { Promises }

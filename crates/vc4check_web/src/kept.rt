@@ -1,6 +1,6 @@
 //! A sink in memory that grows.
 ghost use Rattle.std.specs.Prelude.{◌≡◌, ◌≤◌, ◌<◌, [], length, IfOk, OnOk, OnErr, Some};
-ghost use Rattle.job_io.specs.Faults.{Rose, counted};
+ghost use Rattle.job_io.specs.Faults.{Rose, count_after};
 ghost use Rattle.job_io.specs.Traffic.{Writes};
 
 use job_io::{Failed, Sink};
@@ -57,7 +57,7 @@ impl Sink for KeptSink {
 
         ensures count { IfOk result (λ n. n ≡ length part.now) }
         ensures err { OnErr result (self.new
-            ≡ record self.old { faults = counted self.old.faults }) }
+            ≡ record self.old { faults = count_after self.old.faults }) }
     {
         match self.bytes.extend_from_slice(part) {
             Ok(()) => Ok(part.len()),

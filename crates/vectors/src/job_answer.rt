@@ -24,7 +24,7 @@ fn accepted_line(alloc: Global, all: &[Lengths]) -> Result<Vec<u8>, NoMemory> {
     Ok(line)
 }
 
-/// The line for these bytes: accepted, with the emitted lengths of each job, or the first rule that stands. No memory of the jobs is made.
+/// The line for these bytes: accepted, with the emitted lengths of each job, or the first broken rule. No memory of the jobs is made.
 pub fn answer(alloc: Global, bytes: &[u8]) -> Result<Vec<u8>, NoMemory> {
     match check_places(alloc, MOST_MEMORY, bytes) {
         Ok(region) => accepted_line(alloc, &region.lengths),

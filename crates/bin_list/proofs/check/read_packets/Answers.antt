@@ -15,7 +15,7 @@ put-end-requires c =
 pub go_past_plain-requires-clause-place : goal.go_past_plain-requires-clause-place
 go_past_plain-requires-clause-place c = omega (arith, c.loop-rest.invariant.inside, c.split_plain.ensures.fits, c.requires.short)
 
--- A packet that is only copied: no rule of it stands, and it is its own text.
+-- A packet that is only copied: no rule of it is broken, and it is its own text.
 pub loop-rest-preserved-in-Some : goal.loop-rest-preserved-in-Some
 loop-rest-preserved-in-Some c =
     let given = c.args.given.now in

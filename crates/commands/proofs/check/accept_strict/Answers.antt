@@ -11,8 +11,8 @@ use Rattle.commands.proofs.check.accept_strict.Goals as goal
 
 refuses : (bytes : List ℕ) (stop : Stop Refusal) → first_of (all_questions bytes) ≡ None → Refuses (strict_stages (file_at bytes)) stop → Refuses (strict_questions bytes) stop
 unfolding strict_questions
-refuses bytes (Fault refusal) none stands = passes (all_questions bytes) (strict_stages (file_at bytes)) none ∙ stands
-refuses bytes NoMemory none stands = tt
+refuses bytes (Fault refusal) none broken = passes (all_questions bytes) (strict_stages (file_at bytes)) none ∙ broken
+refuses bytes NoMemory none broken = tt
 
 pub returns-in_err-accepted-clause-answers : goal.returns-in_err-accepted-clause-answers
 unfolding strict_questions

@@ -1,6 +1,6 @@
 use Rattle.std.proofs.Common.{◌≡◌, ◌≢◌, true, arith, sym, ap, subst, ◌∙◌}
 use Rattle.entry.specs.declared.Ended.{Ended}
-use Rattle.commands.specs.{declared.cause.Cause.Cause, Answer.IsAnswer, Cause.IsCause, Cause.is_told, Run.IsAnswered, Reply.reply_status, Reply.reply_text}
+use Rattle.commands.specs.{declared.cause.Cause.Cause, Answer.IsAnswer, Cause.IsCause, Cause.is_reported, Run.IsAnswered, Reply.reply_status, Reply.reply_text}
 use Rattle.commands.proofs.Silent.{silent, off_5}
 use Rattle.commands.proofs.serve.respond.Goals as goal
 
@@ -17,8 +17,8 @@ returns-clause-cut g c = λ cut.
 
 pub returns-clause-cause : goal.returns-clause-cause
 returns-clause-cause g c = λ one.
-    let on = subst (λ status. is_told c.args.command status ≡ true) c.ended.ensures.status one in
-    subst (λ cause. IsCause c.args.command c.args.bytes.now cause) (sym (c.ended.ensures.told on ∙ c.cause-why.ensures)) c.in-Ok.ensures.cause
+    let on = subst (λ status. is_reported c.args.command status ≡ true) c.ended.ensures.status one in
+    subst (λ cause. IsCause c.args.command c.args.bytes.now cause) (sym (c.ended.ensures.report on ∙ c.cause-why.ensures)) c.in-Ok.ensures.cause
 
 pub returns-in_default-clause-cause : goal.returns-in_default-clause-cause
 returns-in_default-clause-cause g c = λ on.

@@ -1,5 +1,5 @@
 use Rattle.std.proofs.Common.{◌++◌, sym, ap, ◌∙◌, arith, add-one, take, drop}
-use Rattle.dumper.specs.{Parts.part_at, Parts.inserted, Spans.parts_of}
+use Rattle.dumper.specs.{Parts.part_at, Parts.part_inserted, Spans.parts_of}
 use Rattle.dumper.proofs.Inserting.{passed_on, found_at, found_last}
 use Rattle.dumper.proofs.span.place_among.Goals as goal
 
@@ -12,7 +12,7 @@ loop-at-preserved c =
           let part = part_at c.args.place bytes in
           c.loop-at.invariant.place bytes
           ∙ passed_on spans at c.index.result.now part (omega (arith, c.loop-at-test.true, c.len.ensures)) c.index.ensures c.if-index-place.true
-          ∙ ap (λ n. take n (parts_of spans) ++ inserted part (drop n (parts_of spans))) (sym (add-one at));
+          ∙ ap (λ n. take n (parts_of spans) ++ part_inserted part (drop n (parts_of spans))) (sym (add-one at));
     }
 
 pub returns-else-index-place-clause-place : goal.returns-else-index-place-clause-place

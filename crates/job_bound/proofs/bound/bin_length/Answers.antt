@@ -1,4 +1,4 @@
--- the lengths that are told are the job's
+-- the lengths that are reported are the job's
 use Rattle.std.proofs.{Common.◌<◌, Common.length, Common.arith, Common.ap, Common.◌∙◌, lemmas.List.length-map}
 use Rattle.job_format.specs.Parts.{parts_view, job_parts_view}
 use Rattle.job_check.proofs.Counted.{as_many_lengths}

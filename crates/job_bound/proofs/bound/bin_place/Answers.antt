@@ -1,4 +1,4 @@
--- the layout that is told is the job's
+-- the layout that is reported is the job's
 use Rattle.std.proofs.{Common.◌<◌, Common.length, Common.arith, Common.ap, Common.◌∙◌, lemmas.List.length-map}
 use Rattle.job_format.specs.Parts.{parts_view, job_parts_view}
 use Rattle.job_check.proofs.{Counted.as_many_layouts, Regions.from_is}

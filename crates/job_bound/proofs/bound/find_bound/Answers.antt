@@ -1,4 +1,4 @@
--- No rule stands where the lists were made.
+-- No rule is broken where the lists were made.
 use Rattle.job_format.specs.Parts.{parts_view}
 use Rattle.job_check.specs.Faults.{table_stage}
 use Rattle.job_check.proofs.{Order.table_none, Wants.never_hidden, Wider.wider_none}

@@ -1,6 +1,6 @@
 use Rattle.std.proofs.Common.{◌≡◌, ℕ, ◌+◌, ◌<◌, ◌≤◌, length, get_or, map, drop, sym, ap, arith, ◌∙◌}
 use Rattle.buffer_table.specs.Table.{no_buffer}
-use Rattle.field_words.specs.Writes.{placed, with_bytes}
+use Rattle.field_words.specs.Writes.{parts_placed, with_bytes}
 use Rattle.job_check.specs.Emit.{content_parts}
 use Rattle.job_check.proofs.Parts.{parts_step, fit_step, same_size}
 use Rattle.job_check.proofs.emit.put_contents.Goals as goal
@@ -26,8 +26,8 @@ loop-k-preserved c =
     let rest = map (λ v. v.now) (drop (c.loop-k.k + 1) c.args.contents.now.items) in
     record {
       rest =
-          ap (λ m. placed m (content_parts (drop (c.loop-k.k + 1) c.args.buffers.now) rest)) put
-          ∙ sym (ap (placed c.loop-k.memory) parts) ∙ c.loop-k.invariant.rest;
+          ap (λ m. parts_placed m (content_parts (drop (c.loop-k.k + 1) c.args.buffers.now) rest)) put
+          ∙ sym (ap (parts_placed c.loop-k.memory) parts) ∙ c.loop-k.invariant.rest;
       fit = fit.1;
       long = ap length put ∙ same_size c.loop-k.memory place c.index.result.now.now (length c.args.memory.now) room c.loop-k.invariant.long;
     }

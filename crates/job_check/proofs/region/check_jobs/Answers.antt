@@ -6,19 +6,19 @@ use Rattle.job_check.proofs.{Layouts.lists_inside, Order.exits, Progress.none_la
 use Rattle.job_check.proofs.region.check_jobs.Goals as goal
 
 pub loop-number-init : goal.loop-number-init
-loop-number-init c = rw c.requires.no_bytes (rw c.requires.no_layouts (rw c.requires.no_lengths (none_laid (parts_view c.args.file.now), λ told. none (parts_view c.args.file.now))))
+loop-number-init c = rw c.requires.no_bytes (rw c.requires.no_layouts (rw c.requires.no_lengths (none_laid (parts_view c.args.file.now), λ report. none (parts_view c.args.file.now))))
 
 pub check_one-requires-clause-size : goal.check_one-requires-clause-size
 check_one-requires-clause-size c = c.loop-number.invariant.0.size
 
 pub returns-in_err-lists-clause-answers : goal.returns-in_err-lists-clause-answers
-returns-in_err-lists-clause-answers c = λ told.
+returns-in_err-lists-clause-answers c = λ report.
     let f = parts_view c.args.file.now in
     let l = c.loop-number in
     let below : l.number < length f.jobs = omega (arith, c.loop-number-test.true, c.len-number-end.ensures, length-map c.args.file.now.jobs.items job_parts_view) in
     exits (each (job_stages f) 0 (length f.jobs)) _
     c.from_residual.result c.in_err-lists.field-0.0 c.from_residual.ensures.1
-    (refused f l.number l.region.bytes.items l.region.lengths.items c.in_err-lists.field-0.0 (l.invariant.1 told) below (c.in_err-lists.ensures.answers told))
+    (refused f l.number l.region.bytes.items l.region.lengths.items c.in_err-lists.field-0.0 (l.invariant.1 report) below (c.in_err-lists.ensures.answers report))
 
 pub next_place-place-requires : goal.next_place-place-requires
 next_place-place-requires c = omega (arith, c.in_ok-lists.ensures.fits, lists_inside (parts_view c.args.file.now) c.requires.sound, c.requires.sound.limit)
@@ -45,10 +45,10 @@ loop-number-preserved c =
     rw c.push.ensures.items (rw c.push-in-loop-number.ensures.items (
       next_laid f l.number l.region.bytes.items c.check_one.new.region.items l.region.layouts.items l.region.lengths.items l.place c.next_place-place.result lists.layout lists.lengths
           l.invariant.0 c.requires.sound c.in_ok-lists.ensures.layout c.in_ok-lists.ensures.size c.in_ok-lists.ensures.fits c.next_place-place.ensures,
-      λ told.
-          let answers = c.in_ok-lists.ensures.answers told in
-          next f l.number l.region.bytes.items c.check_one.new.region.items l.region.lengths.items lists.lengths (l.invariant.1 told) l.invariant.0.size below
-          answers.0 answers.1.lengths_are (c.in_ok-lists.ensures.written told) (c.in_ok-lists.ensures.fit told),
+      λ report.
+          let answers = c.in_ok-lists.ensures.answers report in
+          next f l.number l.region.bytes.items c.check_one.new.region.items l.region.lengths.items lists.lengths (l.invariant.1 report) l.invariant.0.size below
+          answers.0 answers.1.lengths_are (c.in_ok-lists.ensures.written report) (c.in_ok-lists.ensures.fit report),
     ))
 
 pub returns-clause-laid : goal.returns-clause-laid
@@ -59,8 +59,8 @@ returns-clause-laid c =
     all_laid f l.number l.place l.region l.invariant.0 end
 
 pub returns-clause-answers : goal.returns-clause-answers
-returns-clause-answers c = λ told.
+returns-clause-answers c = λ report.
     let f = parts_view c.args.file.now in
     let l = c.loop-number in
     let end : l.number ≡ length f.jobs = omega (arith, c.loop-number-test.false, l.auto.number-end, c.len-number-end.ensures, length-map c.args.file.now.jobs.items job_parts_view) in
-    all f l.number l.place l.region l.invariant.0 (l.invariant.1 told) end
+    all f l.number l.place l.region l.invariant.0 (l.invariant.1 report) end

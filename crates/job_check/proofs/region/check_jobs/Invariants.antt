@@ -1,4 +1,4 @@
--- the lists of the jobs before this one are laid, and where what is told of the shaders is true, no rule stands of them, and their lists
+-- the lists of the jobs before this one are laid, and where what is reported of the shaders is true, no rule is broken by them, and their lists
 -- are in the region
 use Rattle.std.proofs.Common.{◌≡◌}
 use Rattle.job_format.specs.Parts.{parts_view}

@@ -1,9 +1,9 @@
 use Rattle.std.proofs.Common.{◌≡◌, ◌+◌, ◌-◌, ◌++◌, length, take, drop, ap, subst, arith, ◌∙◌}
-use Rattle.field_words.specs.Writes.{placed, zeros}
+use Rattle.field_words.specs.Writes.{parts_placed, zeros}
 use Rattle.job_format.specs.Parts.{job_parts_view}
 use Rattle.relocation.specs.declared.layout.Layout.{Layout}
 use Rattle.shader_records.specs.Inputs.{shaders_view}
-use Rattle.job_check.specs.{Context.InView, Context.IsContext, Jobs.layout_of, Emit.list_parts, Emit.moved}
+use Rattle.job_check.specs.{Context.InView, Context.IsContext, Jobs.layout_of, Emit.list_parts, Emit.parts_moved}
 use Rattle.job_check.specs.Region.{region_size, region_from, region_parts}
 use Rattle.job_check.proofs.{Order.if_ok, Order.if_always, Regions.size_before, Regions.size_next, Regions.grown_long, Regions.kept}
 use Rattle.job_check.proofs.region.write_region.Goals as goal
@@ -24,7 +24,7 @@ write_at-requires c =
 
 pub returns-clause-written : goal.returns-clause-written
 unfolding region_parts
-returns-clause-written c = λ told.
+returns-clause-written c = λ report.
     let v = c.args.job.now in
     let x = c.job.inside in
     let h = subst (λ (w : InView). IsContext w (job_parts_view x.job.now) x.table.now (shaders_view x.shaders.now.items) x.handles x.layout) c.job.view_is c.job.invariant in
@@ -36,14 +36,14 @@ returns-clause-written c = λ told.
     let same : from + x.layout.end ≡ size = omega (arith, c.place_in_region-from.ensures, ap (λ (l : Layout). l.end) h.layout_is, size_next v.file v.number) in
     let is : grown.items ≡ old ++ zeros (size - length old) = c.in_ok-extend_region.ensures ∙ ap (λ n. old ++ zeros (n - length old)) same in
     let long : length c.write_at.new.region ≡ length grown.items = omega (arith, c.write_at.auto.region, ap length c.deref_mut.ensures.value) in
-    let step : c.write_at.new.region ≡ placed c.deref_mut.result.now (moved from parts)
-    → take grown.len (c.write_at.new.region ++ drop (length c.write_at.new.region) grown.items) ≡ placed (old ++ zeros (size - length old)) (moved (region_from v.file v.number) parts) =
+    let step : c.write_at.new.region ≡ parts_placed c.deref_mut.result.now (parts_moved from parts)
+    → take grown.len (c.write_at.new.region ++ drop (length c.write_at.new.region) grown.items) ≡ parts_placed (old ++ zeros (size - length old)) (parts_moved (region_from v.file v.number) parts) =
     λ put.
     kept grown.len c.write_at.new.region grown.items (omega (arith, c.deref_mut.ensures.len, ap length c.deref_mut.ensures.value)) long
     ∙ put
-    ∙ ap (λ m. placed m (moved from parts)) (c.deref_mut.ensures.value ∙ is)
-    ∙ ap (λ k. placed (old ++ zeros (size - length old)) (moved k parts)) c.place_in_region-from.ensures in
-    if_ok c.write_at.result step (c.write_at.ensures.written told)
+    ∙ ap (λ m. parts_placed m (parts_moved from parts)) (c.deref_mut.ensures.value ∙ is)
+    ∙ ap (λ k. parts_placed (old ++ zeros (size - length old)) (parts_moved k parts)) c.place_in_region-from.ensures in
+    if_ok c.write_at.result step (c.write_at.ensures.written report)
 
 pub returns-clause-size : goal.returns-clause-size
 returns-clause-size c =

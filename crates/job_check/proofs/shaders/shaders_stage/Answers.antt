@@ -16,9 +16,9 @@ loop-b-preserved c =
     record {
       none = each_on (shader_stage f) b (length f.buffers) (omega (arith, c.loop-b-test.true, c.len-b-end.ensures)) c.in-Ok.ensures.answers.0 ∙ c.loop-b.invariant.none;
       before = none_before (shader_stage f) b c.loop-b.invariant.before c.in-Ok.ensures.answers.0;
-      told =
+      report =
           more
-          ∙ ap (λ l. l ++ (shader_option c.in-Ok.shader ∷ [])) c.loop-b.invariant.told
+          ∙ ap (λ l. l ++ (shader_option c.in-Ok.shader ∷ [])) c.loop-b.invariant.report
           ∙ ap (λ x. shaders_up_to f b ++ (x ∷ [])) c.in-Ok.ensures.answers.1
           ∙ sym (shaders_more f b);
       sound = subst AllSound (sym more) (sound_more (shaders_view c.loop-b.shaders.items) (shader_option c.in-Ok.shader) c.loop-b.invariant.sound c.in-Ok.ensures.sound);
@@ -31,7 +31,7 @@ returns-clause-answers c =
     let b = c.loop-b.b in
     let end : b ≡ length f.buffers = omega (arith, c.loop-b-test.false, c.loop-b.auto.b-end, c.len-b-end.ensures) in (
       sym c.loop-b.invariant.none ∙ each_end (shader_stage f) b (length f.buffers) (omega (arith, end)),
-      are_shaders f (shaders_view c.loop-b.shaders.items) (c.loop-b.invariant.told ∙ ap (shaders_up_to f) end) c.loop-b.invariant.sound,
+      are_shaders f (shaders_view c.loop-b.shaders.items) (c.loop-b.invariant.report ∙ ap (shaders_up_to f) end) c.loop-b.invariant.sound,
     )
 
 pub returns-in_err-push-in-Ok-clause-memory : goal.returns-in_err-push-in-Ok-clause-memory

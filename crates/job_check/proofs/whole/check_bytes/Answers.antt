@@ -1,5 +1,5 @@
 use Rattle.std.proofs.Common.{Err, sym, subst}
-use Rattle.field_words.specs.{Questions.Answers, Questions.Refuses, Questions.NeverHidesFault, Questions.answered, Sizes.most_memory}
+use Rattle.field_words.specs.{Questions.Answers, Questions.Refuses, Questions.NeverHidesFault, Questions.with_answers, Sizes.most_memory}
 use Rattle.field_words.proofs.Questions.{answers_later, answered_none}
 use Rattle.job_format.specs.{Faults.format_questions, Model.FileModel, Reading.file_at}
 use Rattle.job_check.specs.{declared.check.Checked.Checked, Faults.file_stages, Emit.IsEmitted}
@@ -12,7 +12,7 @@ unfolding questions_within
 returns-in-Ok-clause-answers c =
     let bytes = c.args.bytes.now in
     let P : FileModel → Checked → Type 0 = λ f checked. IsEmitted f checked.memory checked.layouts.items checked.lengths.items in
-    answers_later (answered format_refused (format_questions bytes)) (file_stages (file_at bytes)) (P (file_at bytes)) c.check_read.result
+    answers_later (with_answers format_refused (format_questions bytes)) (file_stages (file_at bytes)) (P (file_at bytes)) c.check_read.result
     (answered_none format_refused (format_questions bytes) c.in-Ok.ensures.read.0)
     (subst (λ f. Answers (file_stages f) (P f) c.check_read.result) c.in-Ok.ensures.read.1 c.check_read.ensures.answers)
 
@@ -24,10 +24,10 @@ returns-in-Err-clause-answers c =
 pub returns-in-Ok-clause-format : goal.returns-in-Ok-clause-format
 returns-in-Ok-clause-format c =
     let format = format_questions c.args.bytes.now in
-    never_hidden (answered format_refused format) c.check_read.result (answered_none format_refused format c.in-Ok.ensures.read.0)
+    never_hidden (with_answers format_refused format) c.check_read.result (answered_none format_refused format c.in-Ok.ensures.read.0)
 
 pub returns-in-Err-clause-format : goal.returns-in-Err-clause-format
 returns-in-Err-clause-format c =
     let bytes = c.args.bytes.now in
-    subst (λ stop. NeverHidesFault {X = Checked} (answered format_refused (format_questions bytes)) (Err stop)) (sym c.format_refusal.ensures)
+    subst (λ stop. NeverHidesFault {X = Checked} (with_answers format_refused (format_questions bytes)) (Err stop)) (sym c.format_refusal.ensures)
     (not_hidden Checked bytes c.in-Err.stop c.in-Err.ensures.memory)

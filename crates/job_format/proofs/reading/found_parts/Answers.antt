@@ -1,4 +1,4 @@
--- Where no rule of the format stands, the parts lie in the file.
+-- Where no rule of the format is broken, the parts lie in the file.
 use Rattle.std.proofs.Common.{sym}
 use Rattle.job_format.proofs.Passing.{has_parts}
 use Rattle.job_format.proofs.reading.found_parts.Goals as goal

@@ -1,7 +1,7 @@
 -- One more is appended; at the end all are there.
 use Rattle.std.proofs.Common.{◌++◌, map, take, ap, subst, ◌∙◌}
 use Rattle.std.specs.List.{AllByRecursion}
-use Rattle.field_words.specs.{Words.IsBytes, Pieces.joined}
+use Rattle.field_words.specs.{Words.IsBytes, Pieces.joined_texts}
 use Rattle.job_format.proofs.Items.{more_viewed, joined_flat, all_taken}
 use Rattle.job_format.proofs.writing.put_contents.Goals as goal
 
@@ -13,7 +13,7 @@ pub returns-clause-text : goal.returns-clause-text
 returns-clause-text c =
     let all = all_taken c.args.contents.now c.loop-content.content-index c.loop-content-test.false in
     c.loop-content.invariant.0
-    ∙ ap (λ t. c.args.out.now.items ++ t) (joined_flat (map (λ c. c.items) (take c.loop-content.content-index c.args.contents.now)) ∙ ap (λ xs. joined (map (λ c. c.items) xs)) all)
+    ∙ ap (λ t. c.args.out.now.items ++ t) (joined_flat (map (λ c. c.items) (take c.loop-content.content-index c.args.contents.now)) ∙ ap (λ xs. joined_texts (map (λ c. c.items) xs)) all)
 
 pub returns-clause-fits : goal.returns-clause-fits
 returns-clause-fits c = subst (λ xs. AllByRecursion IsBytes (map (λ c. c.items) xs)) (all_taken c.args.contents.now c.loop-content.content-index c.loop-content-test.false) c.loop-content.invariant.1

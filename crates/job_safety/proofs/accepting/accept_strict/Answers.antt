@@ -1,6 +1,6 @@
 -- Where no other rule is broken, the strict ones decide.
 use Rattle.std.proofs.Common.{◌≡◌, ℕ, List, None, sym, ◌∙◌}
-use Rattle.field_words.specs.{Questions.first_of, Questions.Refuses, Questions.answered, declared.stop.Stop.Stop}
+use Rattle.field_words.specs.{Questions.first_of, Questions.Refuses, Questions.with_answers, declared.stop.Stop.Stop}
 use Rattle.field_words.specs.declared.stop.Stop.TheVariants.{Fault, NoMemory}
 use Rattle.field_words.proofs.{Questions.passes, Questions.refuses_front, Nones.front_none}
 use Rattle.job_format.specs.{declared.rule.Refusal.Refusal, Faults.format_questions, Reading.file_at}
@@ -13,13 +13,13 @@ use Rattle.job_safety.proofs.accepting.accept_strict.Goals as goal
 alone : (bytes : List ℕ) → first_of (all_questions bytes) ≡ None → first_of (strict_questions bytes) ≡ first_of (read_questions bytes)
 unfolding questions_within strict_questions read_questions
 alone bytes none =
-    let format = answered format_refused (format_questions bytes) in
+    let format = with_answers format_refused (format_questions bytes) in
     passes (all_questions bytes) (strict_stages (file_at bytes)) none
     ∙ sym (passes format (strict_stages (file_at bytes)) (front_none format (file_stages (file_at bytes)) none))
 
 refuses : (bytes : List ℕ) (stop : Stop Refusal) → first_of (all_questions bytes) ≡ None → Refuses (read_questions bytes) stop → Refuses (strict_questions bytes) stop
-refuses bytes (Fault refusal) none stands = alone bytes none ∙ stands
-refuses bytes NoMemory none stands = tt
+refuses bytes (Fault refusal) none broken = alone bytes none ∙ broken
+refuses bytes NoMemory none broken = tt
 
 pub returns-in_err-accepted-clause-answers : goal.returns-in_err-accepted-clause-answers
 unfolding strict_questions

@@ -1,6 +1,6 @@
 use Rattle.std.proofs.{Common.sym, Common.◌∙◌, Common.arith, lemmas.Bool.Decides.nat_tests, lemmas.Result.err_from_is_err_and}
 use Rattle.script.specs.Lines.{lines_of}
-use Rattle.job_text.specs.Made.{made}
+use Rattle.job_text.specs.Made.{text_bytes}
 use Rattle.job_text.proofs.Steps.{both_none, line_step, line_fault, lines_end}
 use Rattle.job_text.proofs.reading.make.Goals as goal
 
@@ -23,6 +23,6 @@ loop-rest-preserved c = record {
 
 pub returns-clause-bytes : goal.returns-clause-bytes
 returns-clause-bytes c =
-    sym (both_none (made c.args.text.now)) ∙ sym c.loop-rest.invariant.read
+    sym (both_none (text_bytes c.args.text.now)) ∙ sym c.loop-rest.invariant.read
     ∙ lines_end c.loop-rest.line c.loop-rest.inside c.loop-rest.out.items c.loop-rest.rest.now
     (grind (arith, nat_tests, c.is_empty.ensures, c.loop-rest-test.false))

@@ -27,7 +27,7 @@ use denote.Triple.Call.{calls_at_last}
 use denote.Triple.Entry.{alive}
 use denote.Triple.Table.{framed}
 use denote.Triple.Walked.{Stays, stay_dropped, walk_of, Goes-dropped}
-use Rattle.phys_mem.proofs.{Deeds.mark, Deeds.mark_told, Deeds.deed_val, Deeds.deed_told, Rooms.room_again, block.give.Statement.statement}
+use Rattle.phys_mem.proofs.{Deeds.mark, Deeds.mark_reported, Deeds.deed_val, Deeds.deed_reported, Rooms.room_again, block.give.Statement.statement}
 use Rattle.phys_mem.specs.contracts.contents.Contents as contents
 use Rattle.phys_mem.specs.contracts.deed.Deed as deed
 use Rattle.phys_mem.specs.{contracts.block.give.ended, contracts.block.give.clauses, contracts.block.give.Key.name as the_key}
@@ -79,7 +79,7 @@ give_spec 𝓤 𝓛 𝓜 𝓡 wired A L g d dd met md =
     -- [the allocator's token; the room; the `&`; the tokens]
     move ! (3 ∷ []) $ use1 𝓛 (‵ (flft κ q) ⊛ ‵ (flft z.0.0.1.0 z.0.1.1.0) ⊛ ‵ ftrue) (id⊢ 𝓤 _) $ split ! $ move ! (4 ∷ 0 ∷ []) $ join ! $ move ! (3 ∷ 2 ∷ 0 ∷ []) $
     regoal ! (λ (us : List Val). prop (WpFn 𝓤 H C Λ fn us Post))
-    (λ i. are.0.0 i ++ ((are.1.0 ∙ ap (λ r. ptr_val r ∷ []) e) i ++ (are.1.1.0.0 i ++ (mark_told vss.1.1.1.0 are.1.1.1.0.0 i ++ (deed_told vss.1.1.1.1.0 are.1.1.1.1.0.0 i ++ []))))) refl $
+    (λ i. are.0.0 i ++ ((are.1.0 ∙ ap (λ r. ptr_val r ∷ []) e) i ++ (are.1.1.0.0 i ++ (mark_reported vss.1.1.1.0 are.1.1.1.0.0 i ++ (deed_reported vss.1.1.1.1.0 are.1.1.1.1.0.0 i ++ []))))) refl $
     enter ! C Λ fn (vptr at.0 at.1 ∷ vptr b o ∷ vint w64 n ∷ mark ∷ deed_val ∷ []) Post $
     alloc_all ! (λ l. pass_all ! refl ((tt, tt), ((tt, tt), ((tt, record { fits = fits }), ((tt, tt), ((tt, (tt, tt)), tt))))) $
     let En : Env 𝓤 H = env fn.locals l in

@@ -1,4 +1,4 @@
--- Each read goes one on, and one below 0 is wild.
+-- Each read goes one on, and one below 0 is undefined.
 use Rattle.std.proofs.Common.{◌∙◌, sym, ap, arith}
 use Rattle.texture_layouts.specs.Setup.{tiling_at}
 use Rattle.texture_layouts.specs.Fetch.{fetch_size_of}

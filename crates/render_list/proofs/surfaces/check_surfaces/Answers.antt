@@ -1,4 +1,4 @@
--- What holds where no rule stands.
+-- What holds where no rule is broken.
 use Rattle.field_words.proofs.Questions.{first_is}
 use Rattle.render_list.specs.Surfaces.{surface_faults}
 use Rattle.render_list.proofs.Checked.{set_of, none_at}

@@ -4,12 +4,12 @@ use Rattle.field_words.proofs.Questions.{each_on, each_stop, each_end, answered_
 use Rattle.shader_flow.specs.{Bounded.indexes, Bounded.last_below, Flow.checked_of, Site.SiteModel}
 use Rattle.clamp_facts.specs.{Facts.maker_of, Upkeep.IsTableOf}
 use Rattle.clamp_facts.proofs.Entries.{blank_keeps}
-use Rattle.shader_check.specs.Info.{held, held_words, samples_before, samples_of}
+use Rattle.shader_check.specs.Info.{setups_held, held_words, samples_before, samples_of}
 use Rattle.shader_check.specs.Rules.{questions_at, fault_at, index_questions}
 use Rattle.shader_check.proofs.walk.walk.Goals as goal
 
 pub loop-at-init : goal.loop-at-init
-unfolding held indexes maker_of last_below
+unfolding setups_held indexes maker_of last_below
 loop-at-init g c = record {
   none = (let e : checked_of c.args.code.now - 0 ≡ checked_of c.args.code.now = omega arith in ap (λ n. first_of (each (questions_at c.args.code.now) 0 n)) e);
   first = c.in_ok-kept0.ensures.items;

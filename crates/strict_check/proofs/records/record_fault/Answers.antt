@@ -3,7 +3,7 @@ use Rattle.std.proofs.Common.{Some, ap, sym, ◌∙◌, ◌+◌}
 use Rattle.field_words.proofs.Questions.{stops}
 use Rattle.job_format.specs.{Model.JobModel, Parts.parts_view}
 use Rattle.strict_check.specs.Stages.{use_questions, record_questions, record_refused}
-use Rattle.strict_check.proofs.Going.{leaves, record_stands, record_passes}
+use Rattle.strict_check.proofs.Going.{leaves, record_broken, record_passes}
 use Rattle.strict_check.proofs.records.record_fault.Goals as goal
 
 pub returns-in_err-use_fault : goal.returns-in_err-use_fault
@@ -16,7 +16,7 @@ returns-in_err-use_fault c = λ holds.
 pub returns-in-Some : goal.returns-in-Some
 returns-in-Some c = λ holds.
     let f = parts_view c.args.file.now in
-    record_stands f c.args.number c.args.at c.args.word _ _ _ c.in-Some.place (ap (λ (j : JobModel). j.records) c.job_at.ensures.value)
+    record_broken f c.args.number c.args.at c.args.word _ _ _ c.in-Some.place (ap (λ (j : JobModel). j.records) c.job_at.ensures.value)
     (ap (λ n. c.args.at + n) c.handles_size.ensures.value) c.attribute_count.ensures.value (c.in_ok-use_fault.ensures holds).0
     (sym c.selection_fault.ensures ∙ c.in-Some.is)
     ∙ ap Some (sym (c.record_refusal.ensures ∙ ap (λ n. record_refused f c.args.number 11 (c.args.at + c.handles_size.result + n)) c.from.ensures))

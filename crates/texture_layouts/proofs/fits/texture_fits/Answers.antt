@@ -1,12 +1,12 @@
 use Rattle.std.proofs.Common.{◌≤◌, sym, subst}
 use Rattle.field_words.specs.Least.{IsLeast}
-use Rattle.field_words.proofs.Least.{nothing_stands}
+use Rattle.field_words.proofs.Least.{nothing_broken}
 use Rattle.texture_layouts.specs.Fits.{texture_rules}
 use Rattle.texture_layouts.proofs.{Least.texture_least, Fetches.fetches_in, Inside.in_buffer}
 use Rattle.texture_layouts.proofs.fits.texture_fits.Goals as goal
 
 pub returns-in-None-clause-least : goal.returns-in-None-clause-least
-returns-in-None-clause-least c = λ number. nothing_stands _ number (sym c.in-None.ensures)
+returns-in-None-clause-least c = λ number. nothing_broken _ number (sym c.in-None.ensures)
 
 pub returns-in-Some-clause-least : goal.returns-in-Some-clause-least
 returns-in-Some-clause-least c =

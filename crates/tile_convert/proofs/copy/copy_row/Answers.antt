@@ -5,7 +5,7 @@ use Rattle.tile_convert.specs.Picture.{place_in, part_offset, parts_across, pixe
 use Rattle.tile_convert.proofs.Steps.{part_fits, one_more, whole_row, next_row}
 use Rattle.tile_convert.proofs.copy.copy_row.Goals as goal
 
--- the same with the values that the code computes
+-- the row fits with the values that the code computes
 fits : (order : Order) (width cpp mx y size start offset count : ℕ) → HasRow order width cpp y size → mx < parts_across width cpp
     → start ≡ place_in order width cpp 0 y → offset ≡ part_offset order cpp mx → count ≡ pixels_there width cpp mx
     → start + offset + count * cpp ≤ size

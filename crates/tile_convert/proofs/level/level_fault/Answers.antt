@@ -1,5 +1,5 @@
 use Rattle.std.proofs.Common.{◌≡◌, ℕ, Some, None, sym, ap, ◌∙◌}
-use Rattle.field_words.specs.Questions.{first_of, answered}
+use Rattle.field_words.specs.Questions.{first_of, with_answers}
 use Rattle.field_words.proofs.Questions.{passes, stops, answered_none, answered_some}
 use Rattle.texture_layouts.specs.{Setup.texture_of, Fits.texture_questions}
 use Rattle.tile_convert.specs.{declared.level.LevelFault.TheVariants.Texture, Level.part_questions, Level.level_questions}
@@ -9,14 +9,14 @@ of_texture : (p0 p1 p2 p3 size face level n : ℕ) → first_of (texture_questio
     → first_of (level_questions p0 p1 p2 p3 size face level) ≡ Some (Texture n)
 unfolding level_questions
 of_texture p0 p1 p2 p3 size face level n some =
-    stops (answered Texture (texture_questions p0 p1 p2 p3 size)) (part_questions (texture_of p0 p1 p2 p3) face level) (Texture n)
+    stops (with_answers Texture (texture_questions p0 p1 p2 p3 size)) (part_questions (texture_of p0 p1 p2 p3) face level) (Texture n)
     (answered_some Texture (texture_questions p0 p1 p2 p3 size) n some)
 
 of_part : (p0 p1 p2 p3 size face level : ℕ) → first_of (texture_questions p0 p1 p2 p3 size) ≡ None
     → first_of (level_questions p0 p1 p2 p3 size face level) ≡ first_of (part_questions (texture_of p0 p1 p2 p3) face level)
 unfolding level_questions
 of_part p0 p1 p2 p3 size face level none =
-    passes (answered Texture (texture_questions p0 p1 p2 p3 size)) (part_questions (texture_of p0 p1 p2 p3) face level)
+    passes (with_answers Texture (texture_questions p0 p1 p2 p3 size)) (part_questions (texture_of p0 p1 p2 p3) face level)
     (answered_none Texture (texture_questions p0 p1 p2 p3 size) none)
 
 pub returns-in-Err : goal.returns-in-Err

@@ -1,10 +1,10 @@
 use Rattle.std.proofs.Common.{slice_set, ap, arith, ◌∙◌}
 use Rattle.vc4check_c.specs.Jobs.{all_lists}
-use Rattle.vc4check_c.proofs.Told.{none_told, one_more_told}
+use Rattle.vc4check_c.proofs.Report.{none_reported, one_more_reported}
 use Rattle.vc4check_c.proofs.jobs.all_lists.Goals as goal
 
 pub loop-job-init : goal.loop-job-init
-loop-job-init c = none_told c.args.layouts.now c.args.lengths.now
+loop-job-init c = none_reported c.args.layouts.now c.args.lengths.now
 
 pub loop-job-preserved : goal.loop-job-preserved
 loop-job-preserved c =
@@ -13,4 +13,4 @@ loop-job-preserved c =
     let j = c.loop-job.job in
     ap (λ all. slice_set all j c.lists_of.result) c.loop-job.invariant
     ∙ ap (slice_set (all_lists layouts lengths j) j) c.lists_of.ensures
-    ∙ one_more_told layouts lengths j (omega (arith, c.loop-job-test.true, c.requires.few))
+    ∙ one_more_reported layouts lengths j (omega (arith, c.loop-job-test.true, c.requires.few))

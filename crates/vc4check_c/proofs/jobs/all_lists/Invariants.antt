@@ -1,4 +1,4 @@
--- What is told of the jobs so far, and nothing of the others.
+-- What is reported of the jobs so far, and nothing of the others.
 use Rattle.std.proofs.Common.{◌≡◌}
 use Rattle.vc4check_c.specs.Jobs.{all_lists}
 use Rattle.vc4check_c.proofs.jobs.all_lists.Given as goal

@@ -14,13 +14,13 @@ loop-b-preserved c =
     let given = c.in-Some.given.now in
     let shader = c.in-Some-found.shader in
     let here : slice_get buffers b ≡ Some given = c.in-Some.ensures in
-    let told = subst (λ found. IfSome found (λ x. (shader_option x ≡ read_in given) × (given.kind ≡ 1 → IsReadable given.known.now))) c.in-Some-found.is c.in_ok-found.ensures in (
+    let report = subst (λ found. IfSome found (λ x. (shader_option x ≡ read_in given) × (given.kind ≡ 1 → IsReadable given.known.now))) c.in-Some-found.is c.in_ok-found.ensures in (
       ap shaders_view c.in_ok-push-in-Some-found.ensures.items
           ∙ map-append shader_option c.loop-b.shaders.items (shader ∷ [])
           ∙ ap (λ l. l ++ (shader_option shader ∷ [])) c.loop-b.invariant.0
-          ∙ ap (λ x. take b (map read_in buffers) ++ (x ∷ [])) told.0
+          ∙ ap (λ x. take b (map read_in buffers) ++ (x ∷ [])) report.0
           ∙ sym (taken_more (map read_in buffers) b (read_in given) (slice_get-map read_in buffers b ∙ ap (option_map read_in) here)),
-      readable_more buffers b given c.loop-b.invariant.1 here told.1,
+      readable_more buffers b given c.loop-b.invariant.1 here report.1,
     )
 
 pub returns : goal.returns

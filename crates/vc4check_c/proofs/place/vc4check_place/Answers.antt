@@ -2,26 +2,26 @@
 use Rattle.vc4check_c.specs.Jobs.{accepted_jobs}
 use Rattle.std.proofs.Common.{◌≡◌, length, refl, sym, ap, arith, ◌∙◌}
 use Rattle.field_words.specs.Writes.{with_bytes}
-use Rattle.vc4check_c.proofs.{Places.told, Places.are_placed, Safe.files_are_safe, Safe.files_obey}
+use Rattle.vc4check_c.proofs.{Places.report, Places.are_placed, Safe.files_are_safe, Safe.files_obey}
 use Rattle.vc4check_c.proofs.place.vc4check_place.Goals as goal
 
 pub accepted-requires-clause-each : goal.accepted-requires-clause-each
 accepted-requires-clause-each c =
-    let is = told c.args.bytes.now c.in-Ok.region (c.in-Ok.ensures.spelled refl) c.in-Ok.ensures.answers.1 in
+    let is = report c.args.bytes.now c.in-Ok.region (c.in-Ok.ensures.spelled refl) c.in-Ok.ensures.answers.1 in
     ap length c.deref-in-Ok.ensures.0 ∙ is.each ∙ ap length (sym c.deref.ensures.0)
 
 pub accepted-requires-clause-few : goal.accepted-requires-clause-few
 accepted-requires-clause-few c =
-    let is = told c.args.bytes.now c.in-Ok.region (c.in-Ok.ensures.spelled refl) c.in-Ok.ensures.answers.1 in
+    let is = report c.args.bytes.now c.in-Ok.region (c.in-Ok.ensures.spelled refl) c.in-Ok.ensures.answers.1 in
     omega (arith, is.few, ap length c.deref.ensures.0)
 
 -- The window has the lists, and the answer tells where.
 pub returns-in-Ok-clause-accepted : goal.returns-in-Ok-clause-accepted
 returns-in-Ok-clause-accepted c =
     let region = c.in-Ok.region in
-    let told : c.accepted.result ≡ accepted_jobs (length region.bytes.items) region.layouts.items region.lengths.items =
+    let report : c.accepted.result ≡ accepted_jobs (length region.bytes.items) region.layouts.items region.lengths.items =
     cc (c.accepted.ensures, c.len.ensures, c.deref.ensures.0, c.deref-in-Ok.ensures.0) in
-    λ zero. are_placed c.args.bytes.now region c.accepted.result c.in-Ok.ensures.answers.0 (c.in-Ok.ensures.spelled refl) c.in-Ok.ensures.answers.1 told
+    λ zero. are_placed c.args.bytes.now region c.accepted.result c.in-Ok.ensures.answers.0 (c.in-Ok.ensures.spelled refl) c.in-Ok.ensures.answers.1 report
 
 pub returns-in-Ok-clause-relocated : goal.returns-in-Ok-clause-relocated
 returns-in-Ok-clause-relocated c = λ zero.

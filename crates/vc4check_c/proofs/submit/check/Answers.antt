@@ -1,4 +1,4 @@
--- A submission of whose own numbers no rule stands is a well-formed file.
+-- A submission of whose own numbers no rule is broken is a well-formed file.
 use Rattle.std.proofs.{Common.sym, Common.subst, Common.arith, lemmas.List.length-map}
 use Rattle.field_words.specs.Questions.{Refuses}
 use Rattle.vc4check_c.specs.Submission.{own_questions}

@@ -1,4 +1,4 @@
--- An accepted submission's lists are told.
+-- An accepted submission's lists are reported.
 use Rattle.std.proofs.Common.{◌≡◌, length, drop, sym, ap, subst, arith, ◌∙◌}
 use Rattle.field_words.specs.Writes.{with_bytes}
 use Rattle.vc4check_c.specs.Submit.{accepted_verdict}
@@ -18,14 +18,14 @@ bounds-deref-0-in-Ok c = let some = some_lists c.args.submission.now c.in-Ok.reg
 pub returns-in-Ok-clause-accepted : goal.returns-in-Ok-clause-accepted
 returns-in-Ok-clause-accepted c = λ known.
     let size = c.size_of-size.ensures ∙ ap length c.deref.ensures.value in
-    let told = c.in-Ok.ensures.tells known in
-    λ zero. is_taken c.args.submission.now c.in-Ok.region c.accepted.result told.0 told.1 (cc (c.accepted.ensures, size, c.deref-in-Ok.ensures.0, c.deref-in-Ok-2.ensures.0))
+    let report = c.in-Ok.ensures.tells known in
+    λ zero. is_taken c.args.submission.now c.in-Ok.region c.accepted.result report.0 report.1 (cc (c.accepted.ensures, size, c.deref-in-Ok.ensures.0, c.deref-in-Ok-2.ensures.0))
 
 pub returns-in-Ok-clause-short : goal.returns-in-Ok-clause-short
 returns-in-Ok-clause-short c = λ known.
     let size = c.size_of-size.ensures ∙ ap length c.deref.ensures.value in
-    let told = c.in-Ok.ensures.tells known in
-    λ two. is_taken c.args.submission.now c.in-Ok.region c.accepted.result told.0 told.1 (cc (c.accepted.ensures, size, c.deref-in-Ok.ensures.0, c.deref-in-Ok-2.ensures.0))
+    let report = c.in-Ok.ensures.tells known in
+    λ two. is_taken c.args.submission.now c.in-Ok.region c.accepted.result report.0 report.1 (cc (c.accepted.ensures, size, c.deref-in-Ok.ensures.0, c.deref-in-Ok-2.ensures.0))
 
 pub returns-in-Ok-clause-front : goal.returns-in-Ok-clause-front
 unfolding accepted_verdict

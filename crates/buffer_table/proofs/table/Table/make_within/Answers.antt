@@ -1,4 +1,4 @@
--- No rule of the table stands, so it is sound.
+-- No rule of the table is broken, so it is sound.
 use Rattle.std.proofs.Common.{sym, ◌∙◌, ap}
 use Rattle.field_words.specs.Questions.{first_of}
 use Rattle.field_words.proofs.Questions.{first_is}

@@ -4,7 +4,7 @@ use Rattle.job_format.specs.Parts.{job_parts_view}
 use Rattle.shader_records.specs.Inputs.{shaders_view}
 use Rattle.job_check.specs.{Context.InView, Context.IsContext, Jobs.layout_of}
 use Rattle.bin_list.specs.{Emitted.bin_text, Rules.bin_questions}
-use Rattle.job_check.proofs.{Layouts.kept_low, Layouts.layout_apart, Views.bin_none, Views.bin_text_is, Views.bin_told}
+use Rattle.job_check.proofs.{Layouts.kept_low, Layouts.layout_apart, Views.bin_none, Views.bin_text_is, Views.bin_reported}
 use Rattle.job_check.proofs.context.Context.bin.Goals as goal
 
 pub check_bin-requires-clause-place_limit : goal.check_bin-requires-clause-place_limit
@@ -46,7 +46,7 @@ returns-in-Ok-clause-answers c =
     let h = subst (λ (w : InView). IsContext w (job_parts_view x.job.now) x.table.now (shaders_view x.shaders.now.items) x.handles x.layout) c.self.view_is c.self.invariant in
     let none : first_of (bin_questions (job_parts_view x.job.now).bin x.job.now.declared x.table.now x.handles) ≡ None = c.in-Ok.ensures.answers.0 in (
       bin_none v (job_parts_view x.job.now) x.table.now (shaders_view x.shaders.now.items) x.handles x.layout h c.requires.some none,
-      bin_told v (job_parts_view x.job.now) x.table.now (shaders_view x.shaders.now.items) x.handles x.layout c.in-Ok.info h c.requires.some c.in-Ok.ensures.answers.1,
+      bin_reported v (job_parts_view x.job.now) x.table.now (shaders_view x.shaders.now.items) x.handles x.layout c.in-Ok.info h c.requires.some c.in-Ok.ensures.answers.1,
     )
 
 pub returns-in-Ok-clause-written : goal.returns-in-Ok-clause-written

@@ -58,8 +58,8 @@ returns-in-Ok-clause-answers c = λ true.
     ap (λ l. input_of c.args.states.now x.job.now.records.now x.job.now.uniforms.now x.table.now x.handles l) c.deref.ensures.value
     ∙ input_is v c.args.states.now (job_parts_view x.job.now) x.table.now (shaders_view x.shaders.now.items) x.handles x.layout h c.requires.states true in
     let none = subst (λ (i : InputModel). first_of (all_questions i) ≡ None) same c.in-Ok.ensures.answers.0 in
-    let told = subst (λ (i : InputModel). IsEmitted i x.layout out c.check_records.new.out c.in-Ok.info) same c.in-Ok.ensures.answers.1 in
-    let emitted = subst (λ (l : Layout). IsEmitted (input_for f j) l out c.check_records.new.out c.in-Ok.info) h.layout_is told in (
+    let report = subst (λ (i : InputModel). IsEmitted i x.layout out c.check_records.new.out c.in-Ok.info) same c.in-Ok.ensures.answers.1 in
+    let emitted = subst (λ (l : Layout). IsEmitted (input_for f j) l out c.check_records.new.out c.in-Ok.info) h.layout_is report in (
       records_none f j c.requires.some none,
       record { records = emitted.records ∙ ap length (records_are f j c.requires.some); uniforms = emitted.uniforms ∙ ap length (streams_are f j c.requires.some) },
     )
@@ -75,8 +75,8 @@ returns-in-Ok-clause-written c = λ true.
     let same =
     ap (λ l. input_of c.args.states.now x.job.now.records.now x.job.now.uniforms.now x.table.now x.handles l) c.deref.ensures.value
     ∙ input_is v c.args.states.now (job_parts_view x.job.now) x.table.now (shaders_view x.shaders.now.items) x.handles x.layout h c.requires.states true in
-    let told = subst (λ (i : InputModel). IsEmitted i x.layout out c.check_records.new.out c.in-Ok.info) same c.in-Ok.ensures.answers.1 in
-    let emitted = subst (λ (l : Layout). IsEmitted (input_for f j) l out c.check_records.new.out c.in-Ok.info) h.layout_is told in
+    let report = subst (λ (i : InputModel). IsEmitted i x.layout out c.check_records.new.out c.in-Ok.info) same c.in-Ok.ensures.answers.1 in
+    let emitted = subst (λ (l : Layout). IsEmitted (input_for f j) l out c.check_records.new.out c.in-Ok.info) h.layout_is report in
     let layout = layout_of f j in
     emitted.bytes
     ∙ ap (λ t. with_bytes (with_bytes out layout.records t) layout.uniforms (emitted_uniforms (input_for f j) (streams_place layout))) (records_are f j c.requires.some)
@@ -116,7 +116,7 @@ returns-in-Err-Fault-clause-answers c = λ true.
     let same =
     ap (λ l. input_of c.args.states.now x.job.now.records.now x.job.now.uniforms.now x.table.now x.handles l) c.deref.ensures.value
     ∙ input_is v c.args.states.now (job_parts_view x.job.now) x.table.now (shaders_view x.shaders.now.items) x.handles x.layout h c.requires.states true in
-    let told = rw c.in-Err-Fault.field-0-is at c.in-Err-Fault.ensures.answers in
-    let stands = subst (λ (i : InputModel). first_of (all_questions i) ≡ Some c.in-Err-Fault.fault) same told in
-    records_some v.file v.number c.in-Err-Fault.fault c.requires.some stands
+    let report = rw c.in-Err-Fault.field-0-is at c.in-Err-Fault.ensures.answers in
+    let broken = subst (λ (i : InputModel). first_of (all_questions i) ≡ Some c.in-Err-Fault.fault) same report in
+    records_some v.file v.number c.in-Err-Fault.fault c.requires.some broken
     ∙ sym (ap Some (c.record_refusal.ensures ∙ ap (λ (w : InView). record_refused w.file w.number c.in-Err-Fault.fault) c.self.view_is))

@@ -3,7 +3,7 @@ use Rattle.std.proofs.lemmas.List.{with_items_is}
 use Rattle.std.specs.Prelude.{IfNone}
 use Rattle.job_queue.specs.Past as past
 use Rattle.job_queue.specs.{Past.first_unknown, declared.queue.QueueFault.TheVariants.Unknown, declared.queue.QueueFault.TheVariants.Full}
-use Rattle.job_queue.specs.Desk.{greatest, written}
+use Rattle.job_queue.specs.Desk.{greatest, writers_after}
 use Rattle.job_queue.proofs.{Writers.written_size, Desks.submit_is, Desks.submit_refused, Desks.submit_full, Desks.submit_done}
 use Rattle.job_queue.proofs.queue.Queue.submit.Goals as goal
 
@@ -27,8 +27,8 @@ returns-clause-answers c =
     let reads : first_unknown (length c.self.inside.writers.items) c.args.reads.now ≡ None =
     ap (λ w. first_unknown (length w) c.args.reads.now) (sym c.deref.ensures.value)
     ∙ subst (λ r. IfNone r (first_unknown (length c.deref.result.now) c.args.reads.now ≡ None)) c.in_default.is c.unknown_buffer.ensures.reads in
-    let kept : c.set_writer.new.writers ≡ written c.self.inside.writers.items c.args.writes.now (c.self.inside.submitted + 1) =
-    c.set_writer.ensures ∙ ap (λ w. written w c.args.writes.now (c.self.inside.submitted + 1)) c.deref_mut.ensures.value in
+    let kept : c.set_writer.new.writers ≡ writers_after c.self.inside.writers.items c.args.writes.now (c.self.inside.submitted + 1) =
+    c.set_writer.ensures ∙ ap (λ w. writers_after w c.args.writes.now (c.self.inside.submitted + 1)) c.deref_mut.ensures.value in
     let size : length c.set_writer.new.writers ≡ c.self.inside.writers.len =
     ap length kept ∙ written_size c.self.inside.writers.items c.args.writes.now (c.self.inside.submitted + 1) ∙ sym c.self.inside.writers.ok.0 in
     rw (← c.self.view_is) (λ p agrees.

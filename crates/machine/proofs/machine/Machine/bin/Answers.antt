@@ -1,6 +1,6 @@
 -- The binner's step is its turn.
 use Rattle.std.proofs.Common.{refl, ◌<◌, ◌∙◌, sym, subst, ap, IsTrue, length}
-use Rattle.machine_plan.specs.Glance.{glanced}
+use Rattle.machine_plan.specs.Glance.{glance_result}
 use Rattle.list_machine.specs.{Lists.binner_of, Lists.binner_ended, Binner.binner_ready, Binner.binner_plan}
 use Rattle.qpu_machine.specs.Qpu.{free_in}
 use Rattle.machine.specs.State.{State, job_at}
@@ -13,10 +13,10 @@ step_binner-started-requires-clause-ready g c =
     let below : c.args.job < length s.units.jobs = subst (λ (w : State). c.args.job < length w.units.jobs) (sym c.self.view_is) c.requires.within in
     let here = job_here s.units.jobs c.args.job c.index_mut.result.now below c.index_mut.ensures.value in
     let free = c.free_in-free.ensures ∙ ap free_in c.as_slice.ensures.value in
-    let ready : IsTrue (glanced (binner_ready (job_at s.units.jobs c.args.job) (free_in s.units.qpus)) s.memory) =
-    subst (λ (w : State). IsTrue (glanced (binner_ready (job_at w.units.jobs c.args.job) (free_in w.units.qpus)) w.memory)) (sym c.self.view_is) c.requires.ready in
+    let ready : IsTrue (glance_result (binner_ready (job_at s.units.jobs c.args.job) (free_in s.units.qpus)) s.memory) =
+    subst (λ (w : State). IsTrue (glance_result (binner_ready (job_at w.units.jobs c.args.job) (free_in w.units.qpus)) w.memory)) (sym c.self.view_is) c.requires.ready in
     binner_now c.index_mut.result.now c.free_in-free.result s.memory
-    (subst (λ f. IsTrue (glanced (binner_ready c.index_mut.result.now f) s.memory)) (sym free) (subst (λ l. IsTrue (glanced (binner_ready l (free_in s.units.qpus)) s.memory)) (sym here) ready))
+    (subst (λ f. IsTrue (glance_result (binner_ready c.index_mut.result.now f) s.memory)) (sym free) (subst (λ l. IsTrue (glance_result (binner_ready l (free_in s.units.qpus)) s.memory)) (sym here) ready))
 
 pub returns : goal.returns
 returns g c =

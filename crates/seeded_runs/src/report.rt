@@ -1,12 +1,12 @@
-//! What is told of runs.
+//! What is reported of runs.
 ghost use Rattle.std.specs.Prelude.{◌≡◌, ◌⊎◌, ◌≤◌, ◌<◌, ◌^◌, ◌+◌, IfOk, IsOk};
 ghost use Rattle.field_words.specs.Questions.{Answers};
 ghost use Rattle.job_check.specs.Whole.{all_questions};
 ghost use Rattle.job_format.specs.File.{IsFileOf};
 ghost use Rattle.job_format.specs.Reading.{file_at};
 ghost use Rattle.job_safety.specs.Accepted.{IsAccepted};
-ghost use Rattle.seeded_runs.specs.declared.told.Look.TheVariants.{Steps, Accesses, Picture, Seeds};
-ghost use Rattle.seeded_runs.specs.Told.{seed_text, IsStepText, IsAccessText, IsPictureText, IsSeedLine, IsLookText, IsTold, IsTrialWithin};
+ghost use Rattle.seeded_runs.specs.declared.report.Look.TheVariants.{Steps, Accesses, Picture, Seeds};
+ghost use Rattle.seeded_runs.specs.Report.{seed_text, IsStepText, IsAccessText, IsPictureText, IsSeedLine, IsLookText, IsReported, IsTrialWithin};
 
 use crate::seeded::{log_of, run_of};
 use buffer_table::{Buffer, Regions};
@@ -21,7 +21,7 @@ use replay::{Trace, UnitKind};
 use run_text::log_text;
 use std::alloc::{AllocError, Global};
 
-/// What is told of a run, or of many.
+/// What is reported of a run, or of many.
 #[derive(Clone, Copy, Debug, PartialEq, Eq)]
 pub enum Look {
     /// A line for each step.
@@ -99,7 +99,7 @@ fn picture_text(
     Ok(text)
 }
 
-#[tactic(auto, unfolding(crate::specs::Told::seed_text))]
+#[tactic(auto, unfolding(crate::specs::Report::seed_text))]
 fn seed_text(alloc: Global, seed: u64, trace: &Trace) -> Result<Vec<u8>, AllocError>
     ensures { IfOk result (λ text. text.items ≡ seed_text seed trace.now) }
 {
@@ -142,7 +142,7 @@ fn seeds_text(
 
 // The text of the steps of a run of the file's machine.
 #[tactic(auto, using(crate::proofs::Moving::step_moved))]
-fn steps_told(alloc: Global, bytes: &[u8], trial: Trial) -> Result<Vec<u8>, Stop<Refusal>>
+fn steps_report(alloc: Global, bytes: &[u8], trial: Trial) -> Result<Vec<u8>, Stop<Refusal>>
     requires { trial.steps ≤ 1000000 }
     ensures answers { Answers (all_questions bytes.now)
         (λ out. IsLookText (file_at bytes.now) Steps trial.favoured trial.steps trial.seed out.items) result }
@@ -154,7 +154,7 @@ fn steps_told(alloc: Global, bytes: &[u8], trial: Trial) -> Result<Vec<u8>, Stop
     Ok(step_text(alloc, version, machine, trial)?)
 }
 
-// What is told of all accesses of a run of an accepted file's machine: a line for each, or a picture.
+// What is reported of all accesses of a run of an accepted file's machine: a line for each, or a picture.
 #[tactic(auto, using(crate::proofs::Moving::access_moved, crate::proofs::Moving::picture_moved))]
 fn accesses_of(
     alloc: Global,
@@ -168,7 +168,7 @@ fn accesses_of(
     ensures { IfOk result (λ text. IsLookText (file_at bytes.now) trial.look trial.favoured
         trial.steps trial.seed text.items) }
 {
-    // No rule of the format stands of an accepted file.
+    // No rule of the format is broken by an accepted file.
     let Ok(file) = read_parts(alloc, bytes) else {
         return Err(NoMemory);
     };
@@ -187,8 +187,8 @@ fn accesses_of(
     }
 }
 
-// The same of the file's machine.
-fn accesses_told(alloc: Global, bytes: &[u8], trial: Trial) -> Result<Vec<u8>, Stop<Refusal>>
+// The report of all accesses of the file's machine.
+fn accesses_report(alloc: Global, bytes: &[u8], trial: Trial) -> Result<Vec<u8>, Stop<Refusal>>
     requires few { trial.steps ≤ 1000000 }
     requires look { (trial.look ≡ Accesses) ⊎ (trial.look ≡ Picture) }
     ensures answers { Answers (all_questions bytes.now)
@@ -199,19 +199,19 @@ fn accesses_told(alloc: Global, bytes: &[u8], trial: Trial) -> Result<Vec<u8>, S
     Ok(accesses_of(alloc, bytes, accepted, trial)?)
 }
 
-/// What is told of runs of these bytes, a job file, by the script of a seed or of many. `Ok` comes exactly where no rule stands of them.
+/// What is reported of runs of these bytes, a job file, by the script of a seed or of many. `Ok` comes exactly where no rule is broken by them.
 ///
 /// # Errors
-/// The first rule that stands, by its letter, its number and its place in the bytes; or want of memory.
-pub fn told_text(alloc: Global, trial: Trial, bytes: &[u8]) -> Result<Vec<u8>, Stop<Refusal>>
+/// The first broken rule, by its letter, its number and its place in the bytes; or want of memory.
+pub fn report_text(alloc: Global, trial: Trial, bytes: &[u8]) -> Result<Vec<u8>, Stop<Refusal>>
     requires { IsTrialWithin trial }
     ensures answers { Answers (all_questions bytes.now)
-        (λ text. IsTold (file_at bytes.now) trial text.items) result }
+        (λ text. IsReported (file_at bytes.now) trial text.items) result }
     ensures spelled { IsOk result → IsFileOf bytes.now (file_at bytes.now) }
 {
     match trial.look {
-        Look::Steps => steps_told(alloc, bytes, trial),
-        Look::Accesses | Look::Picture => accesses_told(alloc, bytes, trial),
+        Look::Steps => steps_report(alloc, bytes, trial),
+        Look::Accesses | Look::Picture => accesses_report(alloc, bytes, trial),
         Look::Seeds(count) => seeds_text(alloc, bytes, trial, count),
     }
 }

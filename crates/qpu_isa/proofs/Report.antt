@@ -4,7 +4,7 @@ use Rattle.std.proofs.lemmas.Bool.Decides.{nat_tests}
 use Rattle.std.proofs.lemmas.Bool.{eqb-true, cases_Bool, leb-true, leb-false}
 use Rattle.std.specs.{declared.option.Option.Option, declared.option.Option.TheVariants.None, declared.option.Option.TheVariants.Some}
 use Rattle.qpu_isa.specs.Terms.{reads_uniform_of, is_alu, is_branch, has_small, names, add_names_reg, mul_names_reg, add_names, mul_names, is_tmu_address, add_writes_tmu, mul_writes_tmu, first_tmu, target_of}
-use Rattle.qpu_isa.specs.Told.{takes_uniform, names_written, is_named, tmu_written, tmu_at, first_given, TermsAgree, TargetsAreSums}
+use Rattle.qpu_isa.specs.Report.{takes_uniform, names_written, is_named, tmu_written, tmu_at, first_given, TermsAgree, TargetsAreSums}
 use Rattle.qpu_isa.specs.{declared.inst.Inst.Inst, declared.inst.Reg.Reg, Inst.alu_of, Inst.load_imm_of, Inst.branch_of, Inst.inst_of}
 use Rattle.qpu_isa.specs.declared.inst.Reg.TheVariants.{A, B, Acc}
 use Rattle.qpu_isa.specs.Word.{imm_of, sig_of, ws_of, waddr_add_of, waddr_mul_of}
@@ -107,9 +107,9 @@ tmu_agrees word true branches is other =
 tmu_agrees word false true is other = branch_writes word (is_a_branch word other)
 tmu_agrees word false false is other = units_write word (no_branch word other)
 
-pub told_agrees : TermsAgree
+pub report_agrees : TermsAgree
 unfolding chosen inst_of
-told_agrees word small = record {
+report_agrees word small = record {
   uniform = uniform_agrees word (sig_of word == 14) (sig_of word == 15) refl refl;
   named = λ reg. named_agrees word reg (sig_of word == 14) (sig_of word == 15) refl refl;
   tmu = tmu_agrees word (sig_of word == 14) (sig_of word == 15) refl refl;

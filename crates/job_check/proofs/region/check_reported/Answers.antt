@@ -4,7 +4,7 @@ use Rattle.field_words.proofs.Questions.{answers_later, refuses_front}
 use Rattle.job_format.specs.Parts.{parts_view}
 use Rattle.job_check.specs.{Faults.shaders_stage, Faults.job_stages}
 use Rattle.job_check.proofs.Order.{exits}
-use Rattle.job_check.proofs.region.check_told.Goals as goal
+use Rattle.job_check.proofs.region.check_reported.Goals as goal
 
 pub returns-clause-answers : goal.returns-clause-answers
 returns-clause-answers c = λ checked.

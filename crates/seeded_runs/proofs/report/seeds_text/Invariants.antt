@@ -4,8 +4,8 @@ use Rattle.field_words.specs.Questions.{first_of}
 use Rattle.job_check.specs.Whole.{all_questions}
 use Rattle.job_format.specs.{File.IsFileOf, Reading.file_at}
 use Rattle.job_safety.specs.Accepted.{machine_of}
-use Rattle.seeded_runs.specs.Told.{AreSeedLines}
-use Rattle.seeded_runs.proofs.told.seeds_text.Given as goal
+use Rattle.seeded_runs.specs.Report.{AreSeedLines}
+use Rattle.seeded_runs.proofs.report.seeds_text.Given as goal
 
 abbrev pub invariant-loop-n : goal.invariant-loop-n
 invariant-loop-n l = record {

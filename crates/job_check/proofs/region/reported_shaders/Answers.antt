@@ -4,7 +4,7 @@ use Rattle.shader_records.specs.Inputs.{shaders_view, AreShaped}
 use Rattle.shader_records.proofs.Shaders.{all_shaped}
 use Rattle.job_check.specs.{Shaders.table_of, Shaders.AreShadersIn, Faults.shaders_stage}
 use Rattle.job_check.proofs.Order.{ok_of}
-use Rattle.job_check.proofs.region.told_shaders.Goals as goal
+use Rattle.job_check.proofs.region.reported_shaders.Goals as goal
 
 pub returns-in-None-clause-shaped : goal.returns-in-None-clause-shaped
 returns-in-None-clause-shaped c =

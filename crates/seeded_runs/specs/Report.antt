@@ -1,4 +1,4 @@
--- What is told of runs of an accepted file's machine: the steps, all accesses, a picture of these, or how each of many runs ended.
+-- What is reported of runs of an accepted file's machine: the steps, all accesses, a picture of these, or how each of many runs ended.
 use Rattle.std.specs.Prelude.{◌≡◌, ℕ, zero, suc, ◌+◌, ◌≤◌, ◌<◌, ◌^◌, List, [], ◌++◌, length, codes, Option, decimal}
 use Rattle.buffer_table.specs.{declared.buffer.Buffer.Buffer, declared.buffer.Regions.Regions}
 use Rattle.job_format.specs.Model.{FileModel}
@@ -11,8 +11,8 @@ use Rattle.dumper.specs.Trace.{trace_text, ending_text}
 use Rattle.run_text.specs.Log.{log_text}
 use Rattle.pictures.specs.Run.{run_picture}
 use Rattle.pictures.specs.Forest.{forest_text}
-use Rattle.seeded_runs.specs.declared.told.Look.TheVariants.{Steps, Accesses, Picture, Seeds}
-use Rattle.seeded_runs.specs.{declared.told.Look.Look, declared.told.Trial.Trial, Seeded.Picks, Seeded.Gives}
+use Rattle.seeded_runs.specs.declared.report.Look.TheVariants.{Steps, Accesses, Picture, Seeds}
+use Rattle.seeded_runs.specs.{declared.report.Look.Look, declared.report.Trial.Trial, Seeded.Picks, Seeded.Gives}
 
 -- The text is that of the run which the script of the seed gives from this state, of at most so many steps.
 pub record IsStepText (version : ℕ) (machine : State) (favoured : Option UnitKind) (steps seed : ℕ) (text : List ℕ) : Type 0 where
@@ -58,9 +58,9 @@ IsLookText f Accesses favoured steps seed text = IsAccessText f.regions f.buffer
 IsLookText f Picture favoured steps seed text = IsPictureText f.mem_size f.regions f.buffers (layouts_of f) (machine_of f) favoured steps seed text
 IsLookText f (Seeds count) favoured steps seed text = AreSeedLines (machine_of f) favoured steps seed count text
 
--- what is told of an accepted file
-abbrev pub IsTold : FileModel → Trial → List ℕ → Type 0
-IsTold f trial text = IsLookText f trial.look trial.favoured trial.steps trial.seed text
+-- what is reported of an accepted file
+abbrev pub IsReported : FileModel → Trial → List ℕ → Type 0
+IsReported f trial text = IsLookText f trial.look trial.favoured trial.steps trial.seed text
 
 -- the most seeds of a trial
 abbrev pub most_seeds : ℕ
