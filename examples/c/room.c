@@ -74,10 +74,10 @@ int main(int count, char **words) {
         size_t length = fread(bytes, 1, sizeof bytes, file);
         fclose(file);
         if (!all_hold(length, changes)) {
-            printf("%s: the told room is not enough, or the answers differ\n", words[i]);
+            printf("%s: the reported room is not enough, or the answers differ\n", words[i]);
             return 1;
         }
     }
-    printf("%ld jobs asked in the told room, %ld accepted, %ld left out; at most %zu %% of it was taken\n", asked, accepted, left_out, most_share);
+    printf("%ld jobs asked in the reported room, %ld accepted, %ld left out; at most %zu %% of it was taken\n", asked, accepted, left_out, most_share);
     return 0;
 }

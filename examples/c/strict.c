@@ -36,7 +36,7 @@ int main(int count, char **words) {
         else if (status == VC4CHECK_REFUSED) printf("refused %c%u at %llu\n", (char)answer.letter, answer.number, (unsigned long long)answer.offset);
         else return 5;
         if (status == VC4CHECK_ACCEPTED && !refuses_crossing(length)) {
-            printf("%s: a slot across a multiple of 256 MiB isn't told\n", words[i]);
+            printf("%s: a slot across a multiple of 256 MiB isn't reported\n", words[i]);
             return 1;
         }
     }

@@ -12,7 +12,7 @@
 
 static uint times;
 module_param(times, uint, 0444);
-MODULE_PARM_DESC(times, "how many calls of each kind are timed for each example, of which the quickest is told");
+MODULE_PARM_DESC(times, "how many calls of each kind are timed for each example, of which the quickest is reported");
 
 enum { WINDOW = 1 << 20, KNOWN = 4096, UNSET = 0xa5 };
 

@@ -2,7 +2,7 @@
  * each job of the program that runs through the checker: vc4check_make_shader where it makes a shader, vc4check_submit where it submits.
  * Nothing is drawn: a job is checked and then counts as done.
  *
- * Environment: VC4CHECK_SAVE=FOLDER  writes each job as a job file, FOLDER/PID-NUMBER.vc4j, and beside it, .told, what the call said of it
+ * Environment: VC4CHECK_SAVE=FOLDER  writes each job as a job file, FOLDER/PID-NUMBER.vc4j, and beside it, .answer, what the call said of it
  *              VC4CHECK_STRICT=1     refuses a refused job with EINVAL, as the kernel does
  *              VC4CHECK_QUIET=1      no line for an accepted job
  */
@@ -169,7 +169,7 @@ static void save(const struct vc4check_submission *submission, uint32_t status, 
                  (unsigned long long)place_in_job_file(submission, verdict));
     snprintf(name, sizeof name, "%s/%d-%05u.vc4j", folder, (int)getpid(), jobs);
     write_whole(name, file, length);
-    strcpy(strrchr(name, '.'), ".told");
+    strcpy(strrchr(name, '.'), ".answer");
     write_whole(name, report, strlen(report));
     free(file);
 }

@@ -134,7 +134,7 @@ TILING is t or lt. CPP is the number of bytes of a pixel: 1, 2, 4 or 8. WIDTH an
 
 const LEVEL: Usage = (
     "level P0 P1 P2 P3 FACE LEVEL [FILE]",
-    "Reads a buffer of at most 24 MiB and writes the pixels of a level of the texture in it, or the first rule that stands.
+    "Reads a buffer of at most 24 MiB and writes the pixels of a level of the texture in it, or the first broken rule.
 P0 to P3 are the texture's set-up words, FACE its face and LEVEL its level; each is a number from 0 to 4294967295.",
 );
 

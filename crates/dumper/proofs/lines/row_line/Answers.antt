@@ -9,4 +9,4 @@ returns c =
     let row = c.args.row.now in
     c.put_digits-2.ensures
     ∙ ap (λ line. with_bytes line 9 (encode_lower row)) (c.put_digits.ensures ∙ ap (λ bytes. with_bytes empty_line 0 (encode_lower bytes)) c.to_be_bytes.ensures)
-    ∙ line_is c.args.place row (omega (arith, c.ranges.place.fits)) c.report-row
+    ∙ line_is c.args.place row (omega (arith, c.ranges.place.fits)) c.told-row
