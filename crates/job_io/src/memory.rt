@@ -80,8 +80,11 @@ impl Source for MemSource {
         ensures count { IfOk result (λ n. n
             ≡ min self.old.piece (min (length buf.new) (length self.old.left))) }
         ensures err { OnErr result (self.new
-            ≡ record self.old { call = count_after self.old.call; faults = count_after
-            self.old.faults }) }
+            ≡ record self.old {
+              call = count_after self.old.call;
+              faults = count_after
+                  self.old.faults;
+            }) }
         ensures ok { IfOk result (λ n. self.new
             ≡ record self.old { call = count_after self.old.call; left = drop n self.old.left }) }
     {
@@ -185,8 +188,11 @@ impl Sink for MemSink {
             ⊎ (self.old.room < min self.old.piece (length part.now))) }
         ensures count { IfOk result (λ n. n ≡ min self.old.piece (length part.now)) }
         ensures err { OnErr result (self.new
-            ≡ record self.old { call = count_after self.old.call; faults = count_after
-            self.old.faults }) }
+            ≡ record self.old {
+              call = count_after self.old.call;
+              faults = count_after
+                  self.old.faults;
+            }) }
         ensures room { IfOk result (λ n. self.new.room ≡ self.old.room - n) }
         ensures ok { OnOk result (self.new
             ≡ record self.old {

@@ -279,8 +279,8 @@ pub end_refused : (r : Run) (desk : Desk) (job : ℕ) → job < 32 → slice_ind
     → (Err 2 ≡ end_answer r job) × Agrees (after r (End job)) desk
 unfolding after end_answer
 end_refused r desk job low none agrees =
-    let answer : run.end_answer_of (free_count (run.ended r job)) (r.held job) ≡ Err 2 =
-    ap (run.end_answer_of (free_count (run.ended r job))) (idle (r.held job) (slice_index desk.newest job) (slice_index desk.used job) (agrees.newest job low) none) in
+    let answer : run.end_answer_of (free_count (run.after_end r job)) (r.held job) ≡ Err 2 =
+    ap (run.end_answer_of (free_count (run.after_end r job))) (idle (r.held job) (slice_index desk.newest job) (slice_index desk.used job) (agrees.newest job low) none) in
     (sym answer, rw answer agrees)
 
 ended_newest : (r : Run) (desk : Desk) (job : ℕ) → Agrees r desk → (other : ℕ) → other < 32 → (b : Bool) → (other == job) ≡ b
@@ -313,7 +313,7 @@ abbrev pub with_owners : Desk → ℕ → List ℕ → Desk
 with_owners desk job owners = record { slots = desk.slots; owners = owners; newest = slice_set desk.newest job 0; used = desk.used }
 
 end_agrees : (r : Run) (desk : Desk) (job : ℕ) (owners : List ℕ) → AreFreed (job + 1) desk.owners owners → length owners ≡ 32 → Agrees r desk
-    → Agrees (run.ended r job) (with_owners desk job owners)
+    → Agrees (run.after_end r job) (with_owners desk job owners)
 end_agrees r desk job owners freed size agrees = record {
   slots = agrees.slots;
   few = agrees.few;
@@ -337,9 +337,9 @@ pub end_done : (r : Run) (desk : Desk) (job count : ℕ) (owners : List ℕ) →
 unfolding after end_answer
 end_done r desk job count owners low some freed size counted agrees =
     let after_end = end_agrees r desk job owners freed size agrees in
-    let answer : run.end_answer_of (free_count (run.ended r job)) (r.held job) ≡ Ok count =
-    some_end (free_count (run.ended r job)) (r.held job) (slice_index desk.newest job) (slice_index desk.used job) (agrees.newest job low) some
-    ∙ ap (λ n. Ok n) (sym (counted ∙ count_free (run.ended r job) (with_owners desk job owners) after_end)) in
+    let answer : run.end_answer_of (free_count (run.after_end r job)) (r.held job) ≡ Ok count =
+    some_end (free_count (run.after_end r job)) (r.held job) (slice_index desk.newest job) (slice_index desk.used job) (agrees.newest job low) some
+    ∙ ap (λ n. Ok n) (sym (counted ∙ count_free (run.after_end r job) (with_owners desk job owners) after_end)) in
     (sym answer, rw answer after_end)
 
 replicate_zero : (n k : ℕ) → slice_index (replicate n 0) k ≡ 0

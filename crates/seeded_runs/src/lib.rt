@@ -1,8 +1,8 @@
 //! Runs of an accepted file's machine by the scripts of seeds, and what is reported of them.
 #![tactic(auto)]
 
-mod seeded;
 mod report;
+mod seeded;
 
-pub use seeded::{log_of, run_of};
 pub use report::{Look, Trial, report_text};
+pub use seeded::{log_of, run_of};

@@ -229,7 +229,7 @@ act_stays who P s words m (TileRenderingMode address width height bits) all = al
 act_stays who P s words m (ClearColors first second z stencil) all = all s.renderer s.semaphore
 act_stays who P s words m (TileCoordinates x y) all = waiting_loaded who P s.renderer.waiting s.renderer.frame x y (renderer.at_tile s x y) m (all (record (s.renderer) { x = x; y = y; waiting = None }) s.semaphore)
 
-acted_stays : (who : Who) (P : Lists → Type 0) (s : Lists) (words m : List ℕ) (packet : Option Packet) → Stays P s → Comes who P (renderer.acted s words packet) m
+acted_stays : (who : Who) (P : Lists → Type 0) (s : Lists) (words m : List ℕ) (packet : Option Packet) → Stays P s → Comes who P (renderer.plan_of_packet s words packet) m
 acted_stays who P s words m None all = tt
 acted_stays who P s words m (Some packet) all = act_stays who P s words m packet all
 
@@ -256,8 +256,8 @@ vertex_fits : (who : Who) (K : List ℕ → Type 0) (IsOwn : Home → Type 0) (p
 unfolding renderer.vertex_plan
 vertex_fits who K IsOwn program s item words m all =
     let plan = fetch_plan item.primitive item.word (word_at words 1 % item.primitive.length) in
-    keeps_if who AnyLook AnyAccess (λ k turned. TurnedFits K IsOwn program turned) m (item.primitive.length == 0) (Done (quiet s)) (plan_mapped (renderer.fetched s) plan) (λ on. (all, tt))
-    (λ off. comes_any who (TurnedFits K IsOwn program) (renderer.fetched s) (λ index. (all, tt)) plan m)
+    keeps_if who AnyLook AnyAccess (λ k turned. TurnedFits K IsOwn program turned) m (item.primitive.length == 0) (Done (quiet s)) (plan_mapped (renderer.item_fetched s) plan) (λ on. (all, tt))
+    (λ off. comes_any who (TurnedFits K IsOwn program) (renderer.item_fetched s) (λ index. (all, tt)) plan m)
 
 choice_fits : (who : Who) (K : List ℕ → Type 0) (IsOwn : Home → Type 0) (s : Lists) (free : Free) (words m : List ℕ) (sub : SubList) (found : Found) → K m → WordsFit K (WordFits K IsOwn) s → WordFits K IsOwn found.item.word
     → Comes who (TurnedFits K IsOwn (program_by words)) (renderer.choice_plan s free words sub found) m

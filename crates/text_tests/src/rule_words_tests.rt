@@ -62,7 +62,12 @@ fn small_file() -> [u8; 243] {
 }
 
 /// The place of this refusal in the first `size` bytes of that file, as text.
-fn report(alloc: Global, size: usize, rule: (Stage, u8), offset: u64) -> Result<String, AllocError> {
+fn report(
+    alloc: Global,
+    size: usize,
+    rule: (Stage, u8),
+    offset: u64,
+) -> Result<String, AllocError> {
     let bytes = small_file();
     let (stage, number) = rule;
     let rule = Rule { stage, number };
