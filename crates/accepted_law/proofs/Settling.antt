@@ -72,7 +72,7 @@ unfolding shaders_stage shader_stage
 code_at f none number inside is =
     let here = each_none (shader_stage f) 0 (length f.buffers) number none (omega arith) (omega (arith, inside)) in
     code_none (buffer_at f.buffers number).kind (content_of f number) is
-    (none_answered (shader_refused f number) (shader_questions_in (buffer_at f.buffers number).kind (content_of f number)) here)
+    (none_answered (shader_refused number) (shader_questions_in (buffer_at f.buffers number).kind (content_of f number)) here)
 
 -- What is reported of a shader without faults is sound.
 pub code_rules : (content : List ℕ) → first_of (code_questions content) ≡ None → first_of (shader_questions (words_of content)) ≡ None
@@ -107,7 +107,7 @@ shaders_are f none = record {
 pub handles_clear : (f : FileModel) (j : ℕ) → j < length f.jobs → first_of (place_stages f) ≡ None → first_of (handles_questions (table_of f) (job_of f j).client (job_of f j).handles) ≡ None
 unfolding handles_stage
 handles_clear f j inside none =
-    none_answered (handle_refused f j) (handles_questions (table_of f) (job_of f j).client (job_of f j).handles) (none_in f j inside none).handles
+    none_answered (handle_refused j) (handles_questions (table_of f) (job_of f j).client (job_of f j).handles) (none_in f j inside none).handles
 
 handles_none : (f : FileModel) (j : ℕ) → first_of (handles_stage f j) ≡ None → AreNumbersOf (table_of f) (job_of f j).handles
 unfolding handles_stage
@@ -123,7 +123,7 @@ records_none f j none some = grind (arith, common_steps, nat_tests, none_answere
 
 surfaces_none : (f : FileModel) (j : ℕ) → first_of (surfaces_stage f j) ≡ None → first_of (surface_faults (job_of f j).frame (grid_of f j) (table_of f) (job_of f j).handles) ≡ None
 unfolding surfaces_stage
-surfaces_none f j none = none_answered (surface_refused f j) (surface_faults (job_of f j).frame (grid_of f j) (table_of f) (job_of f j).handles) none
+surfaces_none f j none = none_answered (surface_refused j) (surface_faults (job_of f j).frame (grid_of f j) (table_of f) (job_of f j).handles) none
 
 lists_fit : (f : FileModel) (j : ℕ) → first_of (layout_stage f j) ≡ None → (layout_of f j).place + (layout_of f j).end ≤ region_end f.regions
 unfolding layout_stage

@@ -26,7 +26,7 @@ pub record HandlesFit (f : FileModel) (j at : ℕ) : Type 0 where
 handles_fit : (f : FileModel) (j at word : ℕ) → first_of (record_questions f j at word) ≡ None → HandlesFit f j at
 unfolding record_questions use_questions
 handles_fit f j at word none =
-    let front = front_none (use_questions f j at) (with_answers (selection_refused f j (record_at at word)) (selection_questions (job_of f j).records (record_at at word) (attribute_count word))) none in
+    let front = front_none (use_questions f j at) (with_answers (selection_refused j (record_at at word)) (selection_questions (job_of f j).records (record_at at word) (attribute_count word))) none in
     let broken = none_broken (use_questions f j at) front in
     record { fragment = broken.0; vertex = broken.1.0; coordinate = broken.1.1.0 }
 

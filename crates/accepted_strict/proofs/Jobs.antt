@@ -30,7 +30,7 @@ is_strict f j code strict is =
     let all : first_of (codes_stage f) ≡ None = front_none (codes_stage f) (each (job_stages f) 0 (length f.jobs)) strict in
     let one : first_of (code_stage f b) ≡ None = each_none (code_stage f) 0 (length f.buffers) b all (omega arith) (omega (arith, inside)) in
     let asked : first_of (code_questions_in (buffer_at f.buffers b).kind (content_of f b)) ≡ None =
-    none_answered (code_refused f b) (code_questions_in (buffer_at f.buffers b).kind (content_of f b)) one in
+    none_answered (code_refused b) (code_questions_in (buffer_at f.buffers b).kind (content_of f b)) one in
     subst IsStrict (sym is.is) (subst (λ (kind : Kind). first_of (code_questions_in kind (content_of f b)) ≡ None) of.kind_is asked)
 
 draws_strict : (f : FileModel) (j : ℕ) (m : List ℕ) (word : ℕ) (packet : List ℕ) → j < length f.jobs → FileStrict f → DrawShaders f j m word packet → selects_missing m word ≡ false → DrawStrict (file_rights f) (plain_of f) m j word packet

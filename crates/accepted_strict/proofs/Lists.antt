@@ -30,7 +30,7 @@ unfolding strict_stages job_stages list_stage
 source_strict f j strict inside =
     let jobs = rest_none (codes_stage f) (each (job_stages f) 0 (length f.jobs)) strict in
     let one = each_none (job_stages f) 0 (length f.jobs) j jobs (omega arith) (omega (arith, inside)) in
-    none_answered (list_refused f j) (list_questions (job_of f j).bin) (front_none (list_stage f j) (records_stage f j) one)
+    none_answered (list_refused j) (list_questions (job_of f j).bin) (front_none (list_stage f j) (records_stage f j) one)
 
 -- the emitted one
 walked : (f : FileModel) (j : ℕ) (m : List ℕ) → Grounds f j m → has_bin f j ≡ true → IsWalked (job_of f j).bin (job_of f j).declared (table_of f) (job_of f j).handles (layout_of f j)

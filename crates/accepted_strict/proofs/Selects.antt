@@ -131,7 +131,7 @@ source_selects f j k strict inside below =
     let asked = record_asked f j k 0 0 input.states refl refl (omega arith) below (job_asked f j strict inside) in
     let questions = selection_questions (job_of f j).records (record_at at word) (attribute_count word) in
     none_past (job_of f j).records (record_at at word) (attribute_count word)
-    (none_answered (selection_refused f j (record_at at word)) questions (rest_none (use_questions f j at) (with_answers (selection_refused f j (record_at at word)) questions) asked))
+    (none_answered (selection_refused j (record_at at word)) questions (rest_none (use_questions f j at) (with_answers (selection_refused j (record_at at word)) questions) asked))
 
 found_in : (f : FileModel) (j word : ℕ) (state : State) → IsStateAt (layout_of f j) 0 (states_in f j) word state → StateFound (input_for f j) (layout_of f j) word state
 unfolding input_for

@@ -2,7 +2,7 @@
 use Rattle.std.specs.Prelude.{◌≡◌, ◌≤◌, ℕ, zero, suc, ◌+◌, ◌-◌, ◌/◌, ◌==◌, Bool, List, [], ◌++◌, length, take, drop, replicate, slice_index_or, codes, false, if◌then◌else◌}
 use Rattle.std.specs.{List.list_all, Fmt.digits, Fmt.decimal}
 use Rattle.hex.specs.Hex.{encode_lower}
-use Rattle.job_format.specs.{declared.rule.Refusal.Refusal, Rules.rule_text}
+use Rattle.job_format.specs.{declared.rule.Refusal.Refusal, Places.offset_of, Rules.rule_text}
 use Rattle.relocation.specs.{declared.layout.Layout.Layout, declared.layout.Lengths.Lengths}
 
 -- a place: eight hexadecimal digits, and more where it needs more
@@ -90,6 +90,6 @@ pub record AreOfVersion (version : ℕ) (layouts : List Layout) (lengths : List 
   pub one_job : version ≡ 1 → length layouts ≡ 1
   pub each_job : length lengths ≡ length layouts
 
--- what is printed of a refusal: the rule, and the place in the file that it is about
-unfoldable pub refused_text : Refusal → List ℕ
-refused_text refusal = codes "refused " ++ (rule_text refusal.rule ++ (codes " at " ++ (decimal refusal.offset ++ codes "\n")))
+-- what is printed of a refusal of a file of these bytes: the rule, and the offset of what it is about
+unfoldable pub refused_text : List ℕ → Refusal → List ℕ
+refused_text bytes refusal = codes "refused " ++ (rule_text refusal.rule ++ (codes " at " ++ (decimal (offset_of bytes refusal.place) ++ codes "\n")))

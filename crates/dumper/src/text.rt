@@ -3,7 +3,7 @@ ghost use Rattle.std.specs.Prelude.{◌≡◌, ◌<◌, ◌++◌, length, IfOk, 
 ghost use Rattle.dumper.specs.Text.{place_text, list_line, slot_line, layout_text, lines_of, job_line, jobs_text, layouts_text, head_text, AreOfVersion, refused_text};
 
 use field_words::NoMemory;
-use job_format::Refusal;
+use job_format::{Refusal, offset_of};
 use relocation::{Layout, Lengths};
 use std::alloc::{AllocError, Global};
 
@@ -129,13 +129,13 @@ pub fn image_head(
     Ok(out)
 }
 
-/// The text of a refusal: the rule's letter and number, and the place in the file that it is about.
+/// The text of a refusal of a file of these bytes: the rule's letter and number, and the offset of what it is about.
 #[tactic(auto, unfolding(crate::specs::Text::refused_text))]
-pub fn refusal_text(alloc: Global, refusal: &Refusal) -> Result<Vec<u8>, NoMemory>
-    ensures { IfOk result (λ text. text.items ≡ refused_text refusal.now) }
+pub fn refusal_text(alloc: Global, bytes: &[u8], refusal: &Refusal) -> Result<Vec<u8>, NoMemory>
+    ensures { IfOk result (λ text. text.items ≡ refused_text bytes.now refusal.now) }
 {
     let rule = refusal.rule;
-    let offset = refusal.offset;
+    let offset = offset_of(bytes, refusal.place);
     let line = format!(in alloc; "refused {rule} at {offset}\n")?;
     Ok(line.into_bytes())
 }

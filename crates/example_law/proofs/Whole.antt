@@ -68,7 +68,7 @@ surfaces_none : (seed across down count : ℕ) → IsInRange across down count �
 unfolding surfaces_stage job_of file_of
 surfaces_none seed across down count range =
     let f = file_of seed across down count in
-    answered_none (surface_refused f 0) (surface_faults (frame_of across down) (grid_of f 0) (table_for (across * down)) (0 ∷ 1 ∷ 2 ∷ []))
+    answered_none (surface_refused 0) (surface_faults (frame_of across down) (grid_of f 0) (table_for (across * down)) (0 ∷ 1 ∷ 2 ∷ []))
     (ap (λ grid. first_of (surface_faults (frame_of across down) grid (table_for (across * down)) (0 ∷ 1 ∷ 2 ∷ []))) (grid_reported seed across down count)
     ∙ surfaces_no_fault across down count range)
 

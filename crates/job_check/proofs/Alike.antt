@@ -5,9 +5,8 @@ use Rattle.field_words.proofs.Questions.{passes, answered_none}
 use Rattle.job_format.specs.{Faults.format_questions, File.IsFileOf, File.IsWellFormed, File.Fits, File.file_upgraded, Model.FileModel}
 use Rattle.job_format.specs.{Reading.file_at, Text.file_text}
 use Rattle.job_format.proofs.Laws.{none_file, read_again}
-use Rattle.job_check.specs.Offsets.{job_offset, content_offset, shader_offset, handles_offset, bin_offset, records_offset, uniforms_offset}
 use Rattle.job_check.specs.Jobs.{job_of, slot_of, places_in, has_bin, grid_of, lists_room, lists_begin, layout_of, layouts_of, states_in, input_for, bin_list_of, records_of, streams_of, render_list_of}
-use Rattle.job_check.specs.Faults.{shader_stage, shaders_stage, handles_stage, bin_stage, part_offset, records_stage, surfaces_stage, layout_stage, lists_stages, job_stages, file_stages, stages_within, table_stage_within}
+use Rattle.job_check.specs.Faults.{shader_stage, shaders_stage, handles_stage, bin_stage, records_stage, surfaces_stage, layout_stage, lists_stages, job_stages, file_stages, stages_within, table_stage_within}
 use Rattle.job_check.specs.Emit.{lengths_of, all_lengths_of, list_parts, later_parts, memory_parts, jobs_parts, memory_of}
 use Rattle.job_check.specs.{Shaders.content_of, Shaders.shader_of, Shaders.shaders_up_to, Upgrade.AreAlike, Upgrade.UpgradeChangesNothing}
 use Rattle.job_check.specs.Whole.{format_refused, refusal_of, questions_within}
@@ -15,7 +14,7 @@ use Rattle.job_check.proofs.Layouts.{slots_for}
 
 -- No definition below these reads the version.
 rules_alike : (f : FileModel) → file_stages (file_upgraded f) ≡ file_stages f
-unfolding stages_within table_stage_within shaders_stage shader_stage shader_offset content_offset job_offset content_of job_stages handles_stage handles_offset job_of lists_stages bin_stage has_bin bin_offset records_stage part_offset records_offset uniforms_offset input_for states_in shaders_up_to shader_of surfaces_stage grid_of layout_stage layout_of lists_begin lists_room slot_of
+unfolding stages_within table_stage_within shaders_stage shader_stage content_of job_stages handles_stage job_of lists_stages bin_stage has_bin records_stage input_for states_in shaders_up_to shader_of surfaces_stage grid_of layout_stage layout_of lists_begin lists_room slot_of
 rules_alike f = refl
 
 lists_alike : (f : FileModel) → (memory_of (file_upgraded f) ≡ memory_of f) × (layouts_of (file_upgraded f) ≡ layouts_of f) × (all_lengths_of (file_upgraded f) ≡ all_lengths_of f)

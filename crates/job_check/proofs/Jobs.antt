@@ -1,9 +1,9 @@
 -- The jobs of a file.
-use Rattle.std.proofs.Common.{◌≡◌, ℕ, zero, suc, ◌+◌, ◌<◌, List, [], ◌∷◌, length, get_or, map, sym, ap, subst, arith, ◌∙◌, sum_by, take}
-use Rattle.std.proofs.{lemmas.List.Sums.sum_by_more, lemmas.List.get_or-map, lemmas.List.length-map}
+use Rattle.std.proofs.Common.{◌≡◌, ℕ, zero, suc, ◌<◌, List, [], ◌∷◌, length, get_or, map, sym, ap, subst, arith, ◌∙◌}
+use Rattle.std.proofs.{lemmas.List.get_or-map}
 use Rattle.std.specs.List.{AllByRecursion}
 use Rattle.job_format.specs.{declared.parts.JobParts.JobParts, File.IsJobWellFormed, Model.FileModel, Model.JobModel, Parts.job_parts_view}
-use Rattle.job_check.specs.{Jobs.job_of, Jobs.no_job, Offsets.parts_size}
+use Rattle.job_check.specs.{Jobs.job_of, Jobs.no_job}
 
 -- the job that is read is the file's
 pub job_is : {X : Type 0} (view : X → JobModel) (jobs : List X) (f : FileModel) (j : ℕ) (job : X) → f.jobs ≡ map view jobs → j < length jobs → job ≡ get_or jobs j job → view job ≡ job_of f j
@@ -26,10 +26,3 @@ pub limits_at : (jobs : List JobParts) (k : ℕ) (job : JobParts) → AllByRecur
 limits_at [] k job all below read = absurd (omega arith)
 limits_at (first ∷ jobs) zero job all below read = subst (λ x. IsJobWellFormed (job_parts_view x)) (sym read) all.0
 limits_at (first ∷ jobs) (suc k) job all below read = limits_at jobs k job all.1 (omega (arith, below)) read
-
--- the parts of one more job
-pub parts_more : (jobs : List JobParts) (k : ℕ) (job : JobParts) → k < length jobs → job ≡ get_or jobs k job
-    → sum_by parts_size (take (k + 1) (map job_parts_view jobs)) ≡ sum_by parts_size (take k (map job_parts_view jobs)) + parts_size (job_parts_view job)
-parts_more jobs k job below read =
-    sum_by_more parts_size (map job_parts_view jobs) k no_job (omega (arith, below, length-map jobs job_parts_view))
-    ∙ ap (λ x. sum_by parts_size (take k (map job_parts_view jobs)) + parts_size x) (get_or-map job_parts_view jobs k job no_job below ∙ sym (ap job_parts_view read))

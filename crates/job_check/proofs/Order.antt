@@ -5,10 +5,10 @@ use Rattle.std.specs.Result.{IsErrAnd}
 use Rattle.field_words.specs.{declared.stop.Stop.Stop}
 use Rattle.field_words.specs.Questions.{Question, first_of, Refuses, Answers}
 use Rattle.field_words.proofs.{Questions.first_none, Nones.front_none}
-use Rattle.job_format.specs.{Model.FileModel, declared.rule.Stage.TheVariants.X}
+use Rattle.job_format.specs.{Model.FileModel, Places.place_in, declared.rule.Stage.TheVariants.X, declared.rule.Part.TheVariants.JobEntry}
 use Rattle.relocation.specs.Layout.{region_end}
 use Rattle.job_check.specs.Faults.{refusal_by, layout_stage, table_stage, shaders_stage, jobs_stages, file_stages, stages_within}
-use Rattle.job_check.specs.{Jobs.layout_of, Region.Under, Offsets.job_offset, Offsets.layout_offset}
+use Rattle.job_check.specs.{Jobs.layout_of, Region.Under}
 
 -- What leaves by a `?` is the fault that it was.
 pub exits : {X F : Type 0} (questions : List (Question F)) (P : X → Type 0) (result : Result X (Stop F)) (stop : Stop F) → IsErrAnd result (λ e. e ≡ stop) → Refuses questions stop → Answers questions P result
@@ -21,7 +21,7 @@ unfolding layout_stage
 layout_fits f j fits = first_none (layout_stage f j) (le-ltb (region_end f.regions) ((layout_of f j).place + (layout_of f j).end) fits, tt)
 
 pub layout_over : (f : FileModel) (j : ℕ) → region_end f.regions < (layout_of f j).place + (layout_of f j).end
-    → first_of (layout_stage f j) ≡ Some (refusal_by X 1 (layout_offset (job_offset f j)))
+    → first_of (layout_stage f j) ≡ Some (refusal_by X 1 (place_in JobEntry j 12))
 unfolding layout_stage
 layout_over f j past = rw (lt-ltb (region_end f.regions) ((layout_of f j).place + (layout_of f j).end) past) refl
 

@@ -74,16 +74,16 @@ bin_questions_are v job table shaders handles layout h =
     ∙ ap (λ x. bin_questions x.bin x.declared (table_of v.file) x.handles) h.job_is
 
 bin_stage_is : (f : FileModel) (j : ℕ) → has_bin f j ≡ true
-    → bin_stage f j ≡ with_answers (bin_refused f j) (bin_questions (job_of f j).bin (job_of f j).declared (table_of f) (job_of f j).handles)
+    → bin_stage f j ≡ with_answers (bin_refused j) (bin_questions (job_of f j).bin (job_of f j).declared (table_of f) (job_of f j).handles)
 unfolding bin_stage
-bin_stage_is f j some = ap (λ b. if b then with_answers (bin_refused f j) (bin_questions (job_of f j).bin (job_of f j).declared (table_of f) (job_of f j).handles) else []) some
+bin_stage_is f j some = ap (λ b. if b then with_answers (bin_refused j) (bin_questions (job_of f j).bin (job_of f j).declared (table_of f) (job_of f j).handles) else []) some
 
 pub bin_none : (v : InView) (job : JobModel) (table : TableModel) (shaders : List (Option ShaderModel)) (handles : List ℕ) (layout : Layout) → IsContext v job table shaders handles layout
     → has_bin v.file v.number ≡ true → first_of (bin_questions job.bin job.declared table handles) ≡ None → first_of (bin_stage v.file v.number) ≡ None
 bin_none v job table shaders handles layout h some none =
     let same = bin_questions_are v job table shaders handles layout h in
     ap first_of (bin_stage_is v.file v.number some)
-    ∙ answered_none (bin_refused v.file v.number) (bin_questions (job_of v.file v.number).bin (job_of v.file v.number).declared (table_of v.file) (job_of v.file v.number).handles) (sym (ap first_of same) ∙ none)
+    ∙ answered_none (bin_refused v.number) (bin_questions (job_of v.file v.number).bin (job_of v.file v.number).declared (table_of v.file) (job_of v.file v.number).handles) (sym (ap first_of same) ∙ none)
 
 pub bin_text_is : (v : InView) (job : JobModel) (table : TableModel) (shaders : List (Option ShaderModel)) (handles : List ℕ) (layout : Layout) → IsContext v job table shaders handles layout
     → has_bin v.file v.number ≡ true → bin_text job.bin job.declared table handles layout ≡ bin_list_of v.file v.number
@@ -129,15 +129,15 @@ input_is v states job table shaders handles layout h same report =
     ∙ ap (λ l. input (states_in v.file v.number) at.records at.uniforms (table_of v.file) l shaders) (h.handles_are ∙ ap (λ x. x.handles) h.job_is)
     ∙ ap (input (states_in v.file v.number) at.records at.uniforms (table_of v.file) at.handles) (h.shaders_are ∙ report)
 
-records_stage_is : (f : FileModel) (j : ℕ) → has_bin f j ≡ true → records_stage f j ≡ with_answers (record_refused f j) (all_questions (input_for f j))
+records_stage_is : (f : FileModel) (j : ℕ) → has_bin f j ≡ true → records_stage f j ≡ with_answers (record_refused j) (all_questions (input_for f j))
 unfolding records_stage
-records_stage_is f j some = ap (λ b. if b then with_answers (record_refused f j) (all_questions (input_for f j)) else []) some
+records_stage_is f j some = ap (λ b. if b then with_answers (record_refused j) (all_questions (input_for f j)) else []) some
 
 pub records_none : (f : FileModel) (j : ℕ) → has_bin f j ≡ true → first_of (all_questions (input_for f j)) ≡ None → first_of (records_stage f j) ≡ None
-records_none f j some none = ap first_of (records_stage_is f j some) ∙ answered_none (record_refused f j) (all_questions (input_for f j)) none
+records_none f j some none = ap first_of (records_stage_is f j some) ∙ answered_none (record_refused j) (all_questions (input_for f j)) none
 
-pub records_some : (f : FileModel) (j : ℕ) (fault : RecordFault) → has_bin f j ≡ true → first_of (all_questions (input_for f j)) ≡ Some fault → first_of (records_stage f j) ≡ Some (record_refused f j fault)
-records_some f j fault some broken = ap first_of (records_stage_is f j some) ∙ answered_some (record_refused f j) (all_questions (input_for f j)) fault broken
+pub records_some : (f : FileModel) (j : ℕ) (fault : RecordFault) → has_bin f j ≡ true → first_of (all_questions (input_for f j)) ≡ Some fault → first_of (records_stage f j) ≡ Some (record_refused j fault)
+records_some f j fault some broken = ap first_of (records_stage_is f j some) ∙ answered_some (record_refused j) (all_questions (input_for f j)) fault broken
 
 pub records_are : (f : FileModel) (j : ℕ) → has_bin f j ≡ true → emitted_records (input_for f j) (streams_place (layout_of f j)) ≡ records_of f j
 unfolding records_of

@@ -37,8 +37,8 @@ first_alone : {F : Type 0} (broken : Bool) (answer : F) (rest : Option F) → (i
 first_alone true answer rest is = is
 first_alone false answer rest is = refl
 
-whole_by : (f : FileModel) (b : ℕ) (kind : Kind) (content : List ℕ) → first_of (with_answers (shader_refused f b) (shader_questions_in kind content)) ≡ None
-    → first_of (with_answers (shader_refused f b) (whole_questions_in kind content)) ≡ None
+whole_by : (f : FileModel) (b : ℕ) (kind : Kind) (content : List ℕ) → first_of (with_answers (shader_refused b) (shader_questions_in kind content)) ≡ None
+    → first_of (with_answers (shader_refused b) (whole_questions_in kind content)) ≡ None
 unfolding with_answers code_questions
 whole_by f b Plain content none = refl
 whole_by f b Code content none = first_alone _ _ _ none

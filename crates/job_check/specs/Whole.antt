@@ -9,7 +9,7 @@ use Rattle.buffer_table.specs.Table.{most_place}
 
 -- F: the format of the file
 abbrev pub format_refused : FormatFault → Refusal
-format_refused fault = refusal_by F fault.number fault.offset
+format_refused fault = refusal_by F fault.number fault.place
 
 abbrev pub format_stopped : Stop FormatFault → Stop Refusal
 format_stopped (Fault fault) = Fault (format_refused fault)

@@ -5,6 +5,8 @@ ghost use Rattle.job_format.specs.File.{IsWellFormed, IsJobWellFormed};
 ghost use Rattle.job_format.specs.Parts.{parts_view, job_parts_view};
 ghost use Rattle.buffer_table.specs.Sound.{IsSound};
 ghost use Rattle.job_format.specs.declared.rule.Stage.TheVariants.{X as StageX};
+ghost use Rattle.job_format.specs.declared.rule.Part.TheVariants.{JobEntry as JobEntryPart};
+ghost use Rattle.job_format.specs.Places.{place_in};
 ghost use Rattle.shader_records.specs.Inputs.{shaders_view, AreShaped};
 ghost use Rattle.job_check.specs.Shaders.{table_of};
 ghost use Rattle.job_check.specs.Jobs.{job_of, lists_begin, layout_of, end_of};
@@ -12,13 +14,12 @@ ghost use Rattle.job_check.specs.Context.{in_view};
 ghost use Rattle.relocation.specs.Layout.{region_end};
 ghost use Rattle.job_check.specs.Region.{region_from};
 ghost use Rattle.job_check.specs.Faults.{refusal_by, handles_stage};
-ghost use Rattle.job_check.specs.Offsets.{job_offset, layout_offset};
 
 use super::layout::{is_inside, job_layout};
-use super::refusals::{handle_refusal, layout_refusal};
+use super::refusals::refusal;
 use buffer_table::{Handles, Table};
 use field_words::Stop;
-use job_format::{FileParts, JobParts, Refusal};
+use job_format::{FileParts, JobParts, Part, Refusal, Stage};
 use qpu_isa::ShaderInfo;
 use relocation::Layout;
 use std::alloc::Global;
@@ -96,7 +97,10 @@ impl<'a, 'b> Context<'a, 'b> {
                 handles,
                 layout: job_layout(file, number, place, job),
             }),
-            Err(Stop::Fault(index)) => Err(Stop::Fault(handle_refusal(file, number, index))),
+            Err(Stop::Fault(index)) => {
+                let at = 4 * u64::from(index);
+                Err(Stop::Fault(refusal(Stage::H, 1, Part::Handles, number, at)))
+            }
             Err(Stop::NoMemory) => Err(Stop::NoMemory),
         }
     }
@@ -119,9 +123,8 @@ impl<'a, 'b> Context<'a, 'b> {
 
     /// X1: the lists end past their region.
     pub fn layout_refusal(&self) -> Refusal
-        ensures { result ≡ refusal_by StageX 1 (layout_offset
-            (job_offset self.now.file self.now.number)) }
+        ensures { result ≡ refusal_by StageX 1 (place_in JobEntryPart self.now.number 12) }
     {
-        layout_refusal(self.file, self.number)
+        refusal(Stage::X, 1, Part::JobEntry, self.number, 12)
     }
 }

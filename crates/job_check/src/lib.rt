@@ -9,6 +9,7 @@ mod context;
 mod emit;
 mod layout;
 mod lists;
+mod offsets;
 mod refusals;
 mod region;
 mod shaders;
@@ -18,7 +19,8 @@ mod whole;
 
 pub use check::{Checked, check_job};
 pub use context::job_at;
-pub use refusals::{bin_offset, content_offset, part_offset};
+pub use offsets::content_offset;
+pub use refusals::refusal;
 pub use region::{Region, check_parts};
 pub use shaders::{content_at, shader_in, words_of};
 pub use upgrade::upgrade_changes_nothing;

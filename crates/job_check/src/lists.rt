@@ -17,7 +17,7 @@ use field_words::Stop;
 use job_format::Refusal;
 use relocation::Lengths;
 use render_list::{Setup, build, check_surfaces};
-use shader_records::{RecordInfo, check_records};
+use shader_records::{Inputs, RecordInfo, check_records};
 use std::alloc::Global;
 
 impl<'a, 'b> Context<'a, 'b> {
@@ -45,11 +45,7 @@ impl<'a, 'b> Context<'a, 'b> {
             out,
         ) {
             Ok(info) => Ok(info),
-            Err(Stop::Fault(fault)) => Err(Stop::Fault(bin_refusal(
-                self.file,
-                self.number,
-                &fault,
-            ))),
+            Err(Stop::Fault(fault)) => Err(Stop::Fault(bin_refusal(self.number, &fault))),
             Err(Stop::NoMemory) => Err(Stop::NoMemory),
         }
     }
@@ -65,7 +61,7 @@ impl<'a, 'b> Context<'a, 'b> {
     {
         match check_surfaces(&self.job.frame, tiles, self.table, &self.handles) {
             Ok(setup) => Ok(setup),
-            Err(fault) => Err(Stop::Fault(surface_refusal(self.file, self.number, &fault))),
+            Err(fault) => Err(Stop::Fault(surface_refusal(self.number, &fault))),
         }
     }
 
@@ -103,12 +99,7 @@ impl<'a, 'b> Context<'a, 'b> {
     /// A and U: the shader records and uniforms of the states of the binner list, and those that the hardware is given, at
     /// their offsets. It takes no memory.
     #[tactic(auto, unfolding(crate::specs::Faults::records_stage), using(field_words::proofs::Questions::answered_none, field_words::proofs::Questions::answered_some))]
-    fn records(
-        &self,
-        alloc: Global,
-        states: &[State],
-        out: &mut [u8],
-    ) -> Result<RecordInfo, Stop<Refusal>>
+    fn records(&self, states: &[State], out: &mut [u8]) -> Result<RecordInfo, Stop<Refusal>>
         requires some { has_bin self.now.file self.now.number ≡ true }
         requires states { states.now ≡ states_in self.now.file self.now.number }
         requires room { (layout_in self.now).end ≤ length out.old }
@@ -126,23 +117,17 @@ impl<'a, 'b> Context<'a, 'b> {
         ensures takes_no_memory { result ≢ Err OutOfMemory }
     {
         let job = self.job;
-        match check_records(
-            alloc,
+        let inputs = Inputs {
             states,
-            job.records,
-            job.uniforms,
-            self.table,
-            &self.handles,
-            self.shaders,
-            &self.layout,
-            out,
-        ) {
+            records: job.records,
+            uniforms: job.uniforms,
+            table: self.table,
+            handles: &self.handles,
+            shaders: self.shaders,
+        };
+        match check_records(&inputs, &self.layout, out) {
             Ok(info) => Ok(info),
-            Err(Stop::Fault(fault)) => Err(Stop::Fault(record_refusal(
-                self.file,
-                self.number,
-                &fault,
-            ))),
+            Err(Stop::Fault(fault)) => Err(Stop::Fault(record_refusal(self.number, &fault))),
             Err(Stop::NoMemory) => Err(Stop::NoMemory),
         }
     }
@@ -177,12 +162,7 @@ impl<'a, 'b> Context<'a, 'b> {
     }
 
     /// The stages after the binner list, with what was reported of it.
-    fn after_bin(
-        &self,
-        alloc: Global,
-        bin: &BinInfo,
-        out: &mut [u8],
-    ) -> Result<Lengths, Stop<Refusal>>
+    fn after_bin(&self, bin: &BinInfo, out: &mut [u8]) -> Result<Lengths, Stop<Refusal>>
         requires some { has_bin self.now.file self.now.number ≡ true }
         requires bin { IsBinOf self.now.file self.now.number bin.now }
         requires room { (layout_in self.now).end ≤ length out.old }
@@ -199,7 +179,7 @@ impl<'a, 'b> Context<'a, 'b> {
             (list_parts self.now.file self.now.number)) }
         ensures takes_no_memory { result ≢ Err OutOfMemory }
     {
-        let records = self.records(alloc, &bin.states, out)?;
+        let records = self.records(&bin.states, out)?;
         self.after_records(bin, &records, out)
     }
 
@@ -220,7 +200,7 @@ impl<'a, 'b> Context<'a, 'b> {
         ensures memory { result ≡ Err OutOfMemory → HasStateFirst self.now.file self.now.number }
     {
         let bin = self.bin(alloc, out)?;
-        self.after_bin(alloc, &bin, out)
+        self.after_bin(&bin, out)
     }
 
     /// The stages of a job without a binner list: its records, its declared states and its uniforms are not asked, and

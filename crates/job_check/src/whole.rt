@@ -25,7 +25,7 @@ pub fn format_refusal(stop: Stop<FormatFault>) -> Stop<Refusal>
                 stage: Stage::F,
                 number: fault.number,
             },
-            offset: fault.offset,
+            place: fault.place,
         }),
         Stop::NoMemory => Stop::NoMemory,
     }

@@ -39,15 +39,15 @@ header_none bytes p =
       ),
     )
 
-entry_none : (bytes : List ℕ) (at : ℕ) → EntryPasses bytes at → first_of (entry_questions bytes at) ≡ None
+entry_none : (bytes : List ℕ) (b at : ℕ) → EntryPasses bytes at → first_of (entry_questions bytes b at) ≡ None
 unfolding entry_questions
-entry_none bytes at p =
-    first_none (entry_questions bytes at) (grind (arith, p.size), (grind (arith, p.kind), (grind (arith, p.code), tt)))
+entry_none bytes b at p =
+    first_none (entry_questions bytes b at) (grind (arith, p.size), (grind (arith, p.kind), (grind (arith, p.code), tt)))
 
-job_none : (bytes : List ℕ) (at : ℕ) → JobPasses bytes at → first_of (job_entry_questions bytes at) ≡ None
+job_none : (bytes : List ℕ) (j at : ℕ) → JobPasses bytes at → first_of (job_entry_questions bytes j at) ≡ None
 unfolding job_entry_questions
-job_none bytes at p =
-    first_none (job_entry_questions bytes at) (
+job_none bytes j at p =
+    first_none (job_entry_questions bytes j at) (
       grind (arith, p.size),
       (
         grind (arith, p.flags),
@@ -85,9 +85,9 @@ format_none bytes p =
     let inside = contents_in bytes p in
     let end = p.end in
     let entries : first_of (each (buffer_questions bytes) 0 n) ≡ None =
-    each_passes (buffer_questions bytes) 0 n (λ k from to. entry_none bytes (entry_offset k) (p.entry k (omega arith))) in
+    each_passes (buffer_questions bytes) 0 n (λ k from to. entry_none bytes k (entry_offset k) (p.entry k (omega arith))) in
     let job_entries : first_of (each (job_questions bytes) 0 jobs) ≡ None =
-    each_passes (job_questions bytes) 0 jobs (λ k from to. job_none bytes (job_offset bytes k) (p.job k (omega arith))) in
+    each_passes (job_questions bytes) 0 jobs (λ k from to. job_none bytes k (job_offset bytes k) (p.job k (omega arith))) in
     let contents : first_of (each (content_questions bytes) 0 n) ≡ None =
     each_passes (content_questions bytes) 0 n
     (λ k from to. let ends = content_ends bytes k n (omega arith) in first_none (content_questions bytes k) (le-ltb _ _ (omega arith), tt)) in

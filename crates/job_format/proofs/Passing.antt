@@ -62,20 +62,20 @@ header_passes bytes none =
       slots = slots_pass (version_in bytes) (slot_count bytes) (job_count bytes) n.1.1.1.1.1.0;
     }
 
-entry_passes : (bytes : List ℕ) (at : ℕ) → first_of (entry_questions bytes at) ≡ None → EntryPasses bytes at
+entry_passes : (bytes : List ℕ) (b at : ℕ) → first_of (entry_questions bytes b at) ≡ None → EntryPasses bytes at
 unfolding entry_questions
-entry_passes bytes at none =
-    let n = none_broken (entry_questions bytes at) none in
+entry_passes bytes b at none =
+    let n = none_broken (entry_questions bytes b at) none in
     record {
       size = grind (arith, n.0);
       kind = grind (arith, n.1.0);
       code = λ is_code. grind (arith, n.1.1.0, is_code);
     }
 
-job_passes : (bytes : List ℕ) (at : ℕ) → first_of (job_entry_questions bytes at) ≡ None → JobPasses bytes at
+job_passes : (bytes : List ℕ) (j at : ℕ) → first_of (job_entry_questions bytes j at) ≡ None → JobPasses bytes at
 unfolding job_entry_questions
-job_passes bytes at none =
-    let n = none_broken (job_entry_questions bytes at) none in
+job_passes bytes j at none =
+    let n = none_broken (job_entry_questions bytes j at) none in
     let rest = n.1.1.1.1.1 in
     let handles = handles_pass (version_in bytes) (u32_at bytes (at + 8)) n.1.1.0 in
     record {
@@ -133,10 +133,10 @@ passes_all bytes none =
     record {
       header = header;
       entry = λ b below.
-          entry_passes bytes (entry_offset b)
+          entry_passes bytes b (entry_offset b)
           (each_none (buffer_questions bytes) 0 (buffer_count bytes) b (front_none buffers (jobs_and_rest_questions bytes) body) (omega arith) (omega (arith, below)));
       job = λ j below.
-          job_passes bytes (job_offset bytes j)
+          job_passes bytes j (job_offset bytes j)
           (each_none (job_questions bytes) 0 (job_count bytes) j (front_none jobs (rest_questions bytes) after) (omega arith) (omega (arith, below)));
       end = ends_with bytes header.some_job last;
     }

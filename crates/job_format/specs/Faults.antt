@@ -4,20 +4,17 @@ use Rattle.std.specs.Prelude.{ℕ, Bool, ◌+◌, ◌%◌, not, ◌&&◌, ◌||�
 use Rattle.std.specs.Int.{from_le_bytes, w32}
 use Rattle.field_words.specs.{Words.u32_at, Sizes.most_list, Sizes.most_code, Questions.Question, Questions.Ask, Questions.each}
 use Rattle.job_format.specs.declared.rule.FormatRule.TheVariants.{NotAJobFile, EndsEarly, BytesFollow, OverLimit, WithoutMeaning, LacksSlots}
+use Rattle.job_format.specs.declared.rule.Part.TheVariants.{File, Header, Entry, JobEntry, Contents, Handles, BinnerList, Records, Uniforms}
 use Rattle.job_format.specs.Offsets.{header_size, entry_size, job_size, most_jobs, most_states, buffer_limit, handle_limit, version_in, slot_count, buffer_count, job_count, entry_offset, job_offset, content_size, content_offset, handles_offset, bin_offset, records_offset, uniforms_offset, end_offset}
-use Rattle.job_format.specs.{declared.rule.FormatFault.FormatFault, declared.rule.FormatRule.FormatRule, Rules.format_rule_number}
+use Rattle.job_format.specs.{declared.rule.FormatFault.FormatFault, declared.rule.FormatRule.FormatRule, declared.rule.Part.Part, Places.place_in, Rules.format_rule_number}
 
--- a fault by a rule at an offset in the file
-abbrev pub fault : FormatRule → ℕ → FormatFault
-fault rule offset = record { number = format_rule_number rule; offset = offset }
+-- a fault by a rule, at this byte of the part of this number
+abbrev pub fault : FormatRule → Part → (index at : ℕ) → FormatFault
+fault rule part index at = record { number = format_rule_number rule; place = place_in part index at }
 
--- F2: the file ends before the end of a part of n bytes
-abbrev pub ends_before : List ℕ → ℕ → ℕ → Question FormatFault
-ends_before bytes start n = Ask (nat_lt (length bytes) (start + n)) (fault EndsEarly start)
-
--- F4: a number is over its limit
-abbrev pub is_over : List ℕ → ℕ → ℕ → Question FormatFault
-is_over bytes at limit = Ask (nat_lt limit (u32_at bytes at)) (fault OverLimit at)
+-- F2: the file ends before the end of a part
+abbrev pub ends_before : List ℕ → (end : ℕ) → Part → (index : ℕ) → Question FormatFault
+ends_before bytes end part index = Ask (nat_lt (length bytes) end) (fault EndsEarly part index 0)
 
 -- the four letters "VC4J" as a number
 abbrev pub magic : ℕ
@@ -38,61 +35,65 @@ lacks_slots version slots jobs = version == 2 && (not (slots == 0) && nat_lt slo
 -- The header's 36 bytes: F1 the magic and the version, F4 the counts of buffers and jobs, F7 the slots.
 unfoldable pub header_questions : List ℕ → List (Question FormatFault)
 header_questions bytes =
-    ends_before bytes 0 header_size
-    ∷ (Ask (not (u32_at bytes 0 == magic)) (fault NotAJobFile 0)
-    ∷ (Ask (not (is_version (version_in bytes))) (fault NotAJobFile 4)
-    ∷ (is_over bytes 28 (buffer_limit (version_in bytes))
-    ∷ (Ask (is_miscounted (version_in bytes) (job_count bytes)) (fault OverLimit 32)
-    ∷ (Ask (lacks_slots (version_in bytes) (slot_count bytes) (job_count bytes)) (fault LacksSlots 24) ∷ [])))))
+    ends_before bytes header_size Header 0
+    ∷ (Ask (not (u32_at bytes 0 == magic)) (fault NotAJobFile Header 0 0)
+    ∷ (Ask (not (is_version (version_in bytes))) (fault NotAJobFile Header 0 4)
+    ∷ (Ask (nat_lt (buffer_limit (version_in bytes)) (buffer_count bytes)) (fault OverLimit Header 0 28)
+    ∷ (Ask (is_miscounted (version_in bytes) (job_count bytes)) (fault OverLimit Header 0 32)
+    ∷ (Ask (lacks_slots (version_in bytes) (slot_count bytes) (job_count bytes)) (fault LacksSlots Header 0 24) ∷ [])))))
 
--- A buffer entry's 20 bytes: F5 a kind that is neither Plain nor Code, F4 a shader that is too long.
-unfoldable pub entry_questions : List ℕ → ℕ → List (Question FormatFault)
-entry_questions bytes at =
-    ends_before bytes at entry_size
-    ∷ (Ask (nat_lt 1 (u32_at bytes (at + 12))) (fault WithoutMeaning (at + 12))
-    ∷ (Ask (u32_at bytes (at + 12) == 1 && nat_lt most_code (u32_at bytes (at + 16))) (fault OverLimit (at + 16)) ∷ []))
+-- The 20 bytes of the entry of buffer b, which begins at an offset: F5 a kind that is neither Plain nor Code, F4 a shader that is too long.
+unfoldable pub entry_questions : List ℕ → (b at : ℕ) → List (Question FormatFault)
+entry_questions bytes b at =
+    ends_before bytes (at + entry_size) Entry b
+    ∷ (Ask (nat_lt 1 (u32_at bytes (at + 12))) (fault WithoutMeaning Entry b 12)
+    ∷ (Ask (u32_at bytes (at + 12) == 1 && nat_lt most_code (u32_at bytes (at + 16))) (fault OverLimit Entry b 16) ∷ []))
 
--- a byte that has to be zero
-abbrev pub is_nonzero : List ℕ → ℕ → Question FormatFault
-is_nonzero bytes at = Ask (not (slice_index bytes at == 0)) (fault WithoutMeaning at)
+-- F4: a number in the entry of job j is over its limit
+abbrev pub is_over : List ℕ → (j at k limit : ℕ) → Question FormatFault
+is_over bytes j at k limit = Ask (nat_lt limit (u32_at bytes (at + k))) (fault OverLimit JobEntry j k)
 
--- A job entry's 124 bytes: F4 the sizes of its parts, F5 unknown flags, uniforms that are no
+-- F5: a byte of it that has to be zero
+abbrev pub is_nonzero : List ℕ → (j at k : ℕ) → Question FormatFault
+is_nonzero bytes j at k = Ask (not (slice_index bytes (at + k) == 0)) (fault WithoutMeaning JobEntry j k)
+
+-- The 124 bytes of the entry of job j, which begins at an offset: F4 the sizes of its parts, F5 unknown flags, uniforms that are no
 -- whole words, and the three reserved bytes.
-unfoldable pub job_entry_questions : List ℕ → ℕ → List (Question FormatFault)
-job_entry_questions bytes at =
-    ends_before bytes at job_size
-    ∷ (Ask (nat_lt 1 (u32_at bytes (at + 4))) (fault WithoutMeaning (at + 4))
-    ∷ (is_over bytes (at + 8) (handle_limit (version_in bytes))
-    ∷ (is_over bytes (at + 12) most_list
-    ∷ (is_over bytes (at + 16) most_list
-    ∷ (is_over bytes (at + 20) most_states
-    ∷ (is_over bytes (at + 24) most_list
-    ∷ (Ask (not (u32_at bytes (at + 24) % 4 == 0)) (fault WithoutMeaning (at + 24))
-    ∷ (is_nonzero bytes (at + 121)
-    ∷ (is_nonzero bytes (at + 122)
-    ∷ (is_nonzero bytes (at + 123) ∷ []))))))))))
+unfoldable pub job_entry_questions : List ℕ → (j at : ℕ) → List (Question FormatFault)
+job_entry_questions bytes j at =
+    ends_before bytes (at + job_size) JobEntry j
+    ∷ (Ask (nat_lt 1 (u32_at bytes (at + 4))) (fault WithoutMeaning JobEntry j 4)
+    ∷ (is_over bytes j at 8 (handle_limit (version_in bytes))
+    ∷ (is_over bytes j at 12 most_list
+    ∷ (is_over bytes j at 16 most_list
+    ∷ (is_over bytes j at 20 most_states
+    ∷ (is_over bytes j at 24 most_list
+    ∷ (Ask (not (u32_at bytes (at + 24) % 4 == 0)) (fault WithoutMeaning JobEntry j 24)
+    ∷ (is_nonzero bytes j at 121
+    ∷ (is_nonzero bytes j at 122
+    ∷ (is_nonzero bytes j at 123 ∷ []))))))))))
 
 -- the entry of buffer b, the entry of job j, and the contents of buffer b
 unfoldable pub buffer_questions : List ℕ → ℕ → List (Question FormatFault)
-buffer_questions bytes b = entry_questions bytes (entry_offset b)
+buffer_questions bytes b = entry_questions bytes b (entry_offset b)
 
 unfoldable pub job_questions : List ℕ → ℕ → List (Question FormatFault)
-job_questions bytes j = job_entry_questions bytes (job_offset bytes j)
+job_questions bytes j = job_entry_questions bytes j (job_offset bytes j)
 
 unfoldable pub content_questions : List ℕ → ℕ → List (Question FormatFault)
-content_questions bytes b = ends_before bytes (content_offset bytes b) (content_size bytes b) ∷ []
+content_questions bytes b = ends_before bytes (content_offset bytes b + content_size bytes b) Contents b ∷ []
 
 -- the parts of job j, one after the other
 unfoldable pub parts_questions : List ℕ → ℕ → List (Question FormatFault)
 parts_questions bytes j =
-    Ask (nat_lt (length bytes) (bin_offset bytes j)) (fault EndsEarly (handles_offset bytes j))
-    ∷ (Ask (nat_lt (length bytes) (records_offset bytes j)) (fault EndsEarly (bin_offset bytes j))
-    ∷ (Ask (nat_lt (length bytes) (uniforms_offset bytes j)) (fault EndsEarly (records_offset bytes j))
-    ∷ (Ask (nat_lt (length bytes) (end_offset bytes j)) (fault EndsEarly (uniforms_offset bytes j)) ∷ [])))
+    ends_before bytes (bin_offset bytes j) Handles j
+    ∷ (ends_before bytes (records_offset bytes j) BinnerList j
+    ∷ (ends_before bytes (uniforms_offset bytes j) Records j
+    ∷ (ends_before bytes (end_offset bytes j) Uniforms j ∷ [])))
 
 -- F3: bytes follow the last part
 unfoldable pub end_questions : List ℕ → List (Question FormatFault)
-end_questions bytes = Ask (nat_lt (handles_offset bytes (job_count bytes)) (length bytes)) (fault BytesFollow (handles_offset bytes (job_count bytes))) ∷ []
+end_questions bytes = Ask (nat_lt (handles_offset bytes (job_count bytes)) (length bytes)) (fault BytesFollow File 0 (handles_offset bytes (job_count bytes))) ∷ []
 
 -- What is asked after the contents, after the jobs' entries and after the buffers'; and all after the header.
 abbrev pub last_questions : List ℕ → List (Question FormatFault)

@@ -3,6 +3,7 @@ pub mod File
 pub mod Model
 pub mod Offsets
 pub mod Parts
+pub mod Places
 pub mod Reading
 pub mod Rules
 pub mod Text

@@ -1,12 +1,12 @@
 //! The rules of the format.
-ghost use Rattle.std.specs.Prelude.{◌≡◌, ◌+◌, ◌*◌, ◌++◌, ◌<◌, ◌≤◌, length, Some, IfNone};
+ghost use Rattle.std.specs.Prelude.{◌≡◌, ◌+◌, ◌*◌, ◌++◌, ◌<◌, ◌≤◌, ◌^◌, length, Some, IfNone};
 ghost use Rattle.field_words.specs.Words.{u32_at};
 ghost use Rattle.field_words.specs.Questions.{GoesOn, first_of, each};
 ghost use Rattle.job_format.specs.Faults.{is_version, is_miscounted, lacks_slots, header_questions, entry_questions, buffer_questions, job_entry_questions, job_questions, content_questions, parts_questions, end_questions, last_questions, rest_questions, jobs_and_rest_questions, body_questions, format_questions, fault};
 ghost use Rattle.job_format.specs.Whole.{HasHeader};
 ghost use Rattle.job_format.specs.Offsets.{header_size, entry_size, job_size, most_buffers, most_jobs, buffer_count, job_count, entry_offset, job_offset, content_size, content_offset, handles_offset};
 
-use crate::rule::{FormatFault, FormatRule};
+use crate::rule::{FormatFault, FormatRule, Part, Place};
 use crate::sizes::{
     ENTRY_SIZE, HEADER_SIZE, JOB_SIZE, MAGIC, MOST_JOBS, MOST_STATES, buffer_limit, entry_offset,
     handle_limit, job_offset,
@@ -14,19 +14,25 @@ use crate::sizes::{
 use crate::words::word;
 use field_words::{MOST_CODE, MOST_LIST};
 
-fn fault_of(rule: FormatRule, offset: usize) -> FormatFault
-    ensures { result ≡ fault rule offset }
+fn fault_of(rule: FormatRule, part: Part, index: usize, at: usize) -> FormatFault
+    requires { index < 2 ^ 32 }
+    ensures { result ≡ fault rule part index at }
 {
     FormatFault {
         number: rule.number(),
-        offset: offset as u64,
+        place: Place {
+            part,
+            index: index as u32,
+            at: at as u64,
+        },
     }
 }
 
-fn fault(rule: FormatRule, offset: usize) -> Option<FormatFault>
-    ensures { result ≡ Some (fault rule offset) }
+fn fault(rule: FormatRule, part: Part, index: usize, at: usize) -> Option<FormatFault>
+    requires { index < 2 ^ 32 }
+    ensures { result ≡ Some (fault rule part index at) }
 {
-    Some(fault_of(rule, offset))
+    Some(fault_of(rule, part, index, at))
 }
 
 #[tactic(auto, unfolding(crate::specs::Faults::is_version))]
@@ -65,88 +71,90 @@ fn header_fault(bytes: &[u8]) -> Option<FormatFault>
     ensures few_jobs { IfNone result (job_count bytes.now ≤ most_jobs) }
 {
     if bytes.len() < HEADER_SIZE {
-        return fault(FormatRule::EndsEarly, 0);
+        return fault(FormatRule::EndsEarly, Part::Header, 0, 0);
     }
     if word(bytes, 0) != MAGIC {
-        return fault(FormatRule::NotAJobFile, 0);
+        return fault(FormatRule::NotAJobFile, Part::Header, 0, 0);
     }
     let version = word(bytes, 4);
     if !is_version(version) {
-        return fault(FormatRule::NotAJobFile, 4);
+        return fault(FormatRule::NotAJobFile, Part::Header, 0, 4);
     }
     if word(bytes, 28) > buffer_limit(version) {
-        return fault(FormatRule::OverLimit, 28);
+        return fault(FormatRule::OverLimit, Part::Header, 0, 28);
     }
     let jobs = word(bytes, 32);
     if is_miscounted(version, jobs) {
-        return fault(FormatRule::OverLimit, 32);
+        return fault(FormatRule::OverLimit, Part::Header, 0, 32);
     }
     if lacks_slots(version, word(bytes, 24), jobs) {
-        return fault(FormatRule::LacksSlots, 24);
+        return fault(FormatRule::LacksSlots, Part::Header, 0, 24);
     }
     None
 }
 
-/// A buffer's entry: F2, F5 and F4.
+/// The entry of buffer `b`, which begins at `at`: F2, F5 and F4.
 #[tactic(auto, unfolding(crate::specs::Faults::entry_questions))]
-fn entry_fault(bytes: &[u8], at: usize) -> Option<FormatFault>
+fn entry_fault(bytes: &[u8], b: usize, at: usize) -> Option<FormatFault>
+    requires few { b ≤ most_buffers }
     requires before { at ≤ length bytes.now }
-    ensures first { result ≡ first_of (entry_questions bytes.now at) }
+    ensures first { result ≡ first_of (entry_questions bytes.now b at) }
     ensures inside { IfNone result (at + entry_size ≤ length bytes.now) }
 {
     if bytes.len() - at < ENTRY_SIZE {
-        return fault(FormatRule::EndsEarly, at);
+        return fault(FormatRule::EndsEarly, Part::Entry, b, 0);
     }
     let kind = word(bytes, at + 12);
     if kind > 1 {
-        return fault(FormatRule::WithoutMeaning, at + 12);
+        return fault(FormatRule::WithoutMeaning, Part::Entry, b, 12);
     }
     if kind == 1 && word(bytes, at + 16) > MOST_CODE {
-        return fault(FormatRule::OverLimit, at + 16);
+        return fault(FormatRule::OverLimit, Part::Entry, b, 16);
     }
     None
 }
 
-/// A job's entry: F2, F4 and F5.
+/// The entry of job `j`, which begins at `at`: F2, F4 and F5.
 #[tactic(auto, unfolding(crate::specs::Faults::job_entry_questions))]
-fn job_entry_fault(bytes: &[u8], at: usize) -> Option<FormatFault>
+fn job_entry_fault(bytes: &[u8], j: usize, at: usize) -> Option<FormatFault>
+    requires few { j ≤ most_jobs }
     requires header { header_size ≤ length bytes.now }
     requires before { at ≤ length bytes.now }
-    ensures first { result ≡ first_of (job_entry_questions bytes.now at) }
+    ensures first { result ≡ first_of (job_entry_questions bytes.now j at) }
     ensures inside { IfNone result (at + job_size ≤ length bytes.now) }
 {
     if bytes.len() - at < JOB_SIZE {
-        return fault(FormatRule::EndsEarly, at);
+        return fault(FormatRule::EndsEarly, Part::JobEntry, j, 0);
     }
     if word(bytes, at + 4) > 1 {
-        return fault(FormatRule::WithoutMeaning, at + 4);
+        return fault(FormatRule::WithoutMeaning, Part::JobEntry, j, 4);
     }
     if word(bytes, at + 8) > handle_limit(word(bytes, 4)) {
-        return fault(FormatRule::OverLimit, at + 8);
+        return fault(FormatRule::OverLimit, Part::JobEntry, j, 8);
     }
     if word(bytes, at + 12) > MOST_LIST {
-        return fault(FormatRule::OverLimit, at + 12);
+        return fault(FormatRule::OverLimit, Part::JobEntry, j, 12);
     }
     if word(bytes, at + 16) > MOST_LIST {
-        return fault(FormatRule::OverLimit, at + 16);
+        return fault(FormatRule::OverLimit, Part::JobEntry, j, 16);
     }
     if word(bytes, at + 20) > MOST_STATES {
-        return fault(FormatRule::OverLimit, at + 20);
+        return fault(FormatRule::OverLimit, Part::JobEntry, j, 20);
     }
     if word(bytes, at + 24) > MOST_LIST {
-        return fault(FormatRule::OverLimit, at + 24);
+        return fault(FormatRule::OverLimit, Part::JobEntry, j, 24);
     }
     if word(bytes, at + 24) % 4 != 0 {
-        return fault(FormatRule::WithoutMeaning, at + 24);
+        return fault(FormatRule::WithoutMeaning, Part::JobEntry, j, 24);
     }
     if bytes[at + 121] != 0 {
-        return fault(FormatRule::WithoutMeaning, at + 121);
+        return fault(FormatRule::WithoutMeaning, Part::JobEntry, j, 121);
     }
     if bytes[at + 122] != 0 {
-        return fault(FormatRule::WithoutMeaning, at + 122);
+        return fault(FormatRule::WithoutMeaning, Part::JobEntry, j, 122);
     }
     if bytes[at + 123] != 0 {
-        return fault(FormatRule::WithoutMeaning, at + 123);
+        return fault(FormatRule::WithoutMeaning, Part::JobEntry, j, 123);
     }
     None
 }
@@ -159,7 +167,7 @@ fn buffer_fault(bytes: &[u8], b: usize) -> Option<FormatFault>
     ensures first { result ≡ first_of (buffer_questions bytes.now b) }
     ensures inside { IfNone result (entry_offset b + entry_size ≤ length bytes.now) }
 {
-    entry_fault(bytes, entry_offset(b))
+    entry_fault(bytes, b, entry_offset(b))
 }
 
 /// The entries of so many buffers.
@@ -187,7 +195,7 @@ fn job_fault(bytes: &[u8], buffers: usize, j: usize) -> Option<FormatFault>
     ensures first { result ≡ first_of (job_questions bytes.now j) }
     ensures inside { IfNone result (job_offset bytes.now j + job_size ≤ length bytes.now) }
 {
-    job_entry_fault(bytes, job_offset(buffers, j))
+    job_entry_fault(bytes, j, job_offset(buffers, j))
 }
 
 /// The entries of so many jobs.
@@ -226,7 +234,7 @@ fn content_fault(bytes: &[u8], b: usize, at: usize) -> Result<usize, FormatFault
 {
     let size = content_size(bytes, b);
     if bytes.len() - at < size {
-        return Err(fault_of(FormatRule::EndsEarly, at));
+        return Err(fault_of(FormatRule::EndsEarly, Part::Contents, b, 0));
     }
     Ok(at + size)
 }
@@ -264,22 +272,22 @@ fn parts_fault(bytes: &[u8], buffers: usize, j: usize, at: usize) -> Result<usiz
     let job = job_offset(buffers, j);
     let handles = 4 * word(bytes, job + 8) as usize;
     if bytes.len() - at < handles {
-        return Err(fault_of(FormatRule::EndsEarly, at));
+        return Err(fault_of(FormatRule::EndsEarly, Part::Handles, j, 0));
     }
     let at = at + handles;
     let bin = word(bytes, job + 12) as usize;
     if bytes.len() - at < bin {
-        return Err(fault_of(FormatRule::EndsEarly, at));
+        return Err(fault_of(FormatRule::EndsEarly, Part::BinnerList, j, 0));
     }
     let at = at + bin;
     let records = word(bytes, job + 16) as usize;
     if bytes.len() - at < records {
-        return Err(fault_of(FormatRule::EndsEarly, at));
+        return Err(fault_of(FormatRule::EndsEarly, Part::Records, j, 0));
     }
     let at = at + records;
     let uniforms = word(bytes, job + 24) as usize;
     if bytes.len() - at < uniforms {
-        return Err(fault_of(FormatRule::EndsEarly, at));
+        return Err(fault_of(FormatRule::EndsEarly, Part::Uniforms, j, 0));
     }
     Ok(at + uniforms)
 }
@@ -315,7 +323,7 @@ fn end_fault(bytes: &[u8], at: usize) -> Option<FormatFault>
     ensures { result ≡ first_of (end_questions bytes.now) }
 {
     if at < bytes.len() {
-        return fault(FormatRule::BytesFollow, at);
+        return fault(FormatRule::BytesFollow, Part::File, 0, at);
     }
     None
 }

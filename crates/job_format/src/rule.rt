@@ -29,13 +29,46 @@ pub struct Rule {
     pub number: u8,
 }
 
-/// Why a file was refused: the first broken rule, and the offset in the file of what it is
-/// about.
+/// A part of a job file: the file as a whole, its header, the entry of a buffer or of a job, the
+/// contents of a buffer, and the four parts of a job.
 #[derive(Clone, Copy, Debug, PartialEq, Eq, Error)]
-#[error("{rule} at byte {offset} of the job file")]
+pub enum Part {
+    #[error("file")]
+    File,
+    #[error("header")]
+    Header,
+    #[error("entry")]
+    Entry,
+    #[error("job entry")]
+    JobEntry,
+    #[error("contents")]
+    Contents,
+    #[error("handles")]
+    Handles,
+    #[error("binner list")]
+    BinnerList,
+    #[error("records")]
+    Records,
+    #[error("uniforms")]
+    Uniforms,
+}
+
+/// `at` bytes into a part; of a buffer or job, that of number `index`, which is 0 for the file and
+/// the header.
+#[derive(Clone, Copy, Debug, PartialEq, Eq, Error)]
+#[error("byte {at} of {part} {index}")]
+pub struct Place {
+    pub part: Part,
+    pub index: u32,
+    pub at: u64,
+}
+
+/// Why a file was refused: the first broken rule, and the place that it is about.
+#[derive(Clone, Copy, Debug, PartialEq, Eq, Error)]
+#[error("{rule} at {place}")]
 pub struct Refusal {
     pub rule: Rule,
-    pub offset: u64,
+    pub place: Place,
 }
 
 /// The rules of the format.
@@ -71,12 +104,12 @@ impl FormatRule {
     }
 }
 
-/// The first broken format rule: F`number` at `offset` in the file.
+/// The first broken format rule: F`number`, and the place that it is about.
 #[derive(Clone, Copy, Debug, PartialEq, Eq, Error)]
-#[error("F{number} at byte {offset} of the job file")]
+#[error("F{number} at {place}")]
 pub struct FormatFault {
     pub number: u8,
-    pub offset: u64,
+    pub place: Place,
 }
 
 impl fmt::Display for Stage {

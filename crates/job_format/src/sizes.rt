@@ -1,7 +1,7 @@
 //! Sizes of the parts of a job file, in bytes, and the limits on their numbers. The definitions
 //! have the same names, in `specs/Offsets.antt`.
-ghost use Rattle.std.specs.Prelude.{◌≡◌, ◌+◌, ◌*◌, ◌≤◌};
-ghost use Rattle.job_format.specs.Offsets.{job_size, most_buffers, most_jobs, buffer_limit, handle_limit, entry_offset};
+ghost use Rattle.std.specs.Prelude.{◌≡◌, ◌+◌, ◌*◌, ◌<◌, ◌^◌};
+ghost use Rattle.job_format.specs.Offsets.{job_size, buffer_limit, handle_limit, entry_offset};
 
 /// The letters `VC4J` as a number.
 pub(crate) const MAGIC: u32 = 0x4a34_4356;
@@ -57,7 +57,7 @@ pub(crate) fn handle_limit(version: u32) -> u32
 /// Where the entry of buffer `b` begins; where `b` is the number of buffers, what follows the last
 /// entry.
 pub(crate) fn entry_offset(b: usize) -> usize
-    requires few { b ≤ most_buffers }
+    requires few { b < 2 ^ 32 }
     ensures { result ≡ entry_offset b }
 {
     HEADER_SIZE + ENTRY_SIZE * b
@@ -66,8 +66,8 @@ pub(crate) fn entry_offset(b: usize) -> usize
 /// Where the entry of job `j` begins, after those of so many buffers; where `j` is the number of
 /// jobs, what follows the last entry.
 pub(crate) fn job_offset(buffers: usize, j: usize) -> usize
-    requires few_buffers { buffers ≤ most_buffers }
-    requires few_jobs { j ≤ most_jobs }
+    requires few_buffers { buffers < 2 ^ 32 }
+    requires few_jobs { j < 2 ^ 32 }
     ensures { result ≡ entry_offset buffers + job_size * j }
 {
     entry_offset(buffers) + JOB_SIZE * j

@@ -1,7 +1,7 @@
 -- Clients are apart.
 use Rattle.std.proofs.Common.{◌≡◌, ◌==◌, ◌+◌, ◌*◌, ◌||◌, nat_lt, ℕ, Bool, true, false, refl, ◌∙◌, List, [], ◌∷◌, length, take, drop, Option, None, Some, arith, if◌then◌else◌}
 use Rattle.std.proofs.lemmas.Bool.Decides.{nat_tests}
-use Rattle.job_format.specs.declared.rule.Refusal.{Refusal}
+use Rattle.job_session.specs.declared.denied.BrokenRule.{BrokenRule}
 use Rattle.buffer_table.specs.{declared.buffer.Kind.Kind, declared.buffer.Kind.TheVariants.Plain, declared.buffer.Kind.TheVariants.Code}
 use Rattle.field_words.specs.{Sizes.page_size, Writes.with_bytes, Writes.zeros}
 use Rattle.overflow_slots.specs.Search.{first_where}
@@ -129,4 +129,4 @@ from_here F rules client [] past = refl
 from_here F rules client (call ∷ calls) past = from_by F rules client past call calls (client == call.client) refl (from_here F rules client calls (after rules past call))
 
 pub replies_are_own : RepliesAreOwn
-replies_are_own rules client calls = from_here Refusal rules client calls none_yet
+replies_are_own rules client calls = from_here BrokenRule rules client calls none_yet

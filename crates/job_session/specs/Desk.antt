@@ -4,7 +4,7 @@ use Rattle.std.specs.Int.{div_ceil}
 use Rattle.field_words.specs.{Sizes.page_size, declared.stop.Stop.Stop}
 use Rattle.field_words.specs.declared.stop.Stop.TheVariants.{Fault, NoMemory}
 use Rattle.buffer_table.specs.{declared.buffer.Kind.Kind, declared.buffer.Kind.TheVariants.Plain, declared.buffer.Kind.TheVariants.Code}
-use Rattle.job_format.specs.declared.rule.Refusal.{Refusal}
+use Rattle.job_session.specs.declared.denied.BrokenRule.{BrokenRule}
 use Rattle.overflow_slots.specs.Search.{first_where}
 use Rattle.phys_mem.specs.Window.{window_of}
 use Rattle.session_pages.specs.Runs.{page_count}
@@ -110,7 +110,7 @@ abbrev pub denied_id : Result ℕ ℕ → Result ℕ Denied
 denied_id (Ok id) = Ok id
 denied_id (Err refusal) = Err (Session refusal)
 
-abbrev pub made_id : Desk → ℕ → List ℕ → Option Refusal → Result ℕ Denied
+abbrev pub made_id : Desk → ℕ → List ℕ → Option BrokenRule → Result ℕ Denied
 made_id desk client bytes (Some refusal) = Err (Job refusal)
 made_id desk client bytes None = denied_id (new_id desk client (pages_for bytes))
 
@@ -173,7 +173,7 @@ read_answer desk client id at len =
     else Err 2) else Err 1
 
 -- a job is refused by the first rule that its file breaks, over what the slots hold
-abbrev pub job_answer : Option Refusal → Result (Unit {0}) Denied
+abbrev pub job_answer : Option BrokenRule → Result (Unit {0}) Denied
 job_answer None = Ok tt
 job_answer (Some refusal) = Err (Job refusal)
 

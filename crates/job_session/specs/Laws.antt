@@ -1,6 +1,6 @@
 -- A client's replies are those of its own commands alone, but for the commands that were answered that memory is full.
 use Rattle.std.specs.Prelude.{◌≡◌, ◌==◌, ℕ, Bool, false, List, [], ◌∷◌, None, if◌then◌else◌}
-use Rattle.job_format.specs.declared.rule.Refusal.{Refusal}
+use Rattle.job_session.specs.declared.denied.BrokenRule.{BrokenRule}
 use Rattle.job_session.specs.Own.{Command, Reply, Refused, Id, Done, Bytes, Accepted, Broken, Rules, own_replies}
 use Rattle.job_session.specs.Session.{Call, none_yet, replies_to, commands_of}
 
@@ -26,6 +26,6 @@ other_commands (command ∷ commands) (reply ∷ replies) =
 
 -- whatever rules shaders and jobs have, which see the client's own buffers alone
 abbrev pub RepliesAreOwn : Type 0
-RepliesAreOwn = (rules : Rules Refusal) (client : ℕ) (calls : List Call)
+RepliesAreOwn = (rules : Rules BrokenRule) (client : ℕ) (calls : List Call)
     → other_replies (replies_to client rules none_yet calls)
     ≡ own_replies rules client (λ id. None) (other_commands (commands_of client calls) (replies_to client rules none_yet calls))

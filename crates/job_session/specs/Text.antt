@@ -1,19 +1,20 @@
 -- What a script is answered: a line for each of its calls.
 use Rattle.std.specs.Prelude.{ℕ, List, [], ◌++◌, codes, Option, Some, None, decimal}
 use Rattle.hex.specs.Hex.{encode_lower}
-use Rattle.job_format.specs.{declared.rule.Refusal.Refusal, Rules.rule_text}
+use Rattle.job_format.specs.Rules.{rule_text}
+use Rattle.job_session.specs.declared.denied.BrokenRule.{BrokenRule}
 use Rattle.script.specs.Replies.{replies as script_replies}
 use Rattle.job_session.specs.{Own.Command, Own.Reply, Own.Id, Own.Done, Own.Bytes, Own.Accepted, Own.Refused, Own.Broken, Session.Call}
 use Rattle.job_session.specs.{Desk.Desk, Desk.empty, Replies.command_reply, Replies.desk_after, Calls.call_of}
 
 -- a rule of shaders or of jobs is named with its place
-unfoldable pub reply_line : Reply Refusal → List ℕ
+unfoldable pub reply_line : Reply BrokenRule → List ℕ
 reply_line (Id id) = codes "id " ++ (decimal id ++ codes "\n")
 reply_line Done = codes "done\n"
 reply_line (Bytes bytes) = codes "bytes " ++ (encode_lower bytes ++ codes "\n")
 reply_line Accepted = codes "accepted\n"
 reply_line (Refused refusal) = codes "refused J" ++ (decimal refusal ++ codes "\n")
-reply_line (Broken refusal) = codes "refused " ++ (rule_text refusal.rule ++ (codes " at " ++ (decimal refusal.offset ++ codes "\n")))
+reply_line (Broken broken) = codes "refused " ++ (rule_text broken.rule ++ (codes " at " ++ (decimal broken.offset ++ codes "\n")))
 
 -- the line that answers a client's command
 abbrev pub answer_line : Desk → ℕ → Command → List ℕ

@@ -16,7 +16,7 @@ mod session;
 
 ghost use Rattle.job_session.specs.Laws.{RepliesAreOwn};
 
-pub use denied::Denied;
+pub use denied::{BrokenRule, Denied};
 pub use replies::script;
 pub use session::{MOST_BUFFERS, MOST_PAGES, MOST_READ, Session};
 

@@ -9,11 +9,10 @@ ghost use Rattle.job_session.specs.Replies.{created_reply, denied_reply, done_re
 ghost use Rattle.job_session.specs.Text.{reply_line, answer_line, line_reply, line_after, replies};
 
 use super::call::{Request, read_line};
-use super::denied::Denied;
+use super::denied::{BrokenRule, Denied};
 use super::session::Session;
 use field_words::Stop;
 use hex::FromHexError;
-use job_format::Refusal;
 use script::{Clerk, answer};
 use std::alloc::{AllocError, Global};
 use std::fmt::Write;
@@ -38,11 +37,11 @@ fn put_refused(out: &mut String, refusal: u8) -> Result<(), AllocError>
 }
 
 #[tactic(auto, unfolding(crate::specs::Text::reply_line))]
-fn put_broken(out: &mut String, refusal: Refusal) -> Result<(), AllocError>
-    ensures { OnOk result (Adds out.old out.new (reply_line (Broken refusal))) }
+fn put_broken(out: &mut String, broken: BrokenRule) -> Result<(), AllocError>
+    ensures { OnOk result (Adds out.old out.new (reply_line (Broken broken))) }
 {
-    let rule = refusal.rule;
-    let offset = refusal.offset;
+    let rule = broken.rule;
+    let offset = broken.offset;
     write!(out, "refused {rule} at {offset}\n")
 }
 
@@ -51,7 +50,7 @@ fn put_denied(out: &mut String, denied: Denied) -> Result<(), AllocError>
 {
     match denied {
         Denied::Session(refusal) => put_refused(out, refusal),
-        Denied::Job(refusal) => put_broken(out, refusal),
+        Denied::Job(broken) => put_broken(out, broken),
     }
 }
 
@@ -120,20 +119,20 @@ fn put_code(
     }
 }
 
-// Reads from a buffer, and puts the line that answers it.
+// Reads from a buffer, whose id comes before the first byte and the count, and puts the line that answers it.
 #[tactic(auto, unfolding(crate::specs::Replies::command_reply))]
 fn put_read(
     alloc: Global,
     out: &mut String,
     session: &Session,
     client: u8,
-    id: u32,
-    at: u32,
-    len: u32,
+    span: (u32, u32, u32),
 ) -> Result<(), AllocError>
     requires { client < 8 }
-    ensures { OnOk result (Adds out.old out.new (answer_line session.now client (Read id at len))) }
+    ensures { OnOk result (Adds out.old out.new
+        (answer_line session.now client (Read span.0 span.1 span.2))) }
 {
+    let (id, at, len) = span;
     match session.read(alloc, client, id, at, len) {
         Ok(bytes) => put_bytes(alloc, out, &bytes),
         Err(Stop::Fault(refusal)) => put_refused(out, refusal),
@@ -185,7 +184,7 @@ fn put_answer(
             let part = decoded(alloc, hex)?;
             put_done(out, session.write(client, id, at, &part))
         }
-        Request::Read { id, at, len } => put_read(alloc, out, session, client, id, at, len),
+        Request::Read { id, at, len } => put_read(alloc, out, session, client, (id, at, len)),
         Request::Free { id } => put_done(out, session.free(client, id)),
         Request::Submit { hex } => put_submit(alloc, out, session, client, hex),
     }

@@ -1,27 +1,36 @@
 //! The rules of shaders and of jobs in a session: those of the checker of job files.
 ghost use Rattle.std.specs.Prelude.{◌≡◌, ◌≤◌, ◌<◌, length, None, IfOk, IfErr, IsOk};
 ghost use Rattle.field_words.specs.Sizes.{most_code};
-ghost use Rattle.job_check.specs.Whole.{refusal_of};
-ghost use Rattle.job_session.specs.Checked.{at_instruction, shader_refusal};
+ghost use Rattle.job_session.specs.Checked.{at_instruction, rule_in, file_refusal, shader_refusal};
 ghost use Rattle.job_session.specs.Desk.{job_answer, IsRefusal};
 
-use super::denied::Denied;
+use super::denied::{BrokenRule, Denied};
 use field_words::{MOST_MEMORY, Stop};
 use job_check::{check_places, shader_in};
-use job_format::{Refusal, Rule, Stage};
+use job_format::{Refusal, Rule, Stage, offset_of};
 use shader_check::ShaderFault;
 use std::alloc::Global;
 
 // A rule of shaders that is broken, at the byte of its instruction.
-fn shader_fault(fault: &ShaderFault) -> Refusal
+fn shader_fault(fault: &ShaderFault) -> BrokenRule
     ensures { result ≡ at_instruction fault.now }
 {
-    Refusal {
+    BrokenRule {
         rule: Rule {
             stage: Stage::S,
             number: fault.number,
         },
-        offset: 8 * u64::from(fault.index),
+        offset: 8 * u128::from(fault.index),
+    }
+}
+
+// A rule of jobs that is broken, at the offset of its place in the file.
+fn rule_in(file: &[u8], refusal: &Refusal) -> BrokenRule
+    ensures { result ≡ rule_in file.now refusal.now }
+{
+    BrokenRule {
+        rule: refusal.rule,
+        offset: offset_of(file, refusal.place),
     }
 }
 
@@ -41,14 +50,14 @@ pub fn check_shader(alloc: Global, bytes: &[u8]) -> Result<(), Stop<Denied>>
 }
 
 /// All rules of a file: the first that is broken, or none.
-#[tactic(auto, unfolding(job_check::specs::Whole::refusal_of))]
+#[tactic(auto, unfolding(job_check::specs::Whole::refusal_of, crate::specs::Checked::file_refusal))]
 pub fn check_file(alloc: Global, file: &[u8]) -> Result<(), Stop<Denied>>
-    ensures accepted { IfOk result (λ done. job_answer (refusal_of file.now) ≡ Ok done) }
-    ensures refused { IfErr result (IsRefusal (job_answer (refusal_of file.now))) }
+    ensures accepted { IfOk result (λ done. job_answer (file_refusal file.now) ≡ Ok done) }
+    ensures refused { IfErr result (IsRefusal (job_answer (file_refusal file.now))) }
 {
     match check_places(alloc, MOST_MEMORY, file) {
         Ok(_) => Ok(()),
-        Err(Stop::Fault(refusal)) => Err(Stop::Fault(Denied::Job(refusal))),
+        Err(Stop::Fault(refusal)) => Err(Stop::Fault(Denied::Job(rule_in(file, &refusal)))),
         Err(Stop::NoMemory) => Err(Stop::NoMemory),
     }
 }

@@ -1,6 +1,6 @@
 -- The rules of the format read no place, and what a file holds beside its buffers' places is the same.
-use Rattle.std.proofs.Common.{◌≡◌, ℕ, zero, suc, ◌+◌, ◌*◌, ◌<◌, ◌≤◌, ◌==◌, nat_lt, List, [], ◌∷◌, ◌++◌, map, take, drop, slice_index, arith, refl, sym, ◌∙◌, ap}
-use Rattle.std.proofs.lemmas.List.{get_or-drop}
+use Rattle.std.proofs.Common.{◌≡◌, ℕ, zero, suc, ◌+◌, ◌*◌, ◌<◌, ◌≤◌, ◌==◌, nat_lt, List, [], ◌∷◌, ◌++◌, map, take, drop, slice_index, inl, inr, arith, refl, sym, ◌∙◌, ap}
+use Rattle.std.proofs.lemmas.{List.get_or-drop, Bool.cases_lt}
 use Rattle.std.specs.{List.range_with_len, Int.from_le_bytes, Int.w16, Int.w32}
 use Rattle.field_words.specs.{Words.u16_at, Words.u32_at, Questions.Question, Questions.Ask, Questions.each}
 use Rattle.buffer_table.specs.declared.buffer.Buffer.{Buffer}
@@ -8,6 +8,8 @@ use Rattle.job_format.specs.Offsets.{job_size, version_in, buffer_count, job_cou
 use Rattle.job_format.specs.Reading.{bytes_cut, kind_of, regions_at, entry_at, surface_at, frame_at, words_at, buffers_at, contents_at, job_at, jobs_at, file_at}
 use Rattle.job_format.specs.Faults.{fault, header_questions, entry_questions, job_entry_questions, buffer_questions, job_questions, content_questions, parts_questions, end_questions, format_questions}
 use Rattle.job_format.specs.declared.rule.FormatRule.TheVariants.{EndsEarly, BytesFollow}
+use Rattle.job_format.specs.declared.rule.Part.TheVariants.{File, Header, Entry, JobEntry, Contents, Handles, BinnerList, Records, Uniforms}
+use Rattle.job_format.specs.{declared.rule.Part.Part, declared.rule.Place.Place, Places.start_of, Places.offset_of}
 use Rattle.places_law.specs.Moved.{placeless, with_buffers}
 use Rattle.places_law.proofs.Words.{SameEntry, ReadAlike}
 
@@ -82,13 +84,20 @@ job_word_same a b n alike j k =
     word_far a b n (job_offset a j) k alike (job_past a b n alike j)
     ∙ ap (λ (at : ℕ). u32_at b (at + k)) (job_offset_same a b n alike j)
 
-content_offset_same : (a b : List ℕ) (n : ℕ) → ReadAlike a b n → (i : ℕ) → i ≤ n → content_offset a i ≡ content_offset b i
+content_size_same : (a b : List ℕ) (n : ℕ) → ReadAlike a b n → (i : ℕ) → content_size a i ≡ content_size b i
+content_size_same a b n alike i =
+    elim (cases_lt i n) [
+      | inl below ↦ (alike.entries i below).content
+      | inr past ↦ word_far a b n (entry_offset i) 16 alike (omega (arith, past))
+    ]
+
+content_offset_same : (a b : List ℕ) (n : ℕ) → ReadAlike a b n → (i : ℕ) → content_offset a i ≡ content_offset b i
 unfolding content_offset
-content_offset_same a b n alike zero inside =
+content_offset_same a b n alike zero =
     job_offset_same a b n alike (job_count a) ∙ ap (λ (j : ℕ). job_offset b j) (jobs_same a b n alike)
-content_offset_same a b n alike (suc i) inside =
-    let before = content_offset_same a b n alike i (omega (arith, inside)) in
-    let size = (alike.entries i (omega (arith, inside))).content in
+content_offset_same a b n alike (suc i) =
+    let before = content_offset_same a b n alike i in
+    let size = content_size_same a b n alike i in
     λ p. before p + size p
 
 content_past : (a b : List ℕ) (n : ℕ) → ReadAlike a b n → (i : ℕ) → entry_offset n ≤ content_offset a i
@@ -100,7 +109,7 @@ handles_offset_same : (a b : List ℕ) (n : ℕ) → ReadAlike a b n → (j : �
 unfolding handles_offset
 handles_offset_same a b n alike zero =
     ap (λ (k : ℕ). content_offset a k) alike.count
-    ∙ (content_offset_same a b n alike n (omega arith) ∙ ap (λ (k : ℕ). content_offset b k) (sym alike.count ∙ count_same a b n alike))
+    ∙ (content_offset_same a b n alike n ∙ ap (λ (k : ℕ). content_offset b k) (sym alike.count ∙ count_same a b n alike))
 handles_offset_same a b n alike (suc j) =
     let before = handles_offset_same a b n alike j in
     let handles = job_word_same a b n alike j 8 in
@@ -154,6 +163,20 @@ end_offset_same a b n alike j =
     let size = job_word_same a b n alike j 24 in
     λ p. before p + size p
 
+start_same : (a b : List ℕ) (n : ℕ) → ReadAlike a b n → (part : Part) (i : ℕ) → start_of a part i ≡ start_of b part i
+start_same a b n alike File i = refl
+start_same a b n alike Header i = refl
+start_same a b n alike Entry i = refl
+start_same a b n alike JobEntry j = job_offset_same a b n alike j
+start_same a b n alike Contents i = content_offset_same a b n alike i
+start_same a b n alike Handles j = handles_offset_same a b n alike j
+start_same a b n alike BinnerList j = bin_offset_same a b n alike j
+start_same a b n alike Records j = records_offset_same a b n alike j
+start_same a b n alike Uniforms j = uniforms_offset_same a b n alike j
+
+pub offset_same : (a b : List ℕ) (n : ℕ) → ReadAlike a b n → (place : Place) → offset_of a place ≡ offset_of b place
+offset_same a b n alike place = ap (λ (start : ℕ). start + place.at) (start_same a b n alike place.part place.index)
+
 -- the rules of each part
 header_same : (a b : List ℕ) (n : ℕ) → ReadAlike a b n → header_questions a ≡ header_questions b
 unfolding header_questions
@@ -166,9 +189,9 @@ buffer_questions_same a b n alike i below =
     let entry = alike.entries i below in
     rw (alike.long, entry.kind, entry.content) refl
 
-job_entry_same : (a b : List ℕ) (n at : ℕ) → ReadAlike a b n → entry_offset n ≤ at → job_entry_questions a at ≡ job_entry_questions b at
+job_entry_same : (a b : List ℕ) (n j at : ℕ) → ReadAlike a b n → entry_offset n ≤ at → job_entry_questions a j at ≡ job_entry_questions b j at
 unfolding job_entry_questions
-job_entry_same a b n at alike past =
+job_entry_same a b n j at alike past =
     rw (
       alike.long,
       version_same a b n alike,
@@ -186,37 +209,36 @@ job_entry_same a b n at alike past =
 job_questions_same : (a b : List ℕ) (n : ℕ) → ReadAlike a b n → (j : ℕ) → job_questions a j ≡ job_questions b j
 unfolding job_questions
 job_questions_same a b n alike j =
-    job_entry_same a b n (job_offset a j) alike (job_past a b n alike j)
-    ∙ ap (λ (at : ℕ). job_entry_questions b at) (job_offset_same a b n alike j)
+    job_entry_same a b n j (job_offset a j) alike (job_past a b n alike j)
+    ∙ ap (λ (at : ℕ). job_entry_questions b j at) (job_offset_same a b n alike j)
 
 content_questions_same : (a b : List ℕ) (n : ℕ) → ReadAlike a b n → (i : ℕ) → i < n → content_questions a i ≡ content_questions b i
 unfolding content_questions
 content_questions_same a b n alike i below =
-    let at = content_offset_same a b n alike i (omega (arith, below)) in
+    let at = content_offset_same a b n alike i in
     let size = (alike.entries i below).content in
     let long = alike.long in
-    λ p. Ask (nat_lt (long p) (at p + size p)) (fault EndsEarly (at p)) ∷ []
+    λ p. Ask (nat_lt (long p) (at p + size p)) (fault EndsEarly Contents i 0) ∷ []
 
 parts_questions_same : (a b : List ℕ) (n : ℕ) → ReadAlike a b n → (j : ℕ) → parts_questions a j ≡ parts_questions b j
 unfolding parts_questions
 parts_questions_same a b n alike j =
     let long = alike.long in
-    let handles = handles_offset_same a b n alike j in
     let bin = bin_offset_same a b n alike j in
     let records = records_offset_same a b n alike j in
     let uniforms = uniforms_offset_same a b n alike j in
     let ends = end_offset_same a b n alike j in
-    λ p. Ask (nat_lt (long p) (bin p)) (fault EndsEarly (handles p))
-    ∷ (Ask (nat_lt (long p) (records p)) (fault EndsEarly (bin p))
-    ∷ (Ask (nat_lt (long p) (uniforms p)) (fault EndsEarly (records p))
-    ∷ (Ask (nat_lt (long p) (ends p)) (fault EndsEarly (uniforms p)) ∷ [])))
+    λ p. Ask (nat_lt (long p) (bin p)) (fault EndsEarly Handles j 0)
+    ∷ (Ask (nat_lt (long p) (records p)) (fault EndsEarly BinnerList j 0)
+    ∷ (Ask (nat_lt (long p) (uniforms p)) (fault EndsEarly Records j 0)
+    ∷ (Ask (nat_lt (long p) (ends p)) (fault EndsEarly Uniforms j 0) ∷ [])))
 
 end_questions_same : (a b : List ℕ) (n : ℕ) → ReadAlike a b n → end_questions a ≡ end_questions b
 unfolding end_questions
 end_questions_same a b n alike =
     let long = alike.long in
     let at = handles_offset_same a b n alike (job_count a) ∙ ap (λ (j : ℕ). handles_offset b j) (jobs_same a b n alike) in
-    λ p. Ask (nat_lt (at p) (long p)) (fault BytesFollow (at p)) ∷ []
+    λ p. Ask (nat_lt (at p) (long p)) (fault BytesFollow File 0 (at p)) ∷ []
 
 counted_same : {F : Type 0} (one other : ℕ → List (Question F)) (n m k : ℕ) → n ≡ m → m ≡ k → ((i : ℕ) → i < m → one i ≡ other i) → each one 0 n ≡ each other 0 k
 counted_same one other n m k first second same =
@@ -331,7 +353,7 @@ unfolding contents_at
 contents_same a b n alike =
     range_same (λ i. bytes_cut a (content_offset a i) (content_size a i)) (λ i. bytes_cut b (content_offset b i) (content_size b i)) 0 n
     (λ i low high. cut_same a b n (content_offset a i) (content_offset b i) (content_size a i) (content_size b i) alike (content_past a b n alike i)
-    (content_offset_same a b n alike i (omega (arith, high))) (alike.entries i (omega (arith, high))).content)
+    (content_offset_same a b n alike i) (alike.entries i (omega (arith, high))).content)
 
 all_jobs_same : (a b : List ℕ) (n count : ℕ) → ReadAlike a b n → jobs_at a count ≡ jobs_at b count
 unfolding jobs_at

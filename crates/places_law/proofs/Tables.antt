@@ -1,5 +1,5 @@
 -- What is read of a memory table whose buffers lie at other places.
-use Rattle.std.proofs.Common.{◌≡◌, ℕ, zero, suc, ◌&&◌, ◌||◌, ◌==◌, not, nat_lt, nat_le, if◌then◌else◌, List, [], ◌∷◌, length, map, take, slice_index, Some, None, refl, ap}
+use Rattle.std.proofs.Common.{◌≡◌, ℕ, zero, suc, ◌&&◌, ◌||◌, ◌==◌, not, nat_lt, nat_le, if◌then◌else◌, List, [], ◌∷◌, length, map, slice_index, Some, None, refl, ap}
 use Rattle.field_words.specs.Questions.{Question, Ask, each}
 use Rattle.buffer_table.specs.{declared.buffer.Buffer.Buffer, Table.TableModel, Table.buffer_at}
 use Rattle.buffer_table.specs.Handles.{handle_questions, handles_questions, is_plain, data_of, code_of}
@@ -16,12 +16,6 @@ unfolding buffer_at
 entry_placeless [] number = refl
 entry_placeless (buffer ∷ buffers) zero = refl
 entry_placeless (buffer ∷ buffers) (suc number) = entry_placeless buffers number
-
-pub contents_placeless : (count : ℕ) (buffers : List Buffer)
-    → map (λ (b : Buffer). b.content) (take count (map placeless buffers)) ≡ map (λ (b : Buffer). b.content) (take count buffers)
-contents_placeless zero buffers = refl
-contents_placeless (suc count) [] = refl
-contents_placeless (suc count) (buffer ∷ buffers) = ap (λ (rest : List ℕ). buffer.content ∷ rest) (contents_placeless count buffers)
 
 pub count_placeless : (buffers : List Buffer) → length (map placeless buffers) ≡ length buffers
 count_placeless [] = refl

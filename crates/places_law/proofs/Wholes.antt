@@ -5,7 +5,7 @@ use Rattle.field_words.proofs.Questions.{passes, stops}
 use Rattle.job_format.specs.{declared.rule.Refusal.Refusal, Model.FileModel, Reading.file_at, Faults.format_questions}
 use Rattle.job_check.specs.{Faults.table_stage, Faults.file_stages, Whole.format_refused, Whole.questions_within, Whole.refusal_of}
 use Rattle.places_law.specs.Moved.{MovedAreAlike}
-use Rattle.places_law.proofs.{Words.ReadAlike, Words.read_alike, Formats.format_same, Formats.file_buffers, Formats.file_moved}
+use Rattle.places_law.proofs.{Words.ReadAlike, Words.read_alike, Formats.format_same, Formats.offset_same, Formats.file_buffers, Formats.file_moved}
 use Rattle.places_law.proofs.Files.{places_are_free}
 
 -- rules behind the same front
@@ -31,4 +31,8 @@ alike_by bytes other n alike before behind =
     ∙ behind_front front (file_stages (file_at other)) (file_stages (file_at bytes)) (files_alike bytes other n alike before behind) (first_of front) refl
 
 pub moved_are_alike : MovedAreAlike
-moved_are_alike bytes other are before behind = alike_by bytes other (length are.buffers) (read_alike bytes other are) before behind
+moved_are_alike bytes other are before behind =
+    let alike = read_alike bytes other are in (
+      alike_by bytes other (length are.buffers) alike before behind,
+      λ place. sym (offset_same bytes other (length are.buffers) alike place),
+    )

@@ -2,7 +2,7 @@
 use Rattle.std.specs.{Prelude.◌≡◌, Prelude.ℕ, Prelude.List, Prelude.◌++◌, Prelude.length, Prelude.map, Prelude.None, List.flat_map}
 use Rattle.field_words.specs.Questions.{first_of}
 use Rattle.buffer_table.specs.declared.buffer.Buffer.{Buffer}
-use Rattle.job_format.specs.{Model.FileModel, Offsets.header_size, Offsets.buffer_count, Reading.file_at, Text.buffer_text}
+use Rattle.job_format.specs.{declared.rule.Place.Place, Model.FileModel, Offsets.header_size, Offsets.buffer_count, Places.offset_of, Reading.file_at, Text.buffer_text}
 use Rattle.job_check.specs.{Faults.table_stage, Faults.file_stages, Whole.refusal_of}
 
 -- a buffer's entry without its place
@@ -39,8 +39,8 @@ pub record AreMoved (bytes other : List ℕ) : Type 0 where
   pub count : buffer_count head ≡ length buffers
   pub same : map placeless others ≡ map placeless buffers
 
--- Bytes of such files are refused alike.
+-- Bytes of such files are refused alike, and the refusal's place has the same offset.
 abbrev pub MovedAreAlike : Type 0
 MovedAreAlike = (bytes other : List ℕ) → AreMoved bytes other
     → first_of (table_stage (file_at bytes)) ≡ None → first_of (table_stage (file_at other)) ≡ None
-    → refusal_of other ≡ refusal_of bytes
+    → (refusal_of other ≡ refusal_of bytes) × ((place : Place) → offset_of other place ≡ offset_of bytes place)

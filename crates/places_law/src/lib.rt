@@ -9,8 +9,7 @@ pub fn places_are_free()
     ensures { PlacesAreFree }
 {}
 
-/// So two files whose bytes differ in places alone are refused alike.
-#[tactic(auto, using(crate::proofs::Wholes::moved_are_alike))]
+/// So two files whose bytes differ in places alone are refused alike, at the same offset.
 pub fn moved_are_alike()
     ensures { MovedAreAlike }
 {}

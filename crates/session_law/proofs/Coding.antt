@@ -4,7 +4,7 @@ use Rattle.std.proofs.{lemmas.List.places, lemmas.List.length-append, lemmas.Gri
 use Rattle.field_words.specs.{Sizes.page_size, Writes.with_bytes, Writes.zeros}
 use Rattle.field_words.proofs.Writes.{length_zeros}
 use Rattle.buffer_table.specs.declared.buffer.Kind.TheVariants.{Code}
-use Rattle.job_format.specs.declared.rule.Refusal.{Refusal}
+use Rattle.job_session.specs.declared.denied.BrokenRule.{BrokenRule}
 use Rattle.session_pages.specs.Map.{free_run}
 use Rattle.job_session.specs.Desk.{Desk, page_total, bytes_of, least_id, placed_id, created_id, denied_id, made_id, code_answer, after_code, pages_for, with_written}
 use Rattle.job_session.specs.{Own.Held, Own.Make, Own.NewBuffer, Own.with_buffer, Own.new_by, Own.make_by, Own.bytes_padded, Replies.made_reply}
@@ -106,7 +106,7 @@ code_id past desk client bytes (Some id) agrees known some is =
     code_found past desk client id bytes (free_run desk.map (pages_for bytes)) agrees (record { known = known; small = found.0 }) found.1 some refl
     (ap (λ (n : ℕ). least_place past.places n) (padded_pages bytes) ∙ same_room past desk (pages_for bytes) agrees)
 
-code_step : (past : Past) (desk : Desk) (client : ℕ) (bytes : List ℕ) → Agrees past desk → client < client_count → (refusal : Option Refusal) → shader_refusal bytes ≡ refusal
+code_step : (past : Past) (desk : Desk) (client : ℕ) (bytes : List ℕ) → Agrees past desk → client < client_count → (refusal : Option BrokenRule) → shader_refusal bytes ≡ refusal
     → Meets past (record { client = client; command = Make bytes }) (made_reply (made_id desk client bytes refusal)) (after_code desk client bytes (made_id desk client bytes refusal))
     (make_by (past.own client) bytes refusal)
 code_step past desk client bytes agrees known (Some refusal) is = (refl, same_agrees past desk client agrees)

@@ -3,7 +3,7 @@ use Rattle.std.proofs.Common.{◌≡◌, ◌↔◌, ℕ, zero, suc, take, drop, 
 use Rattle.std.proofs.lemmas.Bool.Decides.{nat_tests}
 use Rattle.field_words.specs.Writes.{with_bytes}
 use Rattle.buffer_table.specs.{declared.buffer.Kind.Kind, declared.buffer.Kind.TheVariants.Plain, declared.buffer.Kind.TheVariants.Code}
-use Rattle.job_format.specs.declared.rule.Refusal.{Refusal}
+use Rattle.job_session.specs.declared.denied.BrokenRule.{BrokenRule}
 use Rattle.session_pages.proofs.Lowest.{all_are, run_never, first_is}
 use Rattle.overflow_slots.specs.Search.{first_where}
 use Rattle.overflow_slots.proofs.Searches.{first_found}
@@ -112,7 +112,7 @@ places_are_lowest places pages first some = (
 )
 
 -- a reply that isn't refusal 6
-abbrev refusal : ℕ → Reply Refusal
+abbrev refusal : ℕ → Reply BrokenRule
 refusal number = Refused number
 
 other_number : (number : ℕ) → (number ≡ 6 → ⊥) → refusal number ≡ refusal 6 → ⊥
@@ -123,12 +123,12 @@ free_none None is = refl
 free_none (Some held) is = let clash : false ≡ true = is in absurd (grind (arith, clash))
 
 -- a new buffer
-placed_full : (id : ℕ) (found : Option ℕ) → placed_reply {F = Refusal} id found ≡ refusal 6 → found ≡ None
+placed_full : (id : ℕ) (found : Option ℕ) → placed_reply {F = BrokenRule} id found ≡ refusal 6 → found ≡ None
 placed_full id None is = refl
 placed_full id (Some first) is = let clash : ⊥ = cc in absurd clash
 
 new_full : (past : Past) (client pages : ℕ) (held : Held) → pages_of held ≡ pages → 1 ≤ pages → (ids : Option ℕ)
-    → first_where (is_free_id (past.own client)) 0 most_buffers ≡ ids → reply_by past (new_by {F = Refusal} (past.own client) held ids) ≡ refusal 6 → HasNoRoom past client pages
+    → first_where (is_free_id (past.own client)) 0 most_buffers ≡ ids → reply_by past (new_by {F = BrokenRule} (past.own client) held ids) ≡ refusal 6 → HasNoRoom past client pages
 new_full past client pages held long some None is six = absurd (other_number 4 (λ e. omega (arith, e)) six)
 new_full past client pages held long some (Some id) is six =
     let found = first_found (is_free_id (past.own client)) 0 most_buffers id is in
@@ -142,7 +142,7 @@ new_full past client pages held long some (Some id) is six =
     }
 
 full_new : (past : Past) (client pages : ℕ) (held : Held) → pages_of held ≡ pages → HasNoRoom past client pages → (ids : Option ℕ)
-    → first_where (is_free_id (past.own client)) 0 most_buffers ≡ ids → reply_by past (new_by {F = Refusal} (past.own client) held ids) ≡ refusal 6
+    → first_where (is_free_id (past.own client)) 0 most_buffers ≡ ids → reply_by past (new_by {F = BrokenRule} (past.own client) held ids) ≡ refusal 6
 full_new past client pages held long full None is =
     absurd (never_none (is_free_id (past.own client)) 0 most_buffers full.id (omega arith) (omega (arith, full.small)) (ap free_if full.unused) is)
 full_new past client pages held long full (Some id) is =
@@ -164,7 +164,7 @@ create_full past client pages false is six =
           (first_where (is_free_id (past.own client)) 0 most_buffers) refl six,
     )
 
-full_create : (past : Past) (client pages : ℕ) → IsFullFor past client (Create pages) → reply_by past (create_of {F = Refusal} (past.own client) pages) ≡ refusal 6
+full_create : (past : Past) (client pages : ℕ) → IsFullFor past client (Create pages) → reply_by past (create_of {F = BrokenRule} (past.own client) pages) ≡ refusal 6
 full_create past client pages full =
     let some : 1 ≤ pages = full.0 in
     let small : pages ≤ most_pages = full.1 in
@@ -172,7 +172,7 @@ full_create past client pages full =
     rw e (full_new past client pages (zero_buffer Plain pages) (zero_pages Plain pages) full.2 (first_where (is_free_id (past.own client)) 0 most_buffers) refl)
 
 -- code
-make_full : (past : Past) (client : ℕ) (bytes : List ℕ) (fault : Option Refusal) → shader_refusal bytes ≡ fault
+make_full : (past : Past) (client : ℕ) (bytes : List ℕ) (fault : Option BrokenRule) → shader_refusal bytes ≡ fault
     → reply_by past (make_by (past.own client) bytes fault) ≡ refusal 6 → IsFullFor past client (Make bytes)
 make_full past client bytes (Some fault) is six = let clash : ⊥ = cc in absurd clash
 make_full past client bytes None is six = (
@@ -193,13 +193,13 @@ write_ends past own id at part next true six = other_number 2 (λ e. omega (arit
 write_ends past own id at part next false six = let clash : ⊥ = cc in clash
 
 write_full : (past : Past) (own : ℕ → Option Held) (id at : ℕ) (part bytes : List ℕ) (kind : Kind)
-    → reply_by past (write_in {F = Refusal} own id at part kind bytes) ≡ refusal 6 → ⊥
+    → reply_by past (write_in {F = BrokenRule} own id at part kind bytes) ≡ refusal 6 → ⊥
 write_full past own id at part bytes Code six = other_number 3 (λ e. omega (arith, e)) six
 write_full past own id at part bytes Plain six =
     write_ends past own id at part (with_buffer own id (Some (record { kind = Plain; bytes = with_bytes bytes at part }))) (nat_lt (length bytes) (at + length part)) six
 
 write_not : (past : Past) (own : ℕ → Option Held) (id at : ℕ) (part : List ℕ) (held : Option Held)
-    → reply_by past (write_by {F = Refusal} own id at part held) ≡ refusal 6 → ⊥
+    → reply_by past (write_by {F = BrokenRule} own id at part held) ≡ refusal 6 → ⊥
 write_not past own id at part None six = other_number 1 (λ e. omega (arith, e)) six
 write_not past own id at part (Some held) six = write_full past own id at part held.bytes held.kind six
 
@@ -209,16 +209,16 @@ read_ends past own bytes true six = other_number 2 (λ e. omega (arith, e)) six
 read_ends past own bytes false six = let clash : ⊥ = cc in clash
 
 read_not : (past : Past) (own : ℕ → Option Held) (at len : ℕ) (held : Option Held)
-    → reply_by past (read_by {F = Refusal} own at len held) ≡ refusal 6 → ⊥
+    → reply_by past (read_by {F = BrokenRule} own at len held) ≡ refusal 6 → ⊥
 read_not past own at len None six = other_number 1 (λ e. omega (arith, e)) six
 read_not past own at len (Some held) six =
     read_ends past own (take len (drop at held.bytes)) (nat_lt most_read len || nat_lt (length held.bytes) (at + len)) six
 
-free_not : (past : Past) (own : ℕ → Option Held) (id : ℕ) (held : Option Held) → reply_by past (free_by {F = Refusal} own id held) ≡ refusal 6 → ⊥
+free_not : (past : Past) (own : ℕ → Option Held) (id : ℕ) (held : Option Held) → reply_by past (free_by {F = BrokenRule} own id held) ≡ refusal 6 → ⊥
 free_not past own id None six = other_number 1 (λ e. omega (arith, e)) six
 free_not past own id (Some held) six = let clash : ⊥ = cc in clash
 
-submit_not : (past : Past) (own : ℕ → Option Held) (fault : Option Refusal) → reply_by past (submit_by own fault) ≡ refusal 6 → ⊥
+submit_not : (past : Past) (own : ℕ → Option Held) (fault : Option BrokenRule) → reply_by past (submit_by own fault) ≡ refusal 6 → ⊥
 submit_not past own None six = let clash : ⊥ = cc in clash
 submit_not past own (Some fault) six = let clash : ⊥ = cc in clash
 

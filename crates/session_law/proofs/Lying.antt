@@ -7,12 +7,12 @@ use Rattle.std.specs.List.{flat_map}
 use Rattle.field_words.specs.{Sizes.page_size, Questions.first_of}
 use Rattle.buffer_table.specs.{declared.buffer.Buffer.Buffer, declared.buffer.Kind.Kind}
 use Rattle.buffer_table.specs.declared.buffer.Kind.TheVariants.{Plain, Code}
-use Rattle.job_format.specs.{Text.buffer_text, Reading.file_at}
-use Rattle.job_check.specs.Faults.{table_stage}
+use Rattle.job_format.specs.{declared.rule.Place.Place, declared.rule.Refusal.Refusal, Places.offset_of, Text.buffer_text, Reading.file_at}
+use Rattle.job_check.specs.{Faults.table_stage, Whole.refusal_of}
 use Rattle.session_pages.specs.Map.{first_place, memory_size, place_of}
 use Rattle.job_session.specs.Submit.{content_of, buffer_laid, laid_at, size_of, buffers_packed, contents_from, with_client, header_of, job_bytes, file_of}
 use Rattle.job_session.specs.Desk.{Desk, slot_of, first_page, page_total, kind_of, bytes_of, held_in, job_answer}
-use Rattle.job_session.specs.{Own.Held, Own.most_buffers, Session.Past}
+use Rattle.job_session.specs.{Checked.rule_option, Checked.file_refusal, Own.Held, Own.most_buffers, Session.Past}
 use Rattle.places_law.specs.Moved.{placeless, AreMoved}
 use Rattle.places_law.proofs.{Tables.count_placeless, Wholes.moved_are_alike}
 use Rattle.session_law.specs.{Agree.IsKey, Agree.client_count, Agree.Agrees, Lying.lying, Lying.lying_file, Lying.SubmitsAreOfPlaces}
@@ -255,8 +255,16 @@ lying_stands past desk client parts agrees known =
     (job_bytes (contents_from (held_in desk client) 0 most_buffers) (with_client client parts))
     (lying_laid past desk client 0 most_buffers agrees known (omega arith)) (lying_few desk client 0 most_buffers)
 
+-- the same rule, at the same offset
+rule_same : (one two : List ℕ) → ((place : Place) → offset_of one place ≡ offset_of two place) → (found : Option Refusal) → rule_option one found ≡ rule_option two found
+rule_same one two same None = refl
+rule_same one two same (Some refusal) = ap (λ (offset : ℕ). Some (record { rule = refusal.rule; offset = offset })) (same refusal.place)
+
 pub submits_are_of_places : SubmitsAreOfPlaces
+unfolding file_refusal
 submits_are_of_places past desk client parts known agrees =
-    ap job_answer
-    (sym (moved_are_alike (file_of client (held_in desk client) parts) (lying_file desk client parts) (files_moved desk client parts)
-    (packed_stands past desk client parts agrees known) (lying_stands past desk client parts agrees known)))
+    let one : List ℕ = file_of client (held_in desk client) parts in
+    let two : List ℕ = lying_file desk client parts in
+    let same = moved_are_alike one two (files_moved desk client parts)
+    (packed_stands past desk client parts agrees known) (lying_stands past desk client parts agrees known) in
+    ap job_answer (sym (ap (rule_option two) same.0 ∙ rule_same two one same.1 (refusal_of one)))

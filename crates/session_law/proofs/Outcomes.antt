@@ -4,7 +4,7 @@ use Rattle.std.proofs.Common.{ne_eqb, ◌≡◌, ℕ, ◌+◌, ◌*◌, ◌<◌,
 use Rattle.std.proofs.lemmas.Bool.Decides.{nat_tests}
 use Rattle.field_words.specs.{Sizes.page_size, Writes.with_bytes}
 use Rattle.buffer_table.specs.{declared.buffer.Kind.Kind, declared.buffer.Kind.TheVariants.Plain, declared.buffer.Kind.TheVariants.Code}
-use Rattle.job_format.specs.declared.rule.Refusal.{Refusal}
+use Rattle.job_session.specs.declared.denied.BrokenRule.{BrokenRule}
 use Rattle.phys_mem.specs.Window.{window_of}
 use Rattle.session_pages.specs.Map.{place_of}
 use Rattle.job_session.specs.Own.{Held, Write, Read, Free, Submit, Reply, Done, Bytes, Refused, Outcome, Answered, most_buffers, most_read, with_buffer, write_by, read_by, free_by, submit_by}
@@ -31,7 +31,7 @@ same_agrees past desk client agrees =
     subst (λ (own : ℕ → ℕ → Option Held). Agrees (record { own = own; places = past.places }) desk) (sym (own_same past client)) agrees
 
 -- a call's reply, and that what it leaves agrees
-abbrev pub Meets : Past → Call → Reply Refusal → Desk → Outcome Refusal → Type 0
+abbrev pub Meets : Past → Call → Reply BrokenRule → Desk → Outcome BrokenRule → Type 0
 Meets past call reply left o = (reply ≡ reply_by past o) × Agrees (past_by past call o) left
 
 -- whether the client has the buffer
@@ -152,7 +152,7 @@ pub write_meets : (past : Past) (desk : Desk) (client id at : ℕ) (part : List 
 write_meets past desk client id at part agrees known = write_step past desk client id at part agrees known (is_live desk client id) refl
 
 -- read
-abbrev report : List ℕ → Reply Refusal
+abbrev report : List ℕ → Reply BrokenRule
 report bytes = Bytes bytes
 
 read_long : (past : Past) (desk : Desk) (client id at len : ℕ) → Agrees past desk → (many past_end : Bool)
@@ -196,7 +196,7 @@ pub read_meets : (past : Past) (desk : Desk) (client id at len : ℕ) → Agrees
 read_meets past desk client id at len agrees known = read_step past desk client id at len agrees known (is_live desk client id) refl
 
 -- submit
-submit_by_rule : (past : Past) (desk : Desk) (client : ℕ) (parts : List ℕ) → Agrees past desk → (refusal : Option Refusal)
+submit_by_rule : (past : Past) (desk : Desk) (client : ℕ) (parts : List ℕ) → Agrees past desk → (refusal : Option BrokenRule)
     → Meets past (record { client = client; command = Submit parts }) (submitted_reply (job_answer refusal)) desk (submit_by (past.own client) refusal)
 submit_by_rule past desk client parts agrees None = (refl, same_agrees past desk client agrees)
 submit_by_rule past desk client parts agrees (Some refusal) = (refl, same_agrees past desk client agrees)

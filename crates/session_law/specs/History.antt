@@ -1,6 +1,6 @@
 -- Calls one after the other: what they leave, and what one client is replied.
 use Rattle.std.specs.Prelude.{ℕ, ◌<◌, ◌==◌, List, [], ◌∷◌, if◌then◌else◌}
-use Rattle.job_format.specs.declared.rule.Refusal.{Refusal}
+use Rattle.job_session.specs.declared.denied.BrokenRule.{BrokenRule}
 use Rattle.job_session.specs.{Own.Reply, Session.Call, Session.Past, Session.after, Checked.session_rules, Desk.Desk}
 use Rattle.job_session.specs.Replies.{desk_reply, desk_after}
 use Rattle.session_law.specs.Agree.{client_count}
@@ -19,13 +19,13 @@ past_left past [] = past
 past_left past (call ∷ calls) = past_left (after session_rules past call) calls
 
 -- the replies to one client
-unfoldable pub desk_replies_to : ℕ → Desk → List Call → List (Reply Refusal)
+unfoldable pub desk_replies_to : ℕ → Desk → List Call → List (Reply BrokenRule)
 desk_replies_to client desk [] = []
 desk_replies_to client desk (call ∷ calls) =
     if client == call.client then desk_reply desk call ∷ desk_replies_to client (desk_after desk call) calls
     else desk_replies_to client (desk_after desk call) calls
 
 -- the replies to all
-unfoldable pub desk_replies : Desk → List Call → List (Reply Refusal)
+unfoldable pub desk_replies : Desk → List Call → List (Reply BrokenRule)
 desk_replies desk [] = []
 desk_replies desk (call ∷ calls) = desk_reply desk call ∷ desk_replies (desk_after desk call) calls

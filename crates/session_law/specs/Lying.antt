@@ -2,9 +2,8 @@
 use Rattle.std.specs.Prelude.{◌≡◌, ◌<◌, ℕ, zero, suc, ◌+◌, List, [], ◌++◌, length, flat_map}
 use Rattle.buffer_table.specs.declared.buffer.Buffer.{Buffer}
 use Rattle.job_format.specs.Text.{buffer_text}
-use Rattle.job_check.specs.Whole.{refusal_of}
 use Rattle.session_pages.specs.Map.{place_of}
-use Rattle.job_session.specs.{Own.most_buffers, Session.Past, Desk.Desk, Desk.first_page, Desk.held_in, Desk.job_answer, Desk.submit_answer}
+use Rattle.job_session.specs.{Checked.file_refusal, Own.most_buffers, Session.Past, Desk.Desk, Desk.first_page, Desk.held_in, Desk.job_answer, Desk.submit_answer}
 use Rattle.job_session.specs.Submit.{laid_at, contents_from, with_client, header_of, job_bytes}
 use Rattle.session_law.specs.Agree.{client_count, Agrees}
 
@@ -23,4 +22,4 @@ lying_file desk client parts =
 -- A submit's answer is also that of the file with the client's buffers where they lie.
 abbrev pub SubmitsAreOfPlaces : Type 0
 SubmitsAreOfPlaces = (past : Past) (desk : Desk) (client : ℕ) (parts : List ℕ) → client < client_count → Agrees past desk
-    → submit_answer desk client parts ≡ job_answer (refusal_of (lying_file desk client parts))
+    → submit_answer desk client parts ≡ job_answer (file_refusal (lying_file desk client parts))

@@ -14,7 +14,7 @@ use Rattle.promises.specs.Prepared.{IsFaultless, content_filled, HasContent, IsP
 use Rattle.accepted_law.proofs.Prepared.{region_within}
 use Rattle.job_safety.proofs.{Prepared.prepared_jobs_law, Safety.bytes_spell, Safety.faultless}
 use Rattle.session_pages.specs.Map.{memory_size, place_of}
-use Rattle.job_session.specs.{Own.most_buffers, Session.Past, Submit.content_of, Submit.buffer_laid, Submit.with_client}
+use Rattle.job_session.specs.{Checked.rule_option, Checked.file_refusal, Own.most_buffers, Session.Past, Submit.content_of, Submit.buffer_laid, Submit.with_client}
 use Rattle.job_session.specs.Desk.{Desk, first_page, page_total, kind_of, bytes_of, job_answer}
 use Rattle.session_law.specs.{Agree.IsKey, Agree.client_count, Agree.Agrees, Lying.lying, Lying.lying_file}
 use Rattle.session_law.proofs.Bytes.{window_length, window_same}
@@ -24,14 +24,14 @@ use Rattle.session_safety.specs.Running.{file_in, lists_in, with_lists, IsAccept
 use Rattle.session_safety.proofs.{Bytes.file_bytes, Contents.IsLying, Contents.front_take, Contents.lies, Contents.whole_entry}
 
 -- No rule of the file is broken.
-none_by : (refusal : Option Refusal) → job_answer refusal ≡ Ok tt → refusal ≡ None
-none_by None is = refl
-none_by (Some refusal) is = absurd (cc)
+none_by : (bytes : List ℕ) (refusal : Option Refusal) → job_answer (rule_option bytes refusal) ≡ Ok tt → refusal ≡ None
+none_by bytes None is = refl
+none_by bytes (Some refusal) is = absurd (cc)
 
 none_broken : (past : Past) (desk : Desk) (client : ℕ) (parts : List ℕ) → IsAccepted past desk client parts → first_of (all_questions (lying_file desk client parts)) ≡ None
-unfolding refusal_of
+unfolding refusal_of file_refusal
 none_broken past desk client parts accepted =
-    none_by (refusal_of (lying_file desk client parts)) (sym (submits_are_of_places past desk client parts accepted.known accepted.agrees) ∙ accepted.accepted)
+    none_by (lying_file desk client parts) (refusal_of (lying_file desk client parts)) (sym (submits_are_of_places past desk client parts accepted.known accepted.agrees) ∙ accepted.accepted)
 
 pub is_faultless : (past : Past) (desk : Desk) (client : ℕ) (parts : List ℕ) → IsAccepted past desk client parts → IsFaultless (file_in desk client parts)
 is_faultless past desk client parts accepted =

@@ -29,13 +29,13 @@ selected f j at word records from count records_are from_is count_is =
 
 pub record_broken : (f : FileModel) (j at word : ℕ) (records : List ℕ) (from count place : ℕ) → records ≡ (job_of f j).records → from ≡ record_at at word
     → count ≡ attribute_count word → first_of (use_questions f j at) ≡ None → first_of (selection_questions records from count) ≡ Some place
-    → first_of (record_questions f j at word) ≡ Some (selection_refused f j from place)
+    → first_of (record_questions f j at word) ≡ Some (selection_refused j from place)
 unfolding record_questions
 record_broken f j at word records from count place records_are from_is count_is none broken =
     passes (use_questions f j at) _ none
-    ∙ answered_some (selection_refused f j (record_at at word)) (selection_questions (job_of f j).records (record_at at word) (attribute_count word)) place
+    ∙ answered_some (selection_refused j (record_at at word)) (selection_questions (job_of f j).records (record_at at word) (attribute_count word)) place
     (selected f j at word records from count records_are from_is count_is ∙ broken)
-    ∙ sym (ap (λ p. Some (selection_refused f j p place)) from_is)
+    ∙ sym (ap (λ p. Some (selection_refused j p place)) from_is)
 
 pub record_passes : (f : FileModel) (j at word : ℕ) (records : List ℕ) (from count : ℕ) → records ≡ (job_of f j).records → from ≡ record_at at word
     → count ≡ attribute_count word → first_of (use_questions f j at) ≡ None → first_of (selection_questions records from count) ≡ None
@@ -43,7 +43,7 @@ pub record_passes : (f : FileModel) (j at word : ℕ) (records : List ℕ) (from
 unfolding record_questions
 record_passes f j at word records from count records_are from_is count_is none broken =
     passes (use_questions f j at) _ none
-    ∙ answered_none (selection_refused f j (record_at at word)) (selection_questions (job_of f j).records (record_at at word) (attribute_count word))
+    ∙ answered_none (selection_refused j (record_at at word)) (selection_questions (job_of f j).records (record_at at word) (attribute_count word))
     (selected f j at word records from count records_are from_is count_is ∙ broken)
 
 -- How far it has come: where T holds, what is asked of the states of the bytes that are left decides; and the place of the next source is

@@ -41,14 +41,14 @@ pub code_passes : (f : FileModel) (b : ℕ) (x : Findings) (findings : List Find
     → first_of (code_stage f b) ≡ None
 unfolding code_stage
 code_passes f b x findings below are none =
-    answered_none (code_refused f b) (code_questions_in (buffer_at f.buffers b).kind (content_of f b))
+    answered_none (code_refused b) (code_questions_in (buffer_at f.buffers b).kind (content_of f b))
     (sym (fault_is f b x below) ∙ sym (ap (λ l. (get_or l b x).fault) are) ∙ none)
 
 pub code_broken : (f : FileModel) (b : ℕ) (x : Findings) (findings : List Findings) (fault : StrictFault) → b < length f.buffers → findings ≡ all_findings f
-    → (get_or findings b x).fault ≡ Some fault → first_of (code_stage f b) ≡ Some (code_refused f b fault)
+    → (get_or findings b x).fault ≡ Some fault → first_of (code_stage f b) ≡ Some (code_refused b fault)
 unfolding code_stage
 code_broken f b x findings fault below are some =
-    answered_some (code_refused f b) (code_questions_in (buffer_at f.buffers b).kind (content_of f b)) fault
+    answered_some (code_refused b) (code_questions_in (buffer_at f.buffers b).kind (content_of f b)) fault
     (sym (fault_is f b x below) ∙ sym (ap (λ l. (get_or l b x).fault) are) ∙ some)
 
 -- the handles of job j, and what the one at i names, by whether it is there and has a buffer

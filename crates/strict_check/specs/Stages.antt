@@ -4,40 +4,40 @@ use Rattle.std.specs.Prelude.{ℕ, ◌+◌, ◌*◌, List, [], ◌∷◌, ◌++�
 use Rattle.field_words.specs.{Questions.Question, Questions.Ask, Questions.each, Questions.with_answers, Words.u32_at}
 use Rattle.buffer_table.specs.{declared.buffer.Kind.Kind, declared.buffer.Kind.TheVariants.Plain, declared.buffer.Kind.TheVariants.Code}
 use Rattle.buffer_table.specs.Table.{buffer_at}
-use Rattle.job_format.specs.{declared.rule.Refusal.Refusal, declared.rule.Stage.TheVariants.E, Model.FileModel}
+use Rattle.job_format.specs.declared.rule.Part.TheVariants.{Contents, BinnerList, Records}
+use Rattle.job_format.specs.{declared.rule.Refusal.Refusal, declared.rule.Stage.TheVariants.E, Model.FileModel, Places.place_in}
 use Rattle.packets.specs.StateWord.{attribute_count}
 use Rattle.bin_list.specs.declared.state.State.{State}
 use Rattle.shader_records.specs.Sources.{handles_size, source_size}
 use Rattle.job_check.specs.{Faults.refusal_by, Jobs.job_of, Jobs.states_in, Shaders.words_of, Shaders.content_of}
-use Rattle.job_check.specs.Offsets.{content_offset, bin_offset, records_offset}
 use Rattle.strict_rules.specs.{declared.rule.StrictFault.StrictFault, Least.number_of as shader_number, Rules.strict_questions}
 use Rattle.strict_lists.specs.{declared.rule.ListFault.ListFault, Rules.number_of as list_number, Rules.list_questions, Records.selection_questions}
 use Rattle.strict_check.specs.Uses.{uses_named}
 
 -- E1 to E7: the shader in buffer b, whether or not a job names it; at an instruction of it
-abbrev pub code_refused : FileModel → ℕ → StrictFault → Refusal
-code_refused f b fault = refusal_by E (shader_number fault.rule) (content_offset f b + 8 * fault.at)
+abbrev pub code_refused : ℕ → StrictFault → Refusal
+code_refused b fault = refusal_by E (shader_number fault.rule) (place_in Contents b (8 * fault.at))
 
 abbrev pub code_questions_in : Kind → List ℕ → List (Question StrictFault)
 code_questions_in Plain content = []
 code_questions_in Code content = strict_questions (words_of content)
 
 unfoldable pub code_stage : FileModel → ℕ → List (Question Refusal)
-code_stage f b = with_answers (code_refused f b) (code_questions_in (buffer_at f.buffers b).kind (content_of f b))
+code_stage f b = with_answers (code_refused b) (code_questions_in (buffer_at f.buffers b).kind (content_of f b))
 
 unfoldable pub codes_stage : FileModel → List (Question Refusal)
 codes_stage f = each (code_stage f) 0 (length f.buffers)
 
 -- E9, E10 and E13: the binner list of job j, at a packet
-abbrev pub list_refused : FileModel → ℕ → ListFault → Refusal
-list_refused f j fault = refusal_by E (list_number fault.rule) (bin_offset f j + fault.at)
+abbrev pub list_refused : ℕ → ListFault → Refusal
+list_refused j fault = refusal_by E (list_number fault.rule) (place_in BinnerList j fault.at)
 
 unfoldable pub list_stage : FileModel → ℕ → List (Question Refusal)
-list_stage f j = with_answers (list_refused f j) (list_questions (job_of f j).bin)
+list_stage f j = with_answers (list_refused j) (list_questions (job_of f j).bin)
 
 -- a rule at a place in the records of job j
-abbrev pub record_refused : FileModel → (j number at : ℕ) → Refusal
-record_refused f j number at = refusal_by E number (records_offset f j + at)
+abbrev pub record_refused : (j number at : ℕ) → Refusal
+record_refused j number at = refusal_by E number (place_in Records j at)
 
 -- Of a record whose source begins at a place: what the shader that its handle s names (0 fragment, 1 vertex, 2 coordinate) uses. E8: the
 -- fragment shader has what belongs to vertices, or one of the others what belongs to fragments.
@@ -46,22 +46,22 @@ handle_at f j at = u32_at (job_of f j).records at
 
 unfoldable pub use_questions : FileModel → (j at : ℕ) → List (Question Refusal)
 use_questions f j at =
-    Ask (uses_named f j (handle_at f j at)).vpm (record_refused f j 8 at)
-    ∷ Ask (uses_named f j (handle_at f j (at + 4))).tile (record_refused f j 8 (at + 4))
-    ∷ Ask (uses_named f j (handle_at f j (at + 8))).tile (record_refused f j 8 (at + 8))
+    Ask (uses_named f j (handle_at f j at)).vpm (record_refused j 8 at)
+    ∷ Ask (uses_named f j (handle_at f j (at + 4))).tile (record_refused j 8 (at + 4))
+    ∷ Ask (uses_named f j (handle_at f j (at + 8))).tile (record_refused j 8 (at + 8))
     ∷ []
 
 -- E11: it selects an attribute that the state with this word doesn't have
 abbrev pub record_at : (at word : ℕ) → ℕ
 record_at at word = at + handles_size word
 
-abbrev pub selection_refused : FileModel → (j from place : ℕ) → Refusal
-selection_refused f j from place = record_refused f j 11 (from + place)
+abbrev pub selection_refused : (j from place : ℕ) → Refusal
+selection_refused j from place = record_refused j 11 (from + place)
 
 unfoldable pub record_questions : FileModel → (j at word : ℕ) → List (Question Refusal)
 record_questions f j at word =
     use_questions f j at
-    ++ with_answers (selection_refused f j (record_at at word)) (selection_questions (job_of f j).records (record_at at word) (attribute_count word))
+    ++ with_answers (selection_refused j (record_at at word)) (selection_questions (job_of f j).records (record_at at word) (attribute_count word))
 
 -- those of the records of states; the source of each begins where the one before ends
 abbrev pub records_from : FileModel → (j at : ℕ) → List State → List (Question Refusal)

@@ -3,26 +3,11 @@ ghost use Rattle.std.specs.Prelude.{◌≡◌, ◌<◌, length};
 ghost use Rattle.field_words.specs.Questions.{GoesOn};
 ghost use Rattle.job_format.specs.File.{IsWellFormed};
 ghost use Rattle.job_format.specs.Parts.{parts_view};
-ghost use Rattle.strict_check.specs.Stages.{list_refused, list_stage};
+ghost use Rattle.strict_check.specs.Stages.{list_stage};
 
-use job_check::{bin_offset, job_at};
-use job_format::{FileParts, Refusal, Rule, Stage};
-use strict_lists::{ListFault, check_list};
-
-/// A strict rule that the binner list of the job of this number breaks.
-fn list_refusal(file: &FileParts, number: usize, fault: &ListFault) -> Refusal
-    requires well_formed { IsWellFormed (parts_view file.now) }
-    requires inside { number < length file.now.jobs.items }
-    ensures { result ≡ list_refused (parts_view file.now) number fault.now }
-{
-    Refusal {
-        rule: Rule {
-            stage: Stage::E,
-            number: fault.rule.number(),
-        },
-        offset: bin_offset(file, number) + u64::from(fault.at),
-    }
-}
+use job_check::{job_at, refusal};
+use job_format::{FileParts, Part, Refusal, Stage};
+use strict_lists::check_list;
 
 /// E9, E10 and E13 of the job of this number.
 #[tactic(auto, unfolding(crate::specs::Stages::list_stage), using(field_words::proofs::Questions::answered_none, field_words::proofs::Questions::answered_some))]
@@ -33,6 +18,9 @@ pub(crate) fn list_stage(file: &FileParts, number: usize) -> Result<(), Refusal>
 {
     match check_list(job_at(file, number).bin) {
         Ok(()) => Ok(()),
-        Err(fault) => Err(list_refusal(file, number, &fault)),
+        Err(fault) => {
+            let (rule, at) = (fault.rule.number(), u64::from(fault.at));
+            Err(refusal(Stage::E, rule, Part::BinnerList, number, at))
+        }
     }
 }

@@ -11,8 +11,8 @@ ghost use Rattle.strict_check.specs.Stages.{record_refused, use_questions, recor
 use crate::findings::Findings;
 use crate::uses::uses_named;
 use bin_list::split_front;
-use job_check::{job_at, part_offset};
-use job_format::{FileParts, Refusal, Rule, Stage};
+use job_check::{job_at, refusal};
+use job_format::{FileParts, Part, Refusal, Stage};
 use packets::opcode::GL_SHADER_STATE;
 use packets::{attribute_count, record_size};
 use strict_lists::{byte_at, selection_fault};
@@ -30,21 +30,12 @@ fn word_at(bytes: &[u8], at: usize) -> u32
     ])
 }
 
-/// A strict rule that the records of the job of this number break, at this place in them.
-#[tactic(auto, unfolding(job_check::specs::Faults::part_offset))]
-fn record_refusal(file: &FileParts, number: usize, rule: u8, at: u64) -> Refusal
-    requires well_formed { IsWellFormed (parts_view file.now) }
-    requires inside { number < length file.now.jobs.items }
-    requires near { at < 2 ^ 33 }
-    ensures { result ≡ record_refused (parts_view file.now) number rule at }
+/// A strict rule that the records of job `j` break, at this place in them.
+fn record_refusal(j: usize, rule: u8, at: u64) -> Refusal
+    requires { j < 2 ^ 32 }
+    ensures { result ≡ record_refused j rule at }
 {
-    Refusal {
-        rule: Rule {
-            stage: Stage::E,
-            number: rule,
-        },
-        offset: part_offset(file, number, false) + at,
-    }
+    refusal(Stage::E, rule, Part::Records, j, at)
 }
 
 /// E8 of the record whose source begins at this place.
@@ -63,13 +54,13 @@ fn use_fault(
 {
     let records = job_at(file, number).records;
     if uses_named(file, number, findings, word_at(records, at)).vpm {
-        return Err(record_refusal(file, number, 8, at as u64));
+        return Err(record_refusal(number, 8, at as u64));
     }
     if uses_named(file, number, findings, word_at(records, at + 4)).tile {
-        return Err(record_refusal(file, number, 8, at as u64 + 4));
+        return Err(record_refusal(number, 8, at as u64 + 4));
     }
     if uses_named(file, number, findings, word_at(records, at + 8)).tile {
-        return Err(record_refusal(file, number, 8, at as u64 + 8));
+        return Err(record_refusal(number, 8, at as u64 + 8));
     }
     Ok(())
 }
@@ -109,7 +100,7 @@ fn record_fault(
     use_fault(file, number, findings, at)?;
     let from = at + handles_size(word);
     match selection_fault(job_at(file, number).records, from, attribute_count(word)) {
-        Some(place) => Err(record_refusal(file, number, 11, from as u64 + u64::from(place))),
+        Some(place) => Err(record_refusal(number, 11, from as u64 + u64::from(place))),
         None => Ok(()),
     }
 }

@@ -1,5 +1,5 @@
 //! E1 to E7: the shaders of a file, by buffer.
-ghost use Rattle.std.specs.Prelude.{◌≡◌, ◌<◌, length};
+ghost use Rattle.std.specs.Prelude.{◌≡◌, ◌<◌, ◌^◌, length};
 ghost use Rattle.field_words.specs.Questions.{GoesOn};
 ghost use Rattle.job_format.specs.File.{IsWellFormed};
 ghost use Rattle.job_format.specs.Parts.{parts_view};
@@ -7,23 +7,17 @@ ghost use Rattle.strict_check.specs.Findings.{all_findings};
 ghost use Rattle.strict_check.specs.Stages.{code_refused, code_stage, codes_stage};
 
 use crate::findings::Findings;
-use job_check::content_offset;
-use job_format::{FileParts, Refusal, Rule, Stage};
+use job_check::refusal;
+use job_format::{FileParts, Part, Refusal, Stage};
 use strict_rules::StrictFault;
 
 /// A strict rule that the shader in buffer `b` breaks.
-fn code_refusal(file: &FileParts, b: usize, fault: &StrictFault) -> Refusal
-    requires well_formed { IsWellFormed (parts_view file.now) }
-    requires inside { b < length file.now.buffers.items }
-    ensures { result ≡ code_refused (parts_view file.now) b fault.now }
+fn code_refusal(b: usize, fault: &StrictFault) -> Refusal
+    requires { b < 2 ^ 32 }
+    ensures { result ≡ code_refused b fault.now }
 {
-    Refusal {
-        rule: Rule {
-            stage: Stage::E,
-            number: fault.rule.number(),
-        },
-        offset: content_offset(file, b) + 8 * u64::from(fault.at),
-    }
+    let at = 8 * u64::from(fault.at);
+    refusal(Stage::E, fault.rule.number(), Part::Contents, b, at)
 }
 
 /// E1 to E7 of the shader in buffer `b`.
@@ -36,7 +30,7 @@ fn code_stage(file: &FileParts, b: usize, findings: &[Findings]) -> Result<(), R
         → GoesOn (code_stage (parts_view file.now) b) (λ made. Unit {0}) result }
 {
     match findings[b].fault {
-        Some(fault) => Err(code_refusal(file, b, &fault)),
+        Some(fault) => Err(code_refusal(b, &fault)),
         None => Ok(()),
     }
 }

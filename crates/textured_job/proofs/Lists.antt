@@ -81,7 +81,7 @@ surfaces_asked Single = refl
 
 -- the frame and the handles are those of the job
 surfaces_reported : (c : Case) → surfaces_stage (file_in c) (number_in c)
-    ≡ with_answers (surface_refused (file_in c) (number_in c)) (surface_faults frame (grid_of (file_in c) (number_in c)) (table_of (file_in c)) (handles_in c))
+    ≡ with_answers (surface_refused (number_in c)) (surface_faults frame (grid_of (file_in c) (number_in c)) (table_of (file_in c)) (handles_in c))
 unfolding surfaces_stage job_of textured_file two_clients one_client
 surfaces_reported Alone = refl
 surfaces_reported First = refl

@@ -46,7 +46,7 @@ vertex_is_reported = refl
 
 -- the shaders of a client, in buffers b and b + 1 of a file
 client_none : (f : FileModel) (b d : ℕ) (rest : List (Question Refusal)) → first_of rest ≡ None
-    → first_of (with_answers (shader_refused f b) (code_questions (code_bytes fragment_words)) ++ (with_answers (shader_refused f d) (code_questions (code_bytes vertex_words)) ++ rest)) ≡ None
+    → first_of (with_answers (shader_refused b) (code_questions (code_bytes fragment_words)) ++ (with_answers (shader_refused d) (code_questions (code_bytes vertex_words)) ++ rest)) ≡ None
 client_none f b d rest none = grind (arith, common_steps, nat_tests, passes, answered_none, fragment_no_fault, vertex_no_fault)
 
 shaders_none : first_of (shaders_stage textured_file) ≡ None

@@ -28,7 +28,7 @@ fn accepted_line(alloc: Global, all: &[Lengths]) -> Result<Vec<u8>, NoMemory> {
 pub fn answer(alloc: Global, bytes: &[u8]) -> Result<Vec<u8>, NoMemory> {
     match check_places(alloc, MOST_MEMORY, bytes) {
         Ok(region) => accepted_line(alloc, &region.lengths),
-        Err(Stop::Fault(refusal)) => refusal_text(alloc, &refusal),
+        Err(Stop::Fault(refusal)) => refusal_text(alloc, bytes, &refusal),
         Err(Stop::NoMemory) => Err(NoMemory),
     }
 }

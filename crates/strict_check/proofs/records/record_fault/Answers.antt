@@ -19,7 +19,7 @@ returns-in-Some c = λ holds.
     record_broken f c.args.number c.args.at c.args.word _ _ _ c.in-Some.place (ap (λ (j : JobModel). j.records) c.job_at.ensures.value)
     (ap (λ n. c.args.at + n) c.handles_size.ensures.value) c.attribute_count.ensures.value (c.in_ok-use_fault.ensures holds).0
     (sym c.selection_fault.ensures ∙ c.in-Some.is)
-    ∙ ap Some (sym (c.record_refusal.ensures ∙ ap (λ n. record_refused f c.args.number 11 (c.args.at + c.handles_size.result + n)) c.from.ensures))
+    ∙ ap Some (sym (c.record_refusal.ensures ∙ ap (λ n. record_refused c.args.number 11 (c.args.at + c.handles_size.result + n)) c.from.ensures))
 
 pub returns-in-None : goal.returns-in-None
 returns-in-None c = λ holds.

@@ -10,13 +10,12 @@ use Rattle.job_check.proofs.Views.{input_is, records_none, records_some, records
 use Rattle.job_check.proofs.Layouts.{kept_low, layout_apart}
 use Rattle.job_check.proofs.context.Context.records.Goals as goal
 
-pub check_records-requires-clause-shaders : goal.check_records-requires-clause-shaders
-check_records-requires-clause-shaders c =
-    let v = c.args.self.now in
+pub invariant_of-inputs : goal.invariant_of-inputs
+invariant_of-inputs c =
     let x = c.self.inside in
     let h = subst (λ (w : InView). IsContext w (job_parts_view x.job.now) x.table.now (shaders_view x.shaders.now.items) x.handles x.layout) c.self.view_is c.self.invariant in
     let shaped = subst (λ (t : TableModel). AreShaped t (shaders_view x.shaders.now.items)) (sym h.table_is) h.shaped in
-    subst (λ l. AreShaped x.table.now (shaders_view l)) (sym c.deref.ensures.value) shaped
+    record { handles = h.numbers; shaders = subst (λ l. AreShaped x.table.now (shaders_view l)) (sym c.deref.ensures.value) shaped }
 
 pub check_records-requires-clause-place_limit : goal.check_records-requires-clause-place_limit
 check_records-requires-clause-place_limit c =
@@ -119,4 +118,4 @@ returns-in-Err-Fault-clause-answers c = λ true.
     let report = rw c.in-Err-Fault.field-0-is at c.in-Err-Fault.ensures.answers in
     let broken = subst (λ (i : InputModel). first_of (all_questions i) ≡ Some c.in-Err-Fault.fault) same report in
     records_some v.file v.number c.in-Err-Fault.fault c.requires.some broken
-    ∙ sym (ap Some (c.record_refusal.ensures ∙ ap (λ (w : InView). record_refused w.file w.number c.in-Err-Fault.fault) c.self.view_is))
+    ∙ sym (ap Some (c.record_refusal.ensures ∙ ap (λ (w : InView). record_refused w.number c.in-Err-Fault.fault) c.self.view_is))

@@ -1,5 +1,5 @@
 use Rattle.std.proofs.Common.{◌≡◌, ◌≤◌, ◌*◌, map, sum, take}
-use Rattle.job_check.proofs.refusals.content_before.Given as goal
+use Rattle.job_check.proofs.offsets.content_before.Given as goal
 
 -- the sum of the contents so far, each of them below 2^32
 abbrev pub invariant-loop-buffer : goal.invariant-loop-buffer
