@@ -1,7 +1,6 @@
 pub mod Blocks
 mod Fronts
 pub mod MayRun
-pub mod Own
 pub mod Telling
 pub mod Places
 pub mod Safe

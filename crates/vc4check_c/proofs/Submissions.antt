@@ -7,8 +7,8 @@ use Rattle.field_words.specs.{Questions.Question, Questions.Refuses, Questions.f
 use Rattle.field_words.proofs.Questions.{each_stop, none_broken, first_none}
 use Rattle.field_words.proofs.Nones.{front_none, rest_none, each_none}
 use Rattle.buffer_table.specs.{declared.buffer.Kind.Kind, declared.buffer.Kind.TheVariants.Plain, declared.buffer.Kind.TheVariants.Code}
-use Rattle.job_format.specs.{Offsets.entry_offset, File.FitsShader, File.IsJobWellFormed, File.IsWellFormed}
-use Rattle.vc4check_c.specs.Submission.{kind_in, content_in, entry_in, job_in, file_of, entry_questions, entry_questions_at, buffer_questions, entries_questions, job_questions, job_questions_of, own_questions}
+use Rattle.job_format.specs.{File.FitsShader, File.IsJobWellFormed, File.IsWellFormed}
+use Rattle.vc4check_c.specs.Submission.{kind_in, content_in, entry_in, job_in, file_of, entry_questions, entry_questions_at, buffer_questions, entries_questions, job_questions, own_questions}
 use Rattle.vc4check_c.specs.{declared.submission.GivenBuffer.GivenBuffer, declared.submission.Submission.Submission}
 
 -- what stops at item b stops the whole, where those before it leave the decision to it
@@ -35,9 +35,9 @@ shader_fits Plain content few = tt
 shader_fits Code content few = few
 
 -- what a buffer in which no rule is broken comes to
-entry_passes : (given : GivenBuffer) (at : ℕ) → first_of (entry_questions given at) ≡ None → length (content_in given) ≤ most_code
+entry_passes : (given : GivenBuffer) (b : ℕ) → first_of (entry_questions given b) ≡ None → length (content_in given) ≤ most_code
 unfolding entry_questions
-entry_passes given at none = let n = none_broken (entry_questions given at) none in grind (arith, n.1.0)
+entry_passes given b none = let n = none_broken (entry_questions given b) none in grind (arith, n.1.0)
 
 entry_fits : (given : GivenBuffer) → length (content_in given) ≤ most_code → FitsShader (entry_in given).kind (entry_in given).content
 unfolding entry_in
@@ -59,12 +59,12 @@ unfolding buffer_questions
 entries_pass buffers none b given here =
     let inside = slice_get_within buffers b given here in
     let passes = each_none (buffer_questions buffers) 0 (length buffers) b none (omega arith) (omega (arith, inside)) in
-    entry_passes given (entry_offset b) (subst (λ g. first_of (entry_questions_at g b) ≡ None) here passes)
+    entry_passes given b (subst (λ g. first_of (entry_questions_at g b) ≡ None) here passes)
 
-job_passes : (s : Submission) (at : ℕ) → first_of (job_questions s at) ≡ None → IsJobWellFormed (job_in s)
+job_passes : (s : Submission) → first_of (job_questions s) ≡ None → IsJobWellFormed (job_in s)
 unfolding job_questions job_in
-job_passes s at none =
-    let n = none_broken (job_questions s at) none in
+job_passes s none =
+    let n = none_broken (job_questions s) none in
     let rest = n.1.1.1.1 in
     record {
       handles = grind (arith, n.1.0);
@@ -82,8 +82,8 @@ unfolding own_questions
 shaders_few s none =
     let buffers = s.buffers.now in
     let n = none_broken (own_questions s) none in
-    let rest = first_none (entries_questions buffers ++ job_questions_of s) n.1 in
-    entries_pass buffers (front_none (entries_questions buffers) (job_questions_of s) rest)
+    let rest = first_none (entries_questions buffers ++ job_questions s) n.1 in
+    entries_pass buffers (front_none (entries_questions buffers) (job_questions s) rest)
 
 -- A submission of whose own numbers no rule is broken is a well-formed file.
 pub well_formed : (s : Submission) → first_of (own_questions s) ≡ None → IsWellFormed (file_of s)
@@ -91,7 +91,7 @@ unfolding own_questions file_of
 well_formed s none =
     let buffers = s.buffers.now in
     let n = none_broken (own_questions s) none in
-    let rest = first_none (entries_questions buffers ++ job_questions_of s) n.1 in
+    let rest = first_none (entries_questions buffers ++ job_questions s) n.1 in
     record {
       a_version = omega arith;
       known = omega arith;
@@ -102,5 +102,5 @@ well_formed s none =
       contents = as_long buffers;
       some_job = omega arith;
       few_jobs = omega arith;
-      jobs = (job_passes s (entry_offset (length buffers)) (rest_none (entries_questions buffers) (job_questions_of s) rest), tt);
+      jobs = (job_passes s (rest_none (entries_questions buffers) (job_questions s) rest), tt);
     }

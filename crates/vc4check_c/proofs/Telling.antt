@@ -75,7 +75,7 @@ none_at : (s : Submission) (b : ℕ) → AreBlocks s.buffers.now (length s.buffe
     → first_of (shader_stage (file_of s) b) ≡ None
 unfolding shader_stage
 none_at s b blocks inside given here =
-    answered_none (shader_refused (file_of s) b) (shader_questions_in (buffer_at (file_of s).buffers b).kind (content_of (file_of s) b))
+    answered_none (shader_refused b) (shader_questions_in (buffer_at (file_of s).buffers b).kind (content_of (file_of s) b))
     (subst (λ e. first_of (shader_questions_in e.kind (content_of (file_of s) b)) ≡ None) (sym (buffer_is s b given here))
     (subst (λ c. first_of (shader_questions_in (entry_in given).kind c) ≡ None) (sym (content_is s b given here)) (none_in given (blocks b given inside here))))
 

@@ -1,7 +1,7 @@
 -- How long the jobs of a file, or that of a submission, may run.
 use Rattle.std.specs.Prelude.{◌≡◌, ℕ, ◌%◌, ◌/◌, ◌^◌, List, Option, Some, None, if◌then◌else◌, is_some, unwrap_or}
 use Rattle.field_words.specs.Questions.{first_of, IsFirst}
-use Rattle.job_format.specs.{declared.rule.Refusal.Refusal, Reading.file_at}
+use Rattle.job_format.specs.{declared.rule.Rule.Rule, declared.rule.Refusal.Refusal, Places.offset_of, Reading.file_at}
 use Rattle.job_check.specs.Whole.{all_questions, refusal_of}
 use Rattle.job_bound.specs.{Bound.bound_in, declared.bound.Bound.Bound}
 use Rattle.job_bound.specs.declared.bound.Bound.TheVariants.{Steps, Loops}
@@ -24,8 +24,8 @@ bounded_answer (Steps most stay items wait) = record no_bound {
 bounded_answer (Loops offset) = record no_bound { offset = offset; loops = 1 }
 
 -- the rule, and the offset in the file of what it is about
-unfoldable pub unbounded_answer : Refusal → BoundAnswer
-unbounded_answer refusal = record no_bound { offset = refusal.offset; letter = letter_code refusal.rule.stage; number = refusal.rule.number }
+unfoldable pub unbounded_answer : Rule → (offset : ℕ) → BoundAnswer
+unbounded_answer rule offset = record no_bound { offset = offset; letter = letter_code rule.stage; number = rule.number }
 
 -- No rule is broken, and the bound of the file is the answer.
 pub record IsBounded (bytes : List ℕ) (answer : BoundAnswer) : Type 0 where
@@ -35,7 +35,7 @@ pub record IsBounded (bytes : List ℕ) (answer : BoundAnswer) : Type 0 where
 -- A rule is broken, none before it in the order of refusal is, and it is the answer.
 abbrev pub IsUnbounded : List ℕ → Option Refusal → BoundAnswer → Type 0
 IsUnbounded bytes None answer = ⊥
-IsUnbounded bytes (Some refusal) answer = IsFirst (all_questions bytes) refusal × (answer ≡ unbounded_answer refusal)
+IsUnbounded bytes (Some refusal) answer = IsFirst (all_questions bytes) refusal × (answer ≡ unbounded_answer refusal.rule (offset_of bytes refusal.place))
 
 -- A submission has no file, and so no offsets in it.
 abbrev pub without_offset : BoundAnswer → BoundAnswer
@@ -49,4 +49,4 @@ pub record IsSubmissionBounded (s : Submission) (answer : BoundAnswer) : Type 0 
 -- or the first rule that is broken.
 abbrev pub IsSubmissionUnbounded : Submission → Option Refusal → BoundAnswer → Type 0
 IsSubmissionUnbounded s None answer = ⊥
-IsSubmissionUnbounded s (Some refusal) answer = IsFirst (submission_questions s) refusal × (answer ≡ without_offset (unbounded_answer refusal))
+IsSubmissionUnbounded s (Some refusal) answer = IsFirst (submission_questions s) refusal × (answer ≡ unbounded_answer refusal.rule 0)

@@ -2,7 +2,7 @@
 use Rattle.std.specs.Prelude.{◌≡◌, ℕ, nat_lt, List, length, map, replicate, slice_index, slice_index_or, Option, Some, None, if◌then◌else◌}
 use Rattle.std.specs.List.{range_with_len}
 use Rattle.field_words.specs.Questions.{IsFirst}
-use Rattle.job_format.specs.{declared.rule.Stage.Stage, declared.rule.Refusal.Refusal, Rules.letter, Offsets.most_jobs, File.IsFileOf, Reading.file_at}
+use Rattle.job_format.specs.{declared.rule.Stage.Stage, declared.rule.Rule.Rule, declared.rule.Refusal.Refusal, Places.offset_of, Rules.letter, Offsets.most_jobs, File.IsFileOf, Reading.file_at}
 use Rattle.relocation.specs.{declared.layout.Layout.Layout, declared.layout.Lengths.Lengths}
 use Rattle.job_check.specs.{Emit.memory_of, Emit.all_lengths_of, Emit.IsPlaced, Jobs.layouts_of, Whole.all_questions, Whole.refusal_of}
 use Rattle.vc4check_c.specs.{declared.jobs.JobLists.JobLists, declared.jobs.JobsAnswer.JobsAnswer}
@@ -57,11 +57,11 @@ abbrev pub letter_code : Stage → ℕ
 letter_code stage = slice_index (letter stage) 0
 
 -- of a refused one: the rule, and the offset in the file of what it is about
-unfoldable pub refused_jobs : Refusal → JobsAnswer
-refused_jobs refusal = record {
-  offset = refusal.offset;
-  letter = letter_code refusal.rule.stage;
-  number = refusal.rule.number;
+unfoldable pub refused_jobs : Rule → (offset : ℕ) → JobsAnswer
+refused_jobs rule offset = record {
+  offset = offset;
+  letter = letter_code rule.stage;
+  number = rule.number;
   size = 0;
   jobs = 0;
   lists = replicate most_jobs no_lists;
@@ -83,4 +83,4 @@ pub record AreAccepted (bytes : List ℕ) (answer : JobsAnswer) : Type 0 where
 -- A rule is broken, none before it in the order of refusal is, and it is reported.
 abbrev pub AreRefused : List ℕ → Option Refusal → JobsAnswer → Type 0
 AreRefused bytes None answer = ⊥
-AreRefused bytes (Some refusal) answer = IsFirst (all_questions bytes) refusal × (answer ≡ refused_jobs refusal)
+AreRefused bytes (Some refusal) answer = IsFirst (all_questions bytes) refusal × (answer ≡ refused_jobs refusal.rule (offset_of bytes refusal.place))

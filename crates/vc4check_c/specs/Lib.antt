@@ -8,7 +8,6 @@ pub mod Places
 pub mod Safe
 pub mod Sentence
 pub mod Shader
-pub mod Spots
 pub mod Submission
 pub mod Submit
 pub mod Telling

@@ -2,7 +2,7 @@
 use Rattle.std.specs.Prelude.{◌≡◌, ℕ, ◌≤◌, List, ◌++◌, length, Option, Some, None}
 use Rattle.std.specs.List.{AllByRecursion}
 use Rattle.field_words.specs.Questions.{Question, first_of, IsFirst, with_answers}
-use Rattle.job_format.specs.{declared.rule.Refusal.Refusal, Faults.format_questions, File.IsFileOf, Reading.file_at}
+use Rattle.job_format.specs.{declared.rule.Refusal.Refusal, Faults.format_questions, File.IsFileOf, Places.offset_of, Reading.file_at}
 use Rattle.relocation.specs.Layout.{region_end}
 use Rattle.job_check.specs.{Emit.all_lengths_of, Emit.IsInside, Jobs.layouts_of, Region.region_of, Whole.format_refused}
 use Rattle.vc4check_c.specs.{declared.jobs.JobsAnswer.JobsAnswer, Jobs.accepted_jobs, Jobs.refused_jobs, Hardware.hardware_stages}
@@ -23,4 +23,4 @@ pub record ArePlaced (bytes : List ℕ) (answer : JobsAnswer) : Type 0 where
 -- A rule is broken, none before it in the order of refusal is, and it is reported.
 abbrev pub IsNotPlaced : List ℕ → Option Refusal → JobsAnswer → Type 0
 IsNotPlaced bytes None answer = ⊥
-IsNotPlaced bytes (Some refusal) answer = IsFirst (file_questions bytes) refusal × (answer ≡ refused_jobs refusal)
+IsNotPlaced bytes (Some refusal) answer = IsFirst (file_questions bytes) refusal × (answer ≡ refused_jobs refusal.rule (offset_of bytes refusal.place))

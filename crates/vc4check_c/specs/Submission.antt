@@ -1,12 +1,13 @@
 -- A driver's submission: the job file that it stands for, and what is asked of its numbers before any other rule.
-use Rattle.std.specs.Prelude.{ℕ, ◌+◌, ◌%◌, Bool, not, ◌==◌, nat_lt, List, [], ◌∷◌, ◌++◌, length, map, slice_index, slice_get, Option, Some, None, if◌then◌else◌}
+use Rattle.std.specs.Prelude.{ℕ, ◌%◌, Bool, not, ◌==◌, nat_lt, List, [], ◌∷◌, ◌++◌, length, map, slice_index, slice_get, Option, Some, None, if◌then◌else◌}
 use Rattle.field_words.specs.{Sizes.most_list, Sizes.most_code, Questions.Question, Questions.Ask, Questions.each}
 use Rattle.buffer_table.specs.{declared.buffer.Kind.Kind, declared.buffer.Kind.TheVariants.Plain, declared.buffer.Kind.TheVariants.Code}
 use Rattle.buffer_table.specs.declared.buffer.Buffer.{Buffer}
 use Rattle.job_format.specs.{declared.file.Surface.Surface, declared.file.Frame.Frame, declared.rule.Stage.TheVariants.F}
 use Rattle.job_format.specs.declared.rule.FormatRule.TheVariants.{OverLimit, WithoutMeaning}
-use Rattle.job_format.specs.{Rules.format_rule_number, Model.JobModel, Model.FileModel, declared.rule.Refusal.Refusal}
-use Rattle.job_format.specs.Offsets.{most_buffers, most_handles, most_states, entry_offset}
+use Rattle.job_format.specs.declared.rule.Part.TheVariants.{Header, Entry, JobEntry}
+use Rattle.job_format.specs.{Rules.format_rule_number, Model.JobModel, Model.FileModel, declared.rule.Place.Place, declared.rule.Refusal.Refusal, Places.place_in}
+use Rattle.job_format.specs.Offsets.{most_buffers, most_handles, most_states}
 use Rattle.job_check.specs.Faults.{refusal_by, place_stages}
 use Rattle.vc4check_c.specs.{declared.submission.GivenBuffer.GivenBuffer, declared.submission.GivenSurface.GivenSurface}
 use Rattle.vc4check_c.specs.{declared.submission.GivenFrame.GivenFrame, declared.submission.Submission.Submission, Hardware.hardware_stages}
@@ -68,47 +69,45 @@ file_of s = record {
 }
 
 -- F4: a number is over its limit; F5: it has no meaning. Both are reported at a field of the file.
-abbrev pub over : (number limit offset : ℕ) → Question Refusal
-over number limit offset = Ask (nat_lt limit number) (refusal_by F (format_rule_number OverLimit) offset)
+abbrev pub over : (number limit : ℕ) → Place → Question Refusal
+over number limit place = Ask (nat_lt limit number) (refusal_by F (format_rule_number OverLimit) place)
 
-abbrev pub unknown : Bool → (offset : ℕ) → Question Refusal
-unknown broken offset = Ask broken (refusal_by F (format_rule_number WithoutMeaning) offset)
+abbrev pub unknown : Bool → Place → Question Refusal
+unknown broken place = Ask broken (refusal_by F (format_rule_number WithoutMeaning) place)
 
 -- of a buffer: its kind, and the length of its shader
-unfoldable pub entry_questions : GivenBuffer → (at : ℕ) → List (Question Refusal)
-entry_questions given at = unknown (nat_lt 1 given.kind) (at + 12) ∷ (over (length (content_in given)) most_code (at + 16) ∷ [])
+unfoldable pub entry_questions : GivenBuffer → (b : ℕ) → List (Question Refusal)
+entry_questions given b =
+    unknown (nat_lt 1 given.kind) (place_in Entry b 12) ∷ (over (length (content_in given)) most_code (place_in Entry b 16) ∷ [])
 
 abbrev pub entry_questions_at : Option GivenBuffer → ℕ → List (Question Refusal)
 entry_questions_at None b = []
-entry_questions_at (Some given) b = entry_questions given (entry_offset b)
+entry_questions_at (Some given) b = entry_questions given b
 
 unfoldable pub buffer_questions : List GivenBuffer → ℕ → List (Question Refusal)
 buffer_questions buffers b = entry_questions_at (slice_get buffers b) b
 
--- of the job, whose entry follows those of the buffers: its flags, counts and lengths, and the three bytes of the frame that have to be zero
-unfoldable pub job_questions : Submission → (at : ℕ) → List (Question Refusal)
-job_questions s at =
-    unknown (nat_lt 1 s.flags) (at + 4)
-    ∷ (over (length s.handles.now) most_handles (at + 8)
-    ∷ (over (length s.bin.now) most_list (at + 12)
-    ∷ (over (length s.records.now) most_list (at + 16)
-    ∷ (over s.states most_states (at + 20)
-    ∷ (over (length s.uniforms.now) most_list (at + 24)
-    ∷ (unknown (not (length s.uniforms.now % 4 == 0)) (at + 24)
-    ∷ (unknown (not (slice_index s.frame.pad 0 == 0)) (at + 121)
-    ∷ (unknown (not (slice_index s.frame.pad 1 == 0)) (at + 122)
-    ∷ (unknown (not (slice_index s.frame.pad 2 == 0)) (at + 123) ∷ [])))))))))
+-- of the job: its flags, counts and lengths, and the three bytes of the frame that have to be zero
+unfoldable pub job_questions : Submission → List (Question Refusal)
+job_questions s =
+    unknown (nat_lt 1 s.flags) (place_in JobEntry 0 4)
+    ∷ (over (length s.handles.now) most_handles (place_in JobEntry 0 8)
+    ∷ (over (length s.bin.now) most_list (place_in JobEntry 0 12)
+    ∷ (over (length s.records.now) most_list (place_in JobEntry 0 16)
+    ∷ (over s.states most_states (place_in JobEntry 0 20)
+    ∷ (over (length s.uniforms.now) most_list (place_in JobEntry 0 24)
+    ∷ (unknown (not (length s.uniforms.now % 4 == 0)) (place_in JobEntry 0 24)
+    ∷ (unknown (not (slice_index s.frame.pad 0 == 0)) (place_in JobEntry 0 121)
+    ∷ (unknown (not (slice_index s.frame.pad 1 == 0)) (place_in JobEntry 0 122)
+    ∷ (unknown (not (slice_index s.frame.pad 2 == 0)) (place_in JobEntry 0 123) ∷ [])))))))))
 
--- of all buffers, and of the job behind them
+-- of all buffers
 abbrev pub entries_questions : List GivenBuffer → List (Question Refusal)
 entries_questions buffers = each (buffer_questions buffers) 0 (length buffers)
 
-abbrev pub job_questions_of : Submission → List (Question Refusal)
-job_questions_of s = job_questions s (entry_offset (length s.buffers.now))
-
 -- What is asked of the submission's own numbers: the rules of the format that a file of it could break.
 unfoldable pub own_questions : Submission → List (Question Refusal)
-own_questions s = over (length s.buffers.now) most_buffers 28 ∷ (entries_questions s.buffers.now ++ job_questions_of s)
+own_questions s = over (length s.buffers.now) most_buffers (place_in Header 0 28) ∷ (entries_questions s.buffers.now ++ job_questions s)
 
 -- All rules of a submission but the strict ones, in the order of refusal: its own, and those of the file that it stands for.
 abbrev pub submission_questions : Submission → List (Question Refusal)

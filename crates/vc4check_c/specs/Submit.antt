@@ -1,13 +1,13 @@
 -- What is reported of a driver's submission.
-use Rattle.std.specs.Prelude.{◌≡◌, ℕ, ◌≤◌, List, length, drop, Option, Some, None, Result, Ok, Err}
-use Rattle.field_words.specs.{declared.stop.Stop.Stop, declared.stop.Stop.TheVariants.Fault, declared.stop.Stop.TheVariants.NoMemory}
+use Rattle.std.specs.Prelude.{◌≡◌, ℕ, ◌≤◌, List, length, drop, Option, Some, None}
 use Rattle.field_words.specs.Questions.{first_of, IsFirst}
-use Rattle.job_format.specs.declared.rule.Refusal.{Refusal}
+use Rattle.job_format.specs.declared.rule.Part.TheVariants.{File, Header, Entry, JobEntry, Contents, Handles, BinnerList, Records, Uniforms}
+use Rattle.job_format.specs.{declared.rule.Part.Part, declared.rule.Refusal.Refusal}
 use Rattle.relocation.specs.{declared.layout.Layout.Layout, declared.layout.Lengths.Lengths, Layout.region_end}
-use Rattle.job_check.specs.{Emit.lengths_of, Emit.IsInside, Jobs.layout_of, declared.region.Region.Region}
-use Rattle.job_check.specs.Region.{region_of, IsRegion}
-use Rattle.vc4check_c.specs.{declared.spot.Spot.Spot, declared.submission.Submission.Submission, declared.submit.Report.Report, Jobs.letter_code}
-use Rattle.vc4check_c.specs.{declared.submit.Verdict.Verdict, Jobs.lists_report, Jobs.no_lists, Spots.IsAt}
+use Rattle.job_check.specs.{Emit.lengths_of, Emit.IsInside, Jobs.layout_of}
+use Rattle.job_check.specs.Region.{region_of}
+use Rattle.vc4check_c.specs.{declared.submission.Submission.Submission, Jobs.letter_code}
+use Rattle.vc4check_c.specs.{declared.submit.Verdict.Verdict, Jobs.lists_report, Jobs.no_lists}
 use Rattle.vc4check_c.specs.Submission.{file_of, hardware_questions}
 
 -- of an accepted one: how many bytes its lists take, where they lie and how long they are
@@ -22,14 +22,26 @@ accepted_verdict size layout lengths = record {
   lists = lists_report layout lengths;
 }
 
+-- The parts of a submission by number. Its numbers stand for the header; it has no file.
+unfoldable pub part_number : Part → ℕ
+part_number File = 0
+part_number Header = 0
+part_number Entry = 1
+part_number JobEntry = 2
+part_number Contents = 3
+part_number Handles = 4
+part_number BinnerList = 5
+part_number Records = 6
+part_number Uniforms = 7
+
 -- of a refused one: the rule, and the place of what it is about
-unfoldable pub refused_verdict : Refusal → Spot → Verdict
-refused_verdict refusal spot = record {
-  offset = spot.offset;
+unfoldable pub refused_verdict : Refusal → Verdict
+refused_verdict refusal = record {
+  offset = refusal.place.at;
   letter = letter_code refusal.rule.stage;
   number = refusal.rule.number;
-  part = spot.part;
-  index = spot.index;
+  part = part_number refusal.place.part;
+  index = refusal.place.index;
   size = 0;
   lists = no_lists;
 }
@@ -47,19 +59,7 @@ pub record IsFront (s : Submission) (old new : List ℕ) (verdict : Verdict) : T
   pub fits : verdict.size ≤ length old
   pub behind : drop verdict.size new ≡ drop verdict.size old
 
--- What the check of a submission answers: its lists, or the first broken rule and the place of its offset.
-abbrev pub Tells : Submission → Result Region (Stop Report) → Type 0
-Tells s (Ok region) = (first_of (hardware_questions s) ≡ None) × IsRegion (file_of s) region
-Tells s (Err (Fault report)) = (first_of (hardware_questions s) ≡ Some report.refusal) × IsAt (file_of s) report.refusal report.spot
-Tells s (Err NoMemory) = Unit {0}
-
--- A rule is broken, none before it in the order of refusal is, and it is reported, with the place of its offset.
-pub record IsRefusedAt (s : Submission) (refusal : Refusal) (verdict : Verdict) : Type 0 where
-  pub first : IsFirst (hardware_questions s) refusal
-  pub spot : Spot
-  pub at : IsAt (file_of s) refusal spot
-  pub report : verdict ≡ refused_verdict refusal spot
-
+-- A rule is broken, none before it in the order of refusal is, and it is reported, with its place.
 abbrev pub IsNotTaken : Submission → Option Refusal → Verdict → Type 0
 IsNotTaken s None verdict = ⊥
-IsNotTaken s (Some refusal) verdict = IsRefusedAt s refusal verdict
+IsNotTaken s (Some refusal) verdict = IsFirst (hardware_questions s) refusal × (verdict ≡ refused_verdict refusal)

@@ -3,11 +3,11 @@ ghost use Rattle.std.specs.Prelude.{◌≡◌, ◌≢◌, ◌≤◌};
 ghost use Rattle.job_check.specs.Whole.{refusal_of};
 ghost use Rattle.vc4check_c.specs.Bound.{bounded_answer, unbounded_answer, IsBounded, IsUnbounded};
 
-use crate::jobs::letter;
+use crate::jobs::{letter, offset_in};
 use crate::status::{ACCEPTED, NO_MEMORY, REFUSED};
 use field_words::Stop;
 use job_bound::{Bound, bound_bytes};
-use job_format::Refusal;
+use job_format::Rule;
 use std::alloc::Global;
 
 /// How long jobs may run. Of accepted ones in which no shader branches back: the most steps of a run, in two halves of 64 bits, how many more
@@ -72,13 +72,13 @@ pub(crate) fn bounded(bound: &Bound) -> BoundAnswer
 
 /// The answer for a refusal.
 #[tactic(auto, unfolding(crate::specs::Bound::unbounded_answer))]
-pub(crate) fn unbounded(refusal: &Refusal) -> BoundAnswer
-    ensures { result ≡ unbounded_answer refusal.now }
+pub(crate) fn unbounded(rule: Rule, offset: u64) -> BoundAnswer
+    ensures { result ≡ unbounded_answer rule offset }
 {
     BoundAnswer {
-        offset: refusal.offset,
-        letter: u32::from(letter(refusal.rule.stage)),
-        number: u32::from(refusal.rule.number),
+        offset,
+        letter: u32::from(letter(rule.stage)),
+        number: u32::from(rule.number),
         ..NO_BOUND
     }
 }
@@ -104,10 +104,13 @@ pub extern "C" fn vc4check_bound(alloc: Global, bytes: &[u8], answer: &mut Bound
             *answer = bounded(&bound);
             ACCEPTED
         }
-        Err(Stop::Fault(refusal)) => {
-            *answer = unbounded(&refusal);
-            REFUSED
-        }
+        Err(Stop::Fault(refusal)) => match offset_in(bytes, &refusal) {
+            Some(offset) => {
+                *answer = unbounded(refusal.rule, offset);
+                REFUSED
+            }
+            None => NO_MEMORY,
+        },
         Err(Stop::NoMemory) => NO_MEMORY,
     }
 }

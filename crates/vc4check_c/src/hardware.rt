@@ -12,8 +12,8 @@ ghost use Rattle.vc4check_c.specs.Hardware.{slot_stage, slots_stage, guide_stage
 
 use buffer_table::MOST_PLACE;
 use field_words::Stop;
-use job_check::{Region, check_parts, job_at};
-use job_format::{FileParts, Refusal, Rule, Stage};
+use job_check::{Region, check_parts, job_at, refusal};
+use job_format::{FileParts, Part, Refusal, Stage};
 use qpu_isa::ShaderInfo;
 use relocation::Layout;
 use std::alloc::Global;
@@ -21,7 +21,7 @@ use strict_check::{Findings, check_strict_findings};
 use strict_lists::crosses;
 
 /// E12 of the job of this number, whose lists lie so.
-#[tactic(auto, unfolding(crate::specs::Hardware::slot_stage, job_check::specs::Jobs::layout_of, job_check::specs::Jobs::has_bin, job_check::specs::Offsets::item_offset))]
+#[tactic(auto, unfolding(crate::specs::Hardware::slot_stage, job_check::specs::Jobs::layout_of, job_check::specs::Jobs::has_bin))]
 fn slot_stage(file: &FileParts, number: usize, layout: &Layout) -> Result<(), Refusal>
     requires well_formed { IsWellFormed (parts_view file.now) }
     requires inside { number < length file.now.jobs.items }
@@ -29,13 +29,7 @@ fn slot_stage(file: &FileParts, number: usize, layout: &Layout) -> Result<(), Re
     ensures { GoesOn (slot_stage (parts_view file.now) number) (λ made. Unit {0}) result }
 {
     if !job_at(file, number).bin.is_empty() && crosses(u64::from(layout.slot)) {
-        return Err(Refusal {
-            rule: Rule {
-                stage: Stage::E,
-                number: 12,
-            },
-            offset: 20,
-        });
+        return Err(refusal(Stage::E, 12, Part::Header, 0, 20));
     }
     Ok(())
 }

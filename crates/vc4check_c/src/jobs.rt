@@ -1,7 +1,8 @@
 //! The check of a job file, with the memory of its jobs in the caller's block.
-ghost use Rattle.std.specs.Prelude.{◌≡◌, ◌≢◌, ◌≤◌, ◌<◌, ◌⊎◌, length};
+ghost use Rattle.std.specs.Prelude.{◌≡◌, ◌≢◌, ◌≤◌, ◌<◌, ◌⊎◌, ◌^◌, length, IfNone, IfSome};
 ghost use Rattle.field_words.specs.Writes.{with_bytes};
 ghost use Rattle.job_format.specs.Offsets.{most_jobs};
+ghost use Rattle.job_format.specs.Places.{offset_of};
 ghost use Rattle.job_format.specs.Reading.{file_at};
 ghost use Rattle.job_check.specs.Emit.{memory_of};
 ghost use Rattle.job_check.specs.Whole.{refusal_of};
@@ -10,7 +11,7 @@ ghost use Rattle.vc4check_c.specs.Jobs.{lists_report, all_lists, letter_code, ac
 use crate::status::{ACCEPTED, NO_MEMORY, REFUSED, SHORT};
 use field_words::Stop;
 use job_check::check_bytes;
-use job_format::{Refusal, Stage};
+use job_format::{Refusal, Rule, Stage, offset_of};
 use phys_mem::PhysMem;
 use relocation::{Layout, Lengths};
 use std::alloc::Global;
@@ -133,15 +134,24 @@ pub(crate) fn letter(stage: Stage) -> u8
     }
 }
 
+/// The offset in the file of what a refusal of these bytes is about. None comes where it has more than 64 bits, which is that of no file
+/// in a memory.
+pub(crate) fn offset_in(bytes: &[u8], refusal: &Refusal) -> Option<u64>
+    ensures some { IfSome result (λ offset. offset ≡ offset_of bytes.now refusal.now.place) }
+    ensures none { IfNone result (2 ^ 64 ≤ offset_of bytes.now refusal.now.place) }
+{
+    u64::try_from(offset_of(bytes, refusal.place)).ok()
+}
+
 /// What is reported of a refused one.
 #[tactic(auto, unfolding(crate::specs::Jobs::refused_jobs))]
-pub(crate) fn refused(refusal: &Refusal) -> JobsAnswer
-    ensures { result ≡ refused_jobs refusal.now }
+pub(crate) fn refused(rule: Rule, offset: u64) -> JobsAnswer
+    ensures { result ≡ refused_jobs rule offset }
 {
     JobsAnswer {
-        offset: refusal.offset,
-        letter: u32::from(letter(refusal.rule.stage)),
-        number: u32::from(refusal.rule.number),
+        offset,
+        letter: u32::from(letter(rule.stage)),
+        number: u32::from(rule.number),
         size: 0,
         jobs: 0,
         lists: [NO_LISTS; MOST],
@@ -209,10 +219,13 @@ pub extern "C" fn vc4check_check(
             *answer = accepted(memory.len(), &checked.layouts, &checked.lengths);
             deliver(memory, block)
         }
-        Err(Stop::Fault(refusal)) => {
-            *answer = refused(&refusal);
-            REFUSED
-        }
+        Err(Stop::Fault(refusal)) => match offset_in(bytes, &refusal) {
+            Some(offset) => {
+                *answer = refused(refusal.rule, offset);
+                REFUSED
+            }
+            None => NO_MEMORY,
+        },
         Err(Stop::NoMemory) => NO_MEMORY,
     }
 }

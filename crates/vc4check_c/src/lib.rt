@@ -12,7 +12,6 @@ mod known;
 mod place;
 mod sentence;
 mod shader;
-mod spot;
 mod status;
 mod submission;
 mod submit;
@@ -27,10 +26,6 @@ pub use submission::{GivenBuffer, GivenFrame, GivenSurface, Submission};
 pub use submit::Verdict;
 
 #[cfg(test)]
-mod bound_tests;
-#[cfg(test)]
 mod layout_tests;
-#[cfg(test)]
-mod limit_tests;
 #[cfg(test)]
 mod tests;

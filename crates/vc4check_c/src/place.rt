@@ -10,7 +10,7 @@ ghost use Rattle.vc4check_c.specs.Safe.{AreSafeToRun};
 ghost use Rattle.vc4check_c.specs.Obeys.{AllObeyGuide};
 
 use crate::hardware::check_for_hardware;
-use crate::jobs::{JobsAnswer, accepted, put, refused};
+use crate::jobs::{JobsAnswer, accepted, offset_in, put, refused};
 use crate::status::{NO_MEMORY, REFUSED};
 use field_words::Stop;
 use job_check::{Region, format_refusal};
@@ -72,10 +72,13 @@ pub extern "C" fn vc4check_place(
             *answer = accepted(region.bytes.len() as u32, &region.layouts, &region.lengths);
             put(&region.bytes, window)
         }
-        Err(Stop::Fault(refusal)) => {
-            *answer = refused(&refusal);
-            REFUSED
-        }
+        Err(Stop::Fault(refusal)) => match offset_in(bytes, &refusal) {
+            Some(offset) => {
+                *answer = refused(refusal.rule, offset);
+                REFUSED
+            }
+            None => NO_MEMORY,
+        },
         Err(Stop::NoMemory) => NO_MEMORY,
     }
 }

@@ -1,9 +1,10 @@
 //! A driver's submission as C hands it over, and the parts of a job file that it stands for.
-ghost use Rattle.std.specs.Prelude.{◌≡◌, ◌≤◌, ◌<◌, length, map, slice_get, Some, IfNone, IfOk};
+ghost use Rattle.std.specs.Prelude.{◌≡◌, ◌≤◌, ◌<◌, ◌^◌, length, map, slice_get, Some, IfNone, IfOk};
 ghost use Rattle.field_words.specs.Sizes.{most_code};
 ghost use Rattle.field_words.specs.Questions.{Answers, first_of};
 ghost use Rattle.job_format.specs.declared.rule.Stage.TheVariants.{F as StageF};
 ghost use Rattle.job_format.specs.Parts.{job_parts_view, parts_view};
+ghost use Rattle.job_format.specs.Places.{place_in};
 ghost use Rattle.job_format.specs.Offsets.{most_buffers};
 ghost use Rattle.job_format.specs.Rules.{format_rule_number};
 ghost use Rattle.job_check.specs.Faults.{refusal_by};
@@ -12,9 +13,10 @@ ghost use Rattle.vc4check_c.specs.Submission.{surface_in, frame_in, content_in, 
 use crate::block::Known;
 use buffer_table::{Buffer, Kind, Regions};
 use field_words::{MOST_CODE, MOST_LIST, Stop};
+use job_check::refusal;
 use job_format::{
-    ENTRY_SIZE, FileParts, FormatRule, Frame, HEADER_SIZE, JobParts, MOST_BUFFERS, MOST_HANDLES,
-    MOST_STATES, Numbers, Refusal, Rule, Stage, Surface,
+    FileParts, FormatRule, Frame, JobParts, MOST_BUFFERS, MOST_HANDLES, MOST_STATES, Numbers, Part,
+    Refusal, Stage, Surface,
 };
 use std::alloc::{AllocError, Global};
 
@@ -145,32 +147,26 @@ fn entry_in(given: &GivenBuffer) -> Buffer
     }
 }
 
-/// A rule of the format that is broken, at this offset in the file.
-fn limit(rule: FormatRule, offset: usize) -> Refusal
-    requires { offset ≤ 65536 }
-    ensures { result ≡ refusal_by StageF (format_rule_number rule) offset }
+/// A rule of the format that is broken, at this byte of the part of this number.
+fn limit(rule: FormatRule, part: Part, index: usize, at: u64) -> Refusal
+    requires { index < 2 ^ 32 }
+    ensures { result ≡ refusal_by StageF (format_rule_number rule) (place_in part index at) }
 {
-    Refusal {
-        rule: Rule {
-            stage: Stage::F,
-            number: rule.number(),
-        },
-        offset: offset as u64,
-    }
+    refusal(Stage::F, rule.number(), part, index, at)
 }
 
-/// F5 and F4 of a buffer, whose entry in the file is at `at`.
+/// F5 and F4 of buffer `b`.
 #[tactic(auto, unfolding(crate::specs::Submission::entry_questions))]
-fn entry_fault(given: &GivenBuffer, at: usize) -> Option<Refusal>
-    requires { at ≤ 32768 }
-    ensures first { result ≡ first_of (entry_questions given.now at) }
+fn entry_fault(given: &GivenBuffer, b: usize) -> Option<Refusal>
+    requires { b < 2 ^ 32 }
+    ensures first { result ≡ first_of (entry_questions given.now b) }
     ensures few { IfNone result (length (content_in given.now) ≤ most_code) }
 {
     if given.kind > 1 {
-        return Some(limit(FormatRule::WithoutMeaning, at + 12));
+        return Some(limit(FormatRule::WithoutMeaning, Part::Entry, b, 12));
     }
     if content_in(given).len() > MOST_CODE as usize {
-        return Some(limit(FormatRule::OverLimit, at + 16));
+        return Some(limit(FormatRule::OverLimit, Part::Entry, b, 16));
     }
     None
 }
@@ -184,7 +180,7 @@ fn entry_at(buffers: &[GivenBuffer], b: usize) -> Result<Buffer, Stop<Refusal>>
         (λ buffer. slice_get (map entry_in buffers.now) b ≡ Some buffer) result }
 {
     match buffers.get(b) {
-        Some(given) => match entry_fault(given, HEADER_SIZE + ENTRY_SIZE * b) {
+        Some(given) => match entry_fault(given, b) {
             Some(refusal) => Err(Stop::Fault(refusal)),
             None => Ok(entry_in(given)),
         },
@@ -208,44 +204,43 @@ fn entries(alloc: Global, buffers: &[GivenBuffer]) -> Result<Vec<Buffer>, Stop<R
     Ok(entries)
 }
 
-/// F5 and F4 of the job, whose entry in the file is at `at`.
+/// F5 and F4 of the job.
 #[tactic(auto, unfolding(crate::specs::Submission::job_questions))]
-fn job_fault(given: &Submission, at: usize) -> Option<Refusal>
-    requires { at ≤ 32768 }
-    ensures { result ≡ first_of (job_questions given.now at) }
+fn job_fault(given: &Submission) -> Option<Refusal>
+    ensures { result ≡ first_of (job_questions given.now) }
 {
     let over = FormatRule::OverLimit;
     let unknown = FormatRule::WithoutMeaning;
     if given.flags > 1 {
-        return Some(limit(unknown, at + 4));
+        return Some(limit(unknown, Part::JobEntry, 0, 4));
     }
     if given.handles.len() > MOST_HANDLES as usize {
-        return Some(limit(over, at + 8));
+        return Some(limit(over, Part::JobEntry, 0, 8));
     }
     if given.bin.len() > MOST_LIST as usize {
-        return Some(limit(over, at + 12));
+        return Some(limit(over, Part::JobEntry, 0, 12));
     }
     if given.records.len() > MOST_LIST as usize {
-        return Some(limit(over, at + 16));
+        return Some(limit(over, Part::JobEntry, 0, 16));
     }
     if given.states > MOST_STATES {
-        return Some(limit(over, at + 20));
+        return Some(limit(over, Part::JobEntry, 0, 20));
     }
     if given.uniforms.len() > MOST_LIST as usize {
-        return Some(limit(over, at + 24));
+        return Some(limit(over, Part::JobEntry, 0, 24));
     }
     if given.uniforms.len() % 4 != 0 {
-        return Some(limit(unknown, at + 24));
+        return Some(limit(unknown, Part::JobEntry, 0, 24));
     }
     let [first, second, third] = given.frame.pad;
     if first != 0 {
-        return Some(limit(unknown, at + 121));
+        return Some(limit(unknown, Part::JobEntry, 0, 121));
     }
     if second != 0 {
-        return Some(limit(unknown, at + 122));
+        return Some(limit(unknown, Part::JobEntry, 0, 122));
     }
     if third != 0 {
-        return Some(limit(unknown, at + 123));
+        return Some(limit(unknown, Part::JobEntry, 0, 123));
     }
     None
 }
@@ -286,10 +281,10 @@ fn checked_entries(alloc: Global, given: &Submission) -> Result<Vec<Buffer>, Sto
 {
     let count = given.buffers.len();
     if count > MOST_BUFFERS as usize {
-        return Err(Stop::Fault(limit(FormatRule::OverLimit, 28)));
+        return Err(Stop::Fault(limit(FormatRule::OverLimit, Part::Header, 0, 28)));
     }
     let entries = entries(alloc, given.buffers)?;
-    match job_fault(given, HEADER_SIZE + ENTRY_SIZE * count) {
+    match job_fault(given) {
         Some(refusal) => Err(Stop::Fault(refusal)),
         None => Ok(entries),
     }

@@ -12,17 +12,16 @@ ghost use Rattle.vc4check_c.specs.Safe.{IsSafeToRun};
 ghost use Rattle.vc4check_c.specs.Obeys.{ObeysGuide};
 ghost use Rattle.vc4check_c.specs.Joins.{MayJoin};
 ghost use Rattle.vc4check_c.specs.Submission.{file_of, own_questions, hardware_questions};
-ghost use Rattle.vc4check_c.specs.Submit.{accepted_verdict, refused_verdict, Tells, IsTaken, IsFront, IsNotTaken};
+ghost use Rattle.vc4check_c.specs.Submit.{part_number, accepted_verdict, refused_verdict, IsTaken, IsFront, IsNotTaken};
 
 use crate::hardware::check_for_hardware;
 use crate::jobs::{JobLists, NO_LISTS, letter, lists_of, put};
 use crate::known::{findings_in, shaders_in};
-use crate::spot::{Spot, own_spot, spot_of};
 use crate::status::{NO_MEMORY, REFUSED};
 use crate::submission::{Submission, parts_in};
 use field_words::{NoMemory, Stop};
 use job_check::Region;
-use job_format::{FileParts, Refusal};
+use job_format::{FileParts, Part, Refusal};
 use relocation::{Layout, Lengths};
 use std::alloc::Global;
 use strict_check::{Findings, all_findings};
@@ -59,17 +58,35 @@ fn accepted(size: u32, layout: &Layout, lengths: &Lengths) -> Verdict
     }
 }
 
+/// The number of a part; a submission has no file.
+#[tactic(auto, unfolding(crate::specs::Submit::part_number))]
+fn part_number(part: Part) -> u32
+    ensures { result ≡ part_number part }
+{
+    match part {
+        Part::File | Part::Header => 0,
+        Part::Entry => 1,
+        Part::JobEntry => 2,
+        Part::Contents => 3,
+        Part::Handles => 4,
+        Part::BinnerList => 5,
+        Part::Records => 6,
+        Part::Uniforms => 7,
+    }
+}
+
 /// What is reported of a refused one.
 #[tactic(auto, unfolding(crate::specs::Submit::refused_verdict))]
-fn refused(refusal: &Refusal, spot: &Spot) -> Verdict
-    ensures { result ≡ refused_verdict refusal.now spot.now }
+fn refused(refusal: &Refusal) -> Verdict
+    ensures { result ≡ refused_verdict refusal.now }
 {
+    let Refusal { rule, place } = *refusal;
     Verdict {
-        offset: spot.offset,
-        letter: u32::from(letter(refusal.rule.stage)),
-        number: u32::from(refusal.rule.number),
-        part: spot.part,
-        index: spot.index,
+        offset: place.at,
+        letter: u32::from(letter(rule.stage)),
+        number: u32::from(rule.number),
+        part: part_number(place.part),
+        index: place.index,
         size: 0,
         lists: NO_LISTS,
     }
@@ -109,34 +126,15 @@ fn check_file(alloc: Global, given: &Submission, parts: &FileParts) -> Result<Re
     check_for_hardware(alloc, parts, report, &findings)
 }
 
-/// A refusal, and the place of what it is about.
-#[derive(Clone, Copy, Debug, PartialEq, Eq)]
-pub struct Report {
-    pub refusal: Refusal,
-    pub spot: Spot,
-}
-
 /// All rules of a submission, and its lists.
-#[tactic(auto, using(field_words::proofs::Questions::passes, field_words::proofs::Questions::stops))]
-fn check(alloc: Global, given: &Submission) -> Result<Region, Stop<Report>>
+#[tactic(auto, using(field_words::proofs::Questions::stops))]
+fn check(alloc: Global, given: &Submission) -> Result<Region, Stop<Refusal>>
     ensures laid { IfOk result (IsLaid (file_of given.now)) }
-    ensures tells { AreKnown given.now.buffers.now → Tells given.now result }
+    ensures answers { AreKnown given.now.buffers.now
+        → Answers (hardware_questions given.now) (IsRegion (file_of given.now)) result }
 {
-    match parts_in(alloc, given) {
-        Ok(parts) => match check_file(alloc, given, &parts) {
-            Ok(region) => Ok(region),
-            Err(Stop::Fault(refusal)) => {
-                let spot = spot_of(&parts, &refusal);
-                Err(Stop::Fault(Report { refusal, spot }))
-            }
-            Err(Stop::NoMemory) => Err(Stop::NoMemory),
-        },
-        Err(Stop::Fault(refusal)) => {
-            let spot = own_spot(given, &refusal);
-            Err(Stop::Fault(Report { refusal, spot }))
-        }
-        Err(Stop::NoMemory) => Err(Stop::NoMemory),
-    }
+    let parts = parts_in(alloc, given)?;
+    check_file(alloc, given, &parts)
 }
 
 /// How many bytes these are, of at most so many.
@@ -201,8 +199,8 @@ pub extern "C" fn vc4check_submit(
             *answer = accepted(size, &region.layouts[0], &region.lengths[0]);
             put(&region.bytes, window)
         }
-        Err(Stop::Fault(report)) => {
-            *answer = refused(&report.refusal, &report.spot);
+        Err(Stop::Fault(refusal)) => {
+            *answer = refused(&refusal);
             REFUSED
         }
         Err(Stop::NoMemory) => NO_MEMORY,

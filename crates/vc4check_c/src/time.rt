@@ -89,7 +89,7 @@ pub extern "C" fn vc4check_submission_bound(
             ACCEPTED
         }
         Err(Stop::Fault(refusal)) => {
-            *answer = without_offset(unbounded(&refusal));
+            *answer = unbounded(refusal.rule, 0);
             REFUSED
         }
         Err(Stop::NoMemory) => NO_MEMORY,

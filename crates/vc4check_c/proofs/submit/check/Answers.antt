@@ -1,23 +1,10 @@
--- A submission of whose own numbers no rule is broken is a well-formed file.
-use Rattle.std.proofs.{Common.sym, Common.subst, Common.arith, lemmas.List.length-map}
-use Rattle.field_words.specs.Questions.{Refuses}
-use Rattle.vc4check_c.specs.Submission.{own_questions}
-use Rattle.job_format.specs.{File.IsWellFormed, Parts.job_parts_view}
-use Rattle.vc4check_c.proofs.{Submissions.well_formed, Own.own_are_format, Own.few_behind_header}
+-- Where no rule of the submission's own numbers is broken, those of its file decide.
+use Rattle.field_words.proofs.Questions.{answers_later}
+use Rattle.job_check.specs.Region.{IsRegion}
+use Rattle.vc4check_c.specs.{Hardware.hardware_stages, Submission.file_of, Submission.own_questions}
 use Rattle.vc4check_c.proofs.submit.check.Goals as goal
 
-pub spot_of-spot-requires-clause-well_formed : goal.spot_of-spot-requires-clause-well_formed
-spot_of-spot-requires-clause-well_formed c = subst IsWellFormed (sym c.in-Ok.ensures.1) (well_formed c.args.given.now c.in-Ok.ensures.0)
-
-pub spot_of-spot-requires-clause-some : goal.spot_of-spot-requires-clause-some
-spot_of-spot-requires-clause-some c =
-    let whole = subst IsWellFormed (sym c.in-Ok.ensures.1) (well_formed c.args.given.now c.in-Ok.ensures.0) in
-    let some = whole.some_job in
-    let many = length-map c.in-Ok.parts.jobs.items job_parts_view in
-    omega (arith, some, many)
-
-pub own_spot-spot-requires-clause-format : goal.own_spot-spot-requires-clause-format
-own_spot-spot-requires-clause-format c = rw c.in-Err-Fault.refusal-is (own_are_format c.args.given.now c.in-Err-Fault.refusal (subst (Refuses (own_questions c.args.given.now)) c.in-Err-Fault.field-0-is c.in-Err-Fault.ensures))
-
-pub own_spot-spot-requires-clause-few : goal.own_spot-spot-requires-clause-few
-own_spot-spot-requires-clause-few c = rw c.in-Err-Fault.refusal-is (few_behind_header c.args.given.now c.in-Err-Fault.refusal (subst (Refuses (own_questions c.args.given.now)) c.in-Err-Fault.field-0-is c.in-Err-Fault.ensures))
+pub returns-clause-answers : goal.returns-clause-answers
+returns-clause-answers c = λ known.
+    let s = c.args.given.now in
+    answers_later (own_questions s) (hardware_stages (file_of s)) (IsRegion (file_of s)) c.check_file.result c.in_ok-parts.ensures.0 (c.check_file.ensures.answers known)

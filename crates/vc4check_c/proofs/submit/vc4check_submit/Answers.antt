@@ -18,13 +18,13 @@ bounds-deref-0-in-Ok c = let some = some_lists c.args.submission.now c.in-Ok.reg
 pub returns-in-Ok-clause-accepted : goal.returns-in-Ok-clause-accepted
 returns-in-Ok-clause-accepted c = λ known.
     let size = c.size_of-size.ensures ∙ ap length c.deref.ensures.value in
-    let report = c.in-Ok.ensures.tells known in
+    let report = c.in-Ok.ensures.answers known in
     λ zero. is_taken c.args.submission.now c.in-Ok.region c.accepted.result report.0 report.1 (cc (c.accepted.ensures, size, c.deref-in-Ok.ensures.0, c.deref-in-Ok-2.ensures.0))
 
 pub returns-in-Ok-clause-short : goal.returns-in-Ok-clause-short
 returns-in-Ok-clause-short c = λ known.
     let size = c.size_of-size.ensures ∙ ap length c.deref.ensures.value in
-    let report = c.in-Ok.ensures.tells known in
+    let report = c.in-Ok.ensures.answers known in
     λ two. is_taken c.args.submission.now c.in-Ok.region c.accepted.result report.0 report.1 (cc (c.accepted.ensures, size, c.deref-in-Ok.ensures.0, c.deref-in-Ok-2.ensures.0))
 
 pub returns-in-Ok-clause-front : goal.returns-in-Ok-clause-front
@@ -41,7 +41,7 @@ returns-in-Ok-clause-front c = λ zero.
 -- The window has the lists, and the answer tells where.
 pub returns-in-Ok-clause-relocated : goal.returns-in-Ok-clause-relocated
 returns-in-Ok-clause-relocated c = λ known zero.
-    c.put.ensures.put zero ∙ ap (with_bytes c.args.window.now 0) (c.deref-in-Ok-3.ensures.value ∙ (c.in-Ok.ensures.tells known).1.bytes_are)
+    c.put.ensures.put zero ∙ ap (with_bytes c.args.window.now 0) (c.deref-in-Ok-3.ensures.value ∙ (c.in-Ok.ensures.answers known).1.bytes_are)
 
 pub returns-in-Ok-clause-safe : goal.returns-in-Ok-clause-safe
 returns-in-Ok-clause-safe c = λ known zero types.

@@ -3,7 +3,7 @@ use Rattle.std.proofs.Common.{refl, arith}
 use Rattle.accepted_law.proofs.ByteTexts.{bytes_none}
 use Rattle.job_format.specs.{File.SurfaceFits}
 use Rattle.vc4check_c.specs.Submission.{job_in, frame_in, surface_in}
-use Rattle.vc4check_c.proofs.bound_tests.bounds_a_submission.Goals as goal
+use Rattle.vc4check_c.proofs.tests.submissions.Goals as goal
 
 none_fits : SurfaceFits (record { hindex = 4294967295; offset = 0; bits = 0; flags = 0 })
 none_fits = record { hindex = omega arith; offset = omega arith; bits = omega arith; flags = omega arith }
