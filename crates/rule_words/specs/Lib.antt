@@ -1,3 +1,2 @@
-pub mod Line
+pub mod Spot
 pub mod Names
-pub mod Place

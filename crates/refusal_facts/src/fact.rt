@@ -1,0 +1,69 @@
+//! The facts of refusals.
+
+/// A part needs so many bytes, and so many are there: F2, M5, A1 and A2.
+#[derive(Clone, Copy, Debug, PartialEq, Eq)]
+pub struct RoomFact {
+    pub needs: u64,
+    pub has: u64,
+}
+
+/// An item of the memory table, which takes `size` bytes from `place` on: M2. Items are counted as in `TableFault`.
+#[derive(Clone, Copy, Debug, PartialEq, Eq)]
+pub struct ItemFact {
+    pub item: u64,
+    pub place: u64,
+    pub size: u64,
+}
+
+/// An item of the memory table that ends past a memory of so many bytes: M3.
+#[derive(Clone, Copy, Debug, PartialEq, Eq)]
+pub struct PastFact {
+    pub item: ItemFact,
+    pub memory: u32,
+}
+
+/// An item of the memory table, and the first earlier one that has a byte of it: M4.
+#[derive(Clone, Copy, Debug, PartialEq, Eq)]
+pub struct PairFact {
+    pub later: ItemFact,
+    pub earlier: ItemFact,
+}
+
+/// A job of `client` names the buffer `number`, which is `owner`'s, or isn't in the file: H1.
+#[derive(Clone, Copy, Debug, PartialEq, Eq)]
+pub struct HandleFact {
+    pub client: u32,
+    pub number: u32,
+    pub owner: Option<u32>,
+}
+
+/// A vertex's `length` bytes of an attribute, from `address` on in a buffer of `size` bytes: A9.
+#[derive(Clone, Copy, Debug, PartialEq, Eq)]
+pub struct AttributeFact {
+    pub buffer: u32,
+    pub size: u32,
+    pub address: u32,
+    pub length: u32,
+}
+
+/// An attribute whose vertices are `stride` bytes apart, up to that of the greatest `index`: A10.
+#[derive(Clone, Copy, Debug, PartialEq, Eq)]
+pub struct VertexFact {
+    pub attribute: AttributeFact,
+    pub stride: u32,
+    pub index: u64,
+}
+
+/// What the file says where a rule is broken.
+#[derive(Clone, Copy, Debug, PartialEq, Eq)]
+pub enum Facts {
+    /// There is nothing to say beside the rule's sentence.
+    Nothing,
+    Room(RoomFact),
+    Off(ItemFact),
+    Past(PastFact),
+    Pair(PairFact),
+    Handle(HandleFact),
+    Attribute(AttributeFact),
+    Vertex(VertexFact),
+}
