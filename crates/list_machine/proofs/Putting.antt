@@ -2,7 +2,7 @@
 use Rattle.std.proofs.Common.{◌≡◌, ◌≤◌, ◌<◌, ℕ, zero, suc, ◌+◌, ◌-◌, ◌*◌, ◌^◌, List, [], ◌∷◌, ◌++◌, length, slice_set, refl, sym, ◌∙◌, ap, subst, arith, Bool, true, false, if◌then◌else◌, ◌==◌, Option, Some, nat_lt}
 use Rattle.std.proofs.{Math.Nat.mul-le-mul, lemmas.Bool.Decides.nat_tests, lemmas.Grind.common_steps}
 use Rattle.machine_plan.specs.{Memory.bytes_stored, Plan.Writes, Plan.Shows, Plan.access, Plan.outcome_of}
-use Rattle.list_machine.specs.Blocks.{spot_with, one_more, spot_in, spot_of, no_spot, further_offset, has_room, block_place, is_full, next_place, link_place, item_of, zeros, put_here, put_plan}
+use Rattle.list_machine.specs.Blocks.{spot_with, one_more, spot_in, spot_of, no_spot, further_offset, has_room, block_place, is_full, next_place, link_place, item_of, item_put, zeros, put_here, put_plan}
 use Rattle.list_machine.specs.{State.Access, State.Config, State.Item, State.Spot, State.Who, State.Work, State.Write, Binner.item_may}
 use Rattle.list_machine.specs.Lists.{Lists, most_items, AreNear, with_item, with_block}
 use Rattle.machine_plan.proofs.Joining.{shows_wrote}
@@ -58,10 +58,14 @@ room_few c blocks size room =
     omega arith
 
 -- an item was written and is kept
-pub here_shows : (who : Who) (s after : Lists) (w : Work) (tile place : ℕ) (m k : List ℕ) (before listed : List Access) → listed ≡ before ++ access who Write place 16 ∷ [] → k ≡ bytes_stored m place (zeros 16) → after ≡ with_item s (item_of w tile place)
-    → Shows (outcome_of who (put_here s w tile place) m) before listed k (Some after)
+pub here_shows : (who : Who) (s after : Lists) (item : Item) (m k : List ℕ) (before listed : List Access) → listed ≡ before ++ access who Write item.place 16 ∷ [] → k ≡ bytes_stored m item.place (zeros 16) → after ≡ with_item s item
+    → Shows (outcome_of who (item_put s item) m) before listed k (Some after)
+here_shows who s after item m k before listed listed_is k_is after_is = record { accesses = listed_is; memory_is = k_is; result_is = ap Some after_is }
+
+here_put : (who : Who) (s : Lists) (w : Work) (tile place : ℕ) (item : Item) (m : List ℕ) (before after : List Access) (memory : List ℕ) (result : Option Lists) → item ≡ item_of w tile place
+    → Shows (outcome_of who (item_put s item) m) before after memory result → Shows (outcome_of who (put_here s w tile place) m) before after memory result
 unfolding put_here
-here_shows who s after w tile place m k before listed listed_is k_is after_is = record { accesses = listed_is; memory_is = k_is; result_is = ap Some after_is }
+here_put who s w tile place item m before after memory result item_is shows = subst (λ i. Shows (outcome_of who (item_put s i) m) before after memory result) item_is shows
 
 put_is : (s : Lists) (c : Config) (w : Work) (tile : ℕ) (spot : Spot) (full : Bool) → is_full spot ≡ full
     → put_plan s c w tile spot ≡ (if full then Writes (link_place spot) (zeros 16) (put_here (with_block s) w tile (block_place c s.blocks)) else put_here s w tile (next_place c tile spot))
@@ -69,21 +73,23 @@ unfolding put_plan
 put_is s c w tile spot full is = ap (λ b. if b then Writes (link_place spot) (zeros 16) (put_here (with_block s) w tile (block_place c s.blocks)) else put_here s w tile (next_place c tile spot)) is
 
 -- with a link before it
-pub full_shows : (who : Who) (s blocked : Lists) (c : Config) (w : Work) (tile place : ℕ) (spot of_tile : Spot) (m k : List ℕ) (before listed after : List Access) (memory : List ℕ) (result : Option Lists) → spot ≡ of_tile → is_full spot ≡ true → place ≡ block_place c s.blocks
+pub full_shows : (who : Who) (s blocked : Lists) (c : Config) (w : Work) (tile place : ℕ) (spot of_tile : Spot) (item : Item) (m k : List ℕ) (before listed after : List Access) (memory : List ℕ) (result : Option Lists) → spot ≡ of_tile → is_full spot ≡ true → place ≡ block_place c s.blocks → item ≡ item_of w tile place
     → listed ≡ before ++ access who Write (spot.last + 16) 16 ∷ [] → k ≡ bytes_stored m (spot.last + 16) (zeros 16) → blocked ≡ with_block s
-    → Shows (outcome_of who (put_here blocked w tile place) k) listed after memory result → Shows (outcome_of who (put_plan s c w tile of_tile) m) before after memory result
+    → Shows (outcome_of who (item_put blocked item) k) listed after memory result → Shows (outcome_of who (put_plan s c w tile of_tile) m) before after memory result
 unfolding link_place
-full_shows who s blocked c w tile place spot of_tile m k before listed after memory result spot_is full place_is listed_is k_is blocked_is shows =
-    let put = subst (λ q. Shows (outcome_of who (put_here (with_block s) w tile q) k) listed after memory result) place_is (subst (λ b. Shows (outcome_of who (put_here b w tile place) k) listed after memory result) blocked_is shows) in
+full_shows who s blocked c w tile place spot of_tile item m k before listed after memory result spot_is full place_is item_is listed_is k_is blocked_is shows =
+    let here : Shows (outcome_of who (put_here blocked w tile place) k) listed after memory result = here_put who blocked w tile place item k listed after memory result item_is shows in
+    let put = subst (λ q. Shows (outcome_of who (put_here (with_block s) w tile q) k) listed after memory result) place_is (subst (λ b. Shows (outcome_of who (put_here b w tile place) k) listed after memory result) blocked_is here) in
     let linked = shows_wrote who (spot.last + 16) (zeros 16) (put_here (with_block s) w tile (block_place c s.blocks)) m k before listed after memory result listed_is k_is put in
     let all = subst (λ plan. Shows (outcome_of who plan m) before after memory result) (sym (put_is s c w tile spot true full)) linked in
     subst (λ p. Shows (outcome_of who (put_plan s c w tile p) m) before after memory result) spot_is all
 
 -- and without one
-pub next_shows : (who : Who) (s : Lists) (c : Config) (w : Work) (tile place : ℕ) (spot of_tile : Spot) (m : List ℕ) (before after : List Access) (memory : List ℕ) (result : Option Lists) → spot ≡ of_tile → is_full spot ≡ false → place ≡ next_place c tile spot
-    → Shows (outcome_of who (put_here s w tile place) m) before after memory result → Shows (outcome_of who (put_plan s c w tile of_tile) m) before after memory result
-next_shows who s c w tile place spot of_tile m before after memory result spot_is open_block place_is shows =
-    let put = subst (λ q. Shows (outcome_of who (put_here s w tile q) m) before after memory result) place_is shows in
+pub next_shows : (who : Who) (s : Lists) (c : Config) (w : Work) (tile place : ℕ) (spot of_tile : Spot) (item : Item) (m : List ℕ) (before after : List Access) (memory : List ℕ) (result : Option Lists) → spot ≡ of_tile → is_full spot ≡ false → place ≡ next_place c tile spot → item ≡ item_of w tile place
+    → Shows (outcome_of who (item_put s item) m) before after memory result → Shows (outcome_of who (put_plan s c w tile of_tile) m) before after memory result
+next_shows who s c w tile place spot of_tile item m before after memory result spot_is open_block place_is item_is shows =
+    let here : Shows (outcome_of who (put_here s w tile place) m) before after memory result = here_put who s w tile place item m before after memory result item_is shows in
+    let put = subst (λ q. Shows (outcome_of who (put_here s w tile q) m) before after memory result) place_is here in
     let all = subst (λ plan. Shows (outcome_of who plan m) before after memory result) (sym (put_is s c w tile spot false open_block)) put in
     subst (λ p. Shows (outcome_of who (put_plan s c w tile p) m) before after memory result) spot_is all
 

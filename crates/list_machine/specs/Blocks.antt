@@ -73,8 +73,11 @@ item_of w tile place = record { tile = tile; place = place; word = w.word; primi
 abbrev pub zeros : ℕ → List ℕ
 zeros n = replicate n 0
 
+abbrev pub item_put : Lists → Item → Plan Lists
+item_put s item = Writes item.place (zeros 16) (Done (with_item s item))
+
 unfoldable pub put_here : Lists → Work → ℕ → ℕ → Plan Lists
-put_here s w tile place = Writes place (zeros 16) (Done (with_item s (item_of w tile place)))
+put_here s w tile place = item_put s (item_of w tile place)
 
 -- Where the tile's block is full, the link is written and the next further block taken. Then the item is
 -- written.

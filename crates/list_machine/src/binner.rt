@@ -7,7 +7,7 @@ ghost use Rattle.packets.specs.Length.{bin_length, bin_taken};
 ghost use Rattle.packets.specs.Opcode.{tile_binning_mode, gl_shader_state, indexed_primitive_list, array_primitive_list};
 ghost use Rattle.machine_plan.specs.Glance.{Now};
 ghost use Rattle.machine_plan.specs.Turn.{Carries, CarriesOver, if_tame};
-ghost use Rattle.list_machine.specs.Lists.{binner_of, turned_to, quiet, binner_ended, with_work, most_items, MayIncrement};
+ghost use Rattle.list_machine.specs.Lists.{turned_to, quiet, binner_ended, with_work, most_items, MayIncrement};
 ghost use Rattle.list_machine.specs.Blocks.{has_room};
 ghost use Rattle.list_machine.specs.Binner.{config_set, with_word, after_start, clear_plan, begin_plan, primitive_of, work_of, plan_of_draw, draw_plan, after_halt, is_unknown, packet_plan, read_plan, is_due, one_done, next_plan, not_due, due_plan, chosen_tile, tile_plan, item_plan, work_plan, binner_by, binner_plan, item_may, work_may, binner_may, binner_ready, has_binner_work};
 
@@ -15,11 +15,11 @@ use crate::blocks::{has_room, tiles_of, write_zeros};
 use crate::fetch::fetch_vertex;
 use crate::job_lists::{JobLists, MOST_ITEMS};
 use crate::reads::{end_wild, read_listed};
-use crate::start::{can_start, start_program};
+use crate::start::{Shader, can_start, start_program};
 use crate::state::{Kept, Primitive, Program, Work};
+use crate::turn::Turn;
 use byteorder::{ByteOrder, LittleEndian};
-use field_words::Actor;
-use machine_plan::{Accesses, Choices, Free, Launch, Who, byte_at};
+use machine_plan::{Accesses, Choices, Free, Launch, Reader, Who, byte_at};
 use packets::opcode::{
     ARRAY_PRIMITIVE_LIST, BUFFER_HANDLES, FLUSH, GL_SHADER_STATE, HALT, INCREMENT_SEMAPHORE,
     INDEXED_PRIMITIVE_LIST, START_TILE_BINNING, TILE_BINNING_MODE,
@@ -243,7 +243,7 @@ impl JobLists {
     {
         let place = self.binner().place;
         let len = bin_taken(byte_at(memory, place));
-        let packet = read_listed(place, len, who, memory, accesses);
+        let packet = read_listed(place, len, &Reader { who, memory }, accesses);
         self.pass(len);
         if self.bin_packet(&packet, who, memory, accesses) {
             return true;
@@ -257,27 +257,30 @@ impl JobLists {
         &mut self,
         work: &Work,
         free: &Free,
-        who: Who,
-        memory: &PhysMem,
+        reader: &Reader,
         accesses: &mut Accesses,
     ) -> Option<Launch>
         requires { array_vec_len accesses.old < 240 }
-        ensures shows { CarriesOver who (due_plan self.old work.now free.now)
-            memory.now accesses.old accesses.new (Some (turned_to self.new result)) }
+        ensures shows { CarriesOver reader.now.who (due_plan self.old work.now free.now)
+            reader.now.memory.now accesses.old accesses.new (Some (turned_to self.new result)) }
     {
-        let launch = start_program(Program::Coordinate, free, work.word, who, memory, accesses);
+        let shader = Shader {
+            program: Program::Coordinate,
+            word: work.word,
+        };
+        let launch = start_program(shader, free, reader, accesses);
         self.set_work(Some(not_due(work)));
         launch
     }
 
     // The next vertex is fetched.
-    fn fetch_next(&mut self, work: &Work, who: Who, memory: &PhysMem, accesses: &mut Accesses)
+    fn fetch_next(&mut self, work: &Work, reader: &Reader, accesses: &mut Accesses)
         requires more { work.now.done < work.now.primitive.length }
         requires room { array_vec_len accesses.old < 240 }
-        ensures shows { CarriesOver who (next_plan self.old work.now) memory.now accesses.old
-            accesses.new (Some (quiet self.new)) }
+        ensures shows { CarriesOver reader.now.who (next_plan self.old work.now)
+            reader.now.memory.now accesses.old accesses.new (Some (quiet self.new)) }
     {
-        fetch_vertex(&work.primitive, work.word, work.done, who, memory, accesses);
+        fetch_vertex(&work.primitive, work.word, work.done, reader, accesses);
         self.set_work(Some(one_done(work)));
     }
 
@@ -286,22 +289,22 @@ impl JobLists {
         &mut self,
         config: &Config,
         work: &Work,
-        words: &C,
-        who: Who,
+        turn: &Turn<C>,
         memory: &mut PhysMem,
         accesses: &mut Accesses,
     )
         requires few { length self.old.items < most_items }
         requires blocks { self.old.blocks < 2 ^ 25 }
         requires room { array_vec_len accesses.old < 240 }
-        ensures shows { Carries who (tile_plan self.old config.now work.now (chosen_tile config.now (C.listed words.now)))
-            memory.old memory.new accesses.old accesses.new (Some self.new) }
+        ensures shows { let tile = chosen_tile config.now (C.listed turn.now.words.now) in Carries
+            turn.now.who (tile_plan self.old config.now work.now tile) memory.old memory.new
+            accesses.old accesses.new (Some self.new) }
     {
-        let tile = chosen_tile(config, words);
+        let tile = chosen_tile(config, turn.words);
         if tile == tiles_of(config) {
             self.set_work(None);
         } else {
-            self.put(config, work, tile, who, memory, accesses);
+            self.put(config, work, tile, turn.who, memory, accesses);
         }
     }
 
@@ -310,19 +313,19 @@ impl JobLists {
     fn put_item<C: Choices>(
         &mut self,
         work: &Work,
-        words: &C,
-        who: Who,
+        turn: &Turn<C>,
         memory: &mut PhysMem,
         accesses: &mut Accesses,
     )
         requires may { item_may self.old self.old.binner.kept.config ≡ true }
         requires room { array_vec_len accesses.old < 240 }
-        ensures shows { Carries who (item_plan self.old self.old.binner.kept.config work.now (C.listed words.now))
-            memory.old memory.new accesses.old accesses.new (Some self.new) }
+        ensures shows { let words = C.listed turn.now.words.now in Carries turn.now.who
+            (item_plan self.old self.old.binner.kept.config work.now words) memory.old memory.new
+            accesses.old accesses.new (Some self.new) }
     {
         match self.binner().kept.config {
             None => {}
-            Some(config) => self.put_chosen(&config, work, words, who, memory, accesses),
+            Some(config) => self.put_chosen(&config, work, turn, memory, accesses),
         }
     }
 
@@ -330,24 +333,31 @@ impl JobLists {
     fn step_work<C: Choices>(
         &mut self,
         work: &Work,
-        free: &Free,
-        words: &C,
-        who: Who,
+        turn: &Turn<C>,
         memory: &mut PhysMem,
         accesses: &mut Accesses,
     ) -> Option<Launch>
-        requires may { work_may self.old work.now free.now ≡ true }
+        requires may { work_may self.old work.now turn.now.free ≡ true }
         requires room { array_vec_len accesses.old < 240 }
-        ensures shows { Carries who (work_plan self.old work.now free.now (C.listed words.now))
-            memory.old memory.new accesses.old accesses.new (Some (turned_to self.new result)) }
+        ensures shows { let words = C.listed turn.now.words.now in Carries turn.now.who
+            (work_plan self.old work.now turn.now.free words) memory.old memory.new accesses.old
+            accesses.new (Some (turned_to self.new result)) }
     {
         if work.due {
-            self.start_due(work, free, who, memory, accesses)
+            let reader = &Reader {
+                who: turn.who,
+                memory,
+            };
+            self.start_due(work, &turn.free, reader, accesses)
         } else if work.done < work.primitive.length {
-            self.fetch_next(work, who, memory, accesses);
+            let reader = &Reader {
+                who: turn.who,
+                memory,
+            };
+            self.fetch_next(work, reader, accesses);
             None
         } else {
-            self.put_item(work, words, who, memory, accesses);
+            self.put_item(work, turn, memory, accesses);
             None
         }
     }
@@ -396,37 +406,31 @@ impl JobLists {
         binner.place < binner.end || binner.work.is_some()
     }
 
-    /// One step of the binner, which may step, for the job of this number. What the hardware leaves open is
-    /// answered by the words; a missing word is zero. It lists its accesses behind those already listed,
-    /// and comes to the program that it starts, where it starts one. `None` comes exactly where the step is
+    /// One step of the binner, which may step. It lists its accesses behind those already listed, and
+    /// comes to the program that it starts, where it starts one. `None` comes exactly where the step is
     /// undefined; then the binner is at its list's end without work.
     pub fn step_binner<C: Choices>(
         &mut self,
-        job: u8,
-        free: &Free,
-        words: &C,
+        turn: &Turn<C>,
         memory: &mut PhysMem,
         accesses: &mut Accesses,
     ) -> Option<Option<Launch>>
-        requires ready { binner_ready self.old free.now ≡ Now true }
+        requires ready { binner_ready self.old turn.now.free ≡ Now true }
         requires room { array_vec_len accesses.old < 240 }
-        ensures shows { Carries (binner_of job) (binner_plan self.old free.now (C.listed words.now))
-            memory.old memory.new accesses.old accesses.new (option_map (turned_to self.new) result) }
+        ensures shows { let words = C.listed turn.now.words.now in Carries turn.now.who
+            (binner_plan self.old turn.now.free words) memory.old memory.new accesses.old
+            accesses.new (option_map (turned_to self.new) result) }
         ensures wild { result ≡ None → self.new ≡ binner_ended self.old }
     {
-        let who = Who {
-            unit: Actor::Binner,
-            job,
-        };
         match self.binner().work {
             None => {
-                if self.step_packet(who, memory, accesses) {
+                if self.step_packet(turn.who, memory, accesses) {
                     Some(None)
                 } else {
                     None
                 }
             }
-            Some(work) => Some(self.step_work(&work, free, words, who, memory, accesses)),
+            Some(work) => Some(self.step_work(&work, turn, memory, accesses)),
         }
     }
 }

@@ -6,7 +6,7 @@ ghost use Rattle.list_machine.specs.State.{Write};
 ghost use Rattle.machine_plan.specs.Memory.{bytes_stored};
 ghost use Rattle.machine_plan.specs.Plan.{access};
 ghost use Rattle.list_machine.specs.Lists.{most_items};
-ghost use Rattle.list_machine.specs.Blocks.{tiles_of, further_offset, block_place, has_room, one_more, spot_of, is_full, next_place, link_place, item_of, zeros, put_here, put_plan};
+ghost use Rattle.list_machine.specs.Blocks.{tiles_of, further_offset, block_place, has_room, one_more, spot_of, is_full, next_place, link_place, item_of, zeros, item_put, put_plan};
 
 use crate::job_lists::JobLists;
 use crate::state::{Item, Spot, Work};
@@ -76,6 +76,18 @@ fn next_place(config: &Config, tile: u32, spot: Spot) -> u64
     }
 }
 
+// The item that is put on a tile for the primitive in work.
+fn item_of(work: &Work, tile: u32, place: u64) -> Item
+    ensures { result ≡ item_of work.now tile place }
+{
+    Item {
+        tile,
+        place,
+        word: work.word,
+        primitive: work.primitive,
+    }
+}
+
 /// Writes `len` zeros from `place` on, and lists the write.
 #[tactic(auto, using(crate::proofs::Putting::zeros_first, crate::proofs::Putting::zeros_more, crate::proofs::Putting::zeros_done))]
 pub(crate) fn write_zeros(
@@ -98,31 +110,18 @@ pub(crate) fn write_zeros(
 }
 
 impl JobLists {
-    // Writes an item, for the primitive in work, and keeps it.
-    fn put_here(
-        &mut self,
-        work: &Work,
-        tile: u32,
-        place: u64,
-        who: Who,
-        memory: &mut PhysMem,
-        accesses: &mut Accesses,
-    )
-        requires tile { tile ≤ 65025 }
+    // Writes an item, and keeps it.
+    fn put_here(&mut self, item: Item, who: Who, memory: &mut PhysMem, accesses: &mut Accesses)
+        requires tile { item.tile ≤ 65025 }
         requires few { length self.old.items < most_items }
-        requires near { place ≤ 2 ^ 34 + 16 * length self.old.items }
+        requires near { item.place ≤ 2 ^ 34 + 16 * length self.old.items }
         requires room { array_vec_len accesses.old < 272 }
-        ensures shows { Carries who (put_here self.old work.now tile place)
+        ensures shows { Carries who (item_put self.old item)
             memory.old memory.new accesses.old accesses.new (Some self.new) }
         ensures len { array_vec_len accesses.new ≡ array_vec_len accesses.old + 1 }
     {
-        write_zeros(place, 16, who, memory, accesses);
-        self.push_item(Item {
-            tile,
-            place,
-            word: work.word,
-            primitive: work.primitive,
-        });
+        write_zeros(item.place, 16, who, memory, accesses);
+        self.push_item(item);
     }
 
     /// Puts an item on a tile, for the primitive in work. Where the tile's block is full, the link is
@@ -140,8 +139,9 @@ impl JobLists {
         requires few { length self.old.items < most_items }
         requires blocks { self.old.blocks < 2 ^ 25 }
         requires room { array_vec_len accesses.old < 270 }
-        ensures shows { Carries who (put_plan self.old config.now work.now tile (spot_of tile self.old.items))
-            memory.old memory.new accesses.old accesses.new (Some self.new) }
+        ensures shows { Carries who
+            (put_plan self.old config.now work.now tile (spot_of tile self.old.items)) memory.old
+            memory.new accesses.old accesses.new (Some self.new) }
         ensures len { array_vec_len accesses.new ≤ array_vec_len accesses.old + 2 }
     {
         let spot = self.spot(tile);
@@ -149,10 +149,10 @@ impl JobLists {
             let place = block_place(config, self.blocks());
             write_zeros(spot.last + 16, 16, who, memory, accesses);
             self.take_block();
-            self.put_here(work, tile, place, who, memory, accesses);
+            self.put_here(item_of(work, tile, place), who, memory, accesses);
         } else {
             let place = next_place(config, tile, spot);
-            self.put_here(work, tile, place, who, memory, accesses);
+            self.put_here(item_of(work, tile, place), who, memory, accesses);
         }
     }
 }

@@ -72,20 +72,20 @@ fn units_of(pixels: u32, unit: u32) -> u32
 
 /// The microtiles of a tiled surface that have a covered pixel.
 #[tactic(auto, unfolding(crate::specs::Cover::tiled_cover), using(crate::proofs::Covering::wide_unit, crate::proofs::Covering::high_unit))]
-fn tiled_cover(tiling: Tiling, cpp: u32, frame: &Frame, base: u32, x: u8, y: u8) -> Cover
-    requires { IsShort cpp }
-    ensures value { result ≡ tiled_cover tiling cpp frame.now base x y }
+fn tiled_cover(style: &Style, frame: &Frame, base: u32, x: u8, y: u8) -> Cover
+    requires { IsShort style.now.cpp }
+    ensures value { result ≡ tiled_cover style.now.tiling style.now.cpp frame.now base x y }
     ensures small { IsSmall result }
 {
     let side = side(frame.bits);
-    let width = microtile_width(cpp);
-    let height = microtile_height(cpp);
+    let width = microtile_width(style.cpp);
+    let height = microtile_height(style.cpp);
     let left = x as u32 * side;
     let top = y as u32 * side;
     Cover {
-        tiling,
+        tiling: style.tiling,
         base,
-        cpp,
+        cpp: style.cpp,
         wide: frame.width,
         left: left / width,
         top: top / height,
@@ -103,8 +103,8 @@ fn cover_in(style: &Style, frame: &Frame, base: u32, x: u8, y: u8) -> Cover
 {
     match style.tiling {
         Tiling::Raster => raster_cover(style.cpp, frame, base, x, y),
-        Tiling::T => tiled_cover(Tiling::T, style.cpp, frame, base, x, y),
-        Tiling::Lt => tiled_cover(Tiling::Lt, style.cpp, frame, base, x, y),
+        Tiling::T => tiled_cover(style, frame, base, x, y),
+        Tiling::Lt => tiled_cover(style, frame, base, x, y),
     }
 }
 

@@ -11,8 +11,14 @@ use crate::reads::{read_listed, read_word};
 use crate::state::Primitive;
 use byteorder::{ByteOrder, LittleEndian};
 use field_words::Way;
-use machine_plan::{Accesses, Who, list_access};
-use phys_mem::PhysMem;
+use machine_plan::{Accesses, Reader, list_access};
+
+/// A vertex that is fetched: the state word, and its index.
+#[derive(Clone, Copy, Debug, PartialEq, Eq)]
+struct Vertex {
+    word: u32,
+    index: u32,
+}
 
 // The bytes of an index.
 fn index_size(primitive: &Primitive) -> u32
@@ -35,40 +41,28 @@ fn index_in(primitive: &Primitive, bytes: &[u8]) -> u32
 }
 
 // The index of an indexed primitive's vertex `k`, which is read.
-fn read_index(
-    primitive: &Primitive,
-    k: u32,
-    who: Who,
-    memory: &PhysMem,
-    accesses: &mut Accesses,
-) -> u32
+fn read_index(primitive: &Primitive, k: u32, reader: &Reader, accesses: &mut Accesses) -> u32
     requires indexed { primitive.now.indexed ≡ true }
     requires room { array_vec_len accesses.old < 240 }
-    ensures shows { CarriesOver who (index_plan primitive.now k) memory.now accesses.old
-        accesses.new (Some result) }
+    ensures shows { CarriesOver reader.now.who (index_plan primitive.now k) reader.now.memory.now
+        accesses.old accesses.new (Some result) }
     ensures len { array_vec_len accesses.new ≡ array_vec_len accesses.old + 1 }
 {
     let size = index_size(primitive);
     let place = primitive.address as u64 + k as u64 * size as u64;
-    let bytes = read_listed(place, size, who, memory, accesses);
+    let bytes = read_listed(place, size, reader, accesses);
     index_in(primitive, &bytes)
 }
 
 // The index of vertex `k`.
-fn index_of(
-    primitive: &Primitive,
-    k: u32,
-    who: Who,
-    memory: &PhysMem,
-    accesses: &mut Accesses,
-) -> u32
+fn index_of(primitive: &Primitive, k: u32, reader: &Reader, accesses: &mut Accesses) -> u32
     requires { array_vec_len accesses.old < 240 }
-    ensures shows { CarriesOver who (index_plan primitive.now k) memory.now accesses.old
-        accesses.new (Some result) }
+    ensures shows { CarriesOver reader.now.who (index_plan primitive.now k) reader.now.memory.now
+        accesses.old accesses.new (Some result) }
     ensures len { array_vec_len accesses.new ≤ array_vec_len accesses.old + 1 }
 {
     if primitive.indexed {
-        read_index(primitive, k, who, memory, accesses)
+        read_index(primitive, k, reader, accesses)
     } else {
         primitive.address.wrapping_add(k)
     }
@@ -145,93 +139,78 @@ fn fetch_data(
     attribute: &[u8],
     extension: u32,
     index: u32,
-    who: Who,
-    memory: &PhysMem,
+    reader: &Reader,
     accesses: &mut Accesses,
 )
     requires length { length attribute.now ≡ 8 }
     requires room { array_vec_len accesses.old < 272 }
-    ensures shows { CarriesOver who (data_plan attribute.now extension index) memory.now
-        accesses.old accesses.new (Some index) }
+    ensures shows { CarriesOver reader.now.who (data_plan attribute.now extension index)
+        reader.now.memory.now accesses.old accesses.new (Some index) }
     ensures len { array_vec_len accesses.new ≡ array_vec_len accesses.old + 1 }
 {
     let place = data_place(attribute, extension, index);
-    list_access(who, Way::Read, place, attribute[4] as u32 + 1, accesses);
+    let size = attribute[4] as u32 + 1;
+    list_access(reader.who, Way::Read, place, size, accesses);
 }
 
 // Fetches a vertex's data, with the word that extends the stride where the record is extended.
 fn fetch_extended(
-    word: u32,
-    index: u32,
+    vertex: Vertex,
     t: u32,
     attribute: &[u8],
-    who: Who,
-    memory: &PhysMem,
+    reader: &Reader,
     accesses: &mut Accesses,
 )
     requires number { t < 8 }
     requires length { length attribute.now ≡ 8 }
     requires room { array_vec_len accesses.old ≤ 270 }
-    ensures shows { CarriesOver who (extended_plan word index t attribute.now) memory.now
-        accesses.old accesses.new (Some index) }
+    ensures shows { CarriesOver reader.now.who
+        (extended_plan vertex.word vertex.index t attribute.now) reader.now.memory.now accesses.old
+        accesses.new (Some vertex.index) }
     ensures len { array_vec_len accesses.new ≤ array_vec_len accesses.old + 2 }
 {
-    if is_extended(word) {
-        let extension = read_word(extension_place(word, t), who, memory, accesses);
-        fetch_data(attribute, extension, index, who, memory, accesses);
+    if is_extended(vertex.word) {
+        let extension = read_word(extension_place(vertex.word, t), reader, accesses);
+        fetch_data(attribute, extension, vertex.index, reader, accesses);
     } else {
-        fetch_data(attribute, 0, index, who, memory, accesses);
+        fetch_data(attribute, 0, vertex.index, reader, accesses);
     }
 }
 
 // Fetches attribute `t` of a vertex.
-fn fetch_attribute(
-    word: u32,
-    index: u32,
-    t: u32,
-    who: Who,
-    memory: &PhysMem,
-    accesses: &mut Accesses,
-)
+fn fetch_attribute(vertex: Vertex, t: u32, reader: &Reader, accesses: &mut Accesses)
     requires number { t < 8 }
     requires room { array_vec_len accesses.old < 269 }
-    ensures shows { CarriesOver who (attribute_plan word index t) memory.now accesses.old
-        accesses.new (Some index) }
+    ensures shows { CarriesOver reader.now.who (attribute_plan vertex.word vertex.index t)
+        reader.now.memory.now accesses.old accesses.new (Some vertex.index) }
     ensures len { array_vec_len accesses.new ≤ array_vec_len accesses.old + 3 }
 {
-    let attribute = read_listed(attribute_place(word, t), 8, who, memory, accesses);
-    fetch_extended(word, index, t, &attribute, who, memory, accesses);
+    let attribute = read_listed(attribute_place(vertex.word, t), 8, reader, accesses);
+    fetch_extended(vertex, t, &attribute, reader, accesses);
 }
 
 // Fetches all attributes of a vertex.
 #[tactic(auto, using(crate::proofs::Fetching::attributes_begin, crate::proofs::Fetching::attributes_more, crate::proofs::Fetching::attributes_end))]
-fn fetch_attributes(word: u32, index: u32, who: Who, memory: &PhysMem, accesses: &mut Accesses)
+fn fetch_attributes(vertex: Vertex, reader: &Reader, accesses: &mut Accesses)
     requires { array_vec_len accesses.old < 241 }
-    ensures shows { CarriesOver who (all_attributes_plan word index) memory.now accesses.old
-        accesses.new (Some index) }
+    ensures shows { CarriesOver reader.now.who (all_attributes_plan vertex.word vertex.index)
+        reader.now.memory.now accesses.old accesses.new (Some vertex.index) }
     ensures len { array_vec_len accesses.new ≤ array_vec_len accesses.old + 24 }
 {
-    for t in 0..attribute_count(word) {
-        fetch_attribute(word, index, t, who, memory, accesses);
+    for t in 0..attribute_count(vertex.word) {
+        fetch_attribute(vertex, t, reader, accesses);
     }
 }
 
 // Fetches the vertex of this index.
-fn fetch_indexed(
-    primitive: &Primitive,
-    word: u32,
-    index: u32,
-    who: Who,
-    memory: &PhysMem,
-    accesses: &mut Accesses,
-)
+fn fetch_indexed(primitive: &Primitive, vertex: Vertex, reader: &Reader, accesses: &mut Accesses)
     requires { array_vec_len accesses.old < 241 }
-    ensures shows { CarriesOver who (indexed_plan primitive.now word index) memory.now accesses.old
-        accesses.new (Some index) }
+    ensures shows { CarriesOver reader.now.who (indexed_plan primitive.now vertex.word vertex.index)
+        reader.now.memory.now accesses.old accesses.new (Some vertex.index) }
     ensures len { array_vec_len accesses.new ≤ array_vec_len accesses.old + 24 }
 {
-    if !draws_nothing(primitive, index) {
-        fetch_attributes(word, index, who, memory, accesses);
+    if !draws_nothing(primitive, vertex.index) {
+        fetch_attributes(vertex, reader, accesses);
     }
 }
 
@@ -242,16 +221,15 @@ pub(crate) fn fetch_vertex(
     primitive: &Primitive,
     word: u32,
     k: u32,
-    who: Who,
-    memory: &PhysMem,
+    reader: &Reader,
     accesses: &mut Accesses,
 ) -> u32
     requires { array_vec_len accesses.old < 240 }
-    ensures shows { CarriesOver who (fetch_plan primitive.now word k) memory.now accesses.old
-        accesses.new (Some result) }
+    ensures shows { CarriesOver reader.now.who (fetch_plan primitive.now word k)
+        reader.now.memory.now accesses.old accesses.new (Some result) }
     ensures len { array_vec_len accesses.new ≤ array_vec_len accesses.old + 25 }
 {
-    let index = index_of(primitive, k, who, memory, accesses);
-    fetch_indexed(primitive, word, index, who, memory, accesses);
+    let index = index_of(primitive, k, reader, accesses);
+    fetch_indexed(primitive, Vertex { word, index }, reader, accesses);
     index
 }

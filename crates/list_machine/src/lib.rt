@@ -13,9 +13,11 @@ mod renderer;
 mod start;
 mod state;
 mod surface;
+mod turn;
 
 pub use job_lists::{JobLists, MOST_ITEMS};
 pub use state::{
     Binner, Found, Frame, Item, Kept, Load, Primitive, Program, Renderer, Spot, SubList, Work,
 };
 pub use surface::{Cover, Tile};
+pub use turn::Turn;

@@ -12,10 +12,18 @@ use crate::cover::{cover_for, part_count, part_place};
 use crate::reads::end_wild;
 use crate::state::Load;
 use crate::surface::{Cover, Tile};
+use crate::turn::Turn;
 use field_words::{Way, field};
 use machine_plan::{Accesses, Choices, Who, list_access, put_byte};
 use phys_mem::PhysMem;
 use texture_layouts::{frame_style, general_style};
+
+/// A buffer that is stored to or loaded from by general bits: the bits, and its address.
+#[derive(Clone, Copy, Debug, PartialEq, Eq)]
+pub(crate) struct Buffer {
+    pub bits: u16,
+    pub address: u32,
+}
 
 /// The bytes of a tile in full resolution.
 const WHOLE_SIZE: u32 = 16384;
@@ -61,20 +69,26 @@ fn bytes_before(cover: &Cover, i: u32) -> u64
 /// Writes all parts with the bytes of the choice words, and lists a write of each.
 fn write_parts<C: Choices>(
     cover: &Cover,
-    words: &C,
-    who: Who,
+    turn: &Turn<C>,
     memory: &mut PhysMem,
     accesses: &mut Accesses,
 )
     requires small { IsSmall cover.now }
     requires room { array_vec_len accesses.old ≤ 8 }
-    ensures { Stores who (parts_written cover.now (C.listed words.now) 0 (part_count cover.now))
-        memory.old memory.new accesses.old accesses.new true }
+    ensures { Stores turn.now.who
+        (parts_written cover.now (C.listed turn.now.words.now) 0 (part_count cover.now)) memory.old
+        memory.new accesses.old accesses.new true }
 {
     for i in 0..part_count(cover) {
         let place = part_place(cover, i);
-        store_chosen(memory, place, words, bytes_before(cover, i), cover.size);
-        list_access(who, Way::Write, place, cover.size, accesses);
+        store_chosen(
+            memory,
+            place,
+            turn.words,
+            bytes_before(cover, i),
+            cover.size,
+        );
+        list_access(turn.who, Way::Write, place, cover.size, accesses);
     }
 }
 
@@ -93,22 +107,21 @@ fn read_parts(cover: &Cover, who: Who, accesses: &mut Accesses)
 /// Writes all parts of a cover. False comes exactly where there is none, which is undefined.
 fn write_cover<C: Choices>(
     cover: Option<Cover>,
-    words: &C,
-    who: Who,
+    turn: &Turn<C>,
     memory: &mut PhysMem,
     accesses: &mut Accesses,
 ) -> bool
     requires small { IfSome cover IsSmall }
     requires room { array_vec_len accesses.old ≤ 8 }
-    ensures { Stores who (cover_written cover (C.listed words.now)) memory.old memory.new
-        accesses.old accesses.new result }
+    ensures { Stores turn.now.who (cover_written cover (C.listed turn.now.words.now)) memory.old
+        memory.new accesses.old accesses.new result }
 {
     match cover {
         Some(cover) => {
-            write_parts(&cover, words, who, memory, accesses);
+            write_parts(&cover, turn, memory, accesses);
             true
         }
-        None => end_wild(who, accesses),
+        None => end_wild(turn.who, accesses),
     }
 }
 
@@ -143,58 +156,57 @@ fn names_none(bits: u16) -> bool
 
 /// Stores tile (x, y) by general bits. False comes exactly where that is undefined.
 pub(crate) fn store_general<C: Choices>(
-    bits: u16,
-    address: u32,
+    buffer: Buffer,
     tile: Tile,
-    words: &C,
-    who: Who,
+    turn: &Turn<C>,
     memory: &mut PhysMem,
     accesses: &mut Accesses,
 ) -> bool
     requires { array_vec_len accesses.old ≤ 8 }
-    ensures { Stores who (general_written bits address tile.frame tile.x tile.y (C.listed words.now))
+    ensures { let words = C.listed turn.now.words.now in Stores turn.now.who
+        (general_written buffer.bits buffer.address tile.frame tile.x tile.y words)
         memory.old memory.new accesses.old accesses.new result }
 {
-    if names_none(bits) {
+    if names_none(buffer.bits) {
         return true;
     }
-    let style = general_style(bits);
-    let cover = cover_for(style, tile.frame, aligned(address), tile.x, tile.y);
-    write_cover(cover, words, who, memory, accesses)
+    let style = general_style(buffer.bits);
+    let cover = cover_for(style, tile.frame, aligned(buffer.address), tile.x, tile.y);
+    write_cover(cover, turn, memory, accesses)
 }
 
 /// Loads tile (x, y) by general bits. False comes exactly where that is undefined.
-fn load_general(bits: u16, address: u32, tile: Tile, who: Who, accesses: &mut Accesses) -> bool
+fn load_general(buffer: Buffer, tile: Tile, who: Who, accesses: &mut Accesses) -> bool
     requires { array_vec_len accesses.old ≤ 8 }
-    ensures { Loads who (general_read bits address tile.frame tile.x tile.y) accesses.old
-        accesses.new result }
+    ensures { Loads who (general_read buffer.bits buffer.address tile.frame tile.x tile.y)
+        accesses.old accesses.new result }
 {
-    if names_none(bits) {
+    if names_none(buffer.bits) {
         return true;
     }
-    let style = general_style(bits);
-    let cover = cover_for(style, tile.frame, aligned(address), tile.x, tile.y);
+    let style = general_style(buffer.bits);
+    let cover = cover_for(style, tile.frame, aligned(buffer.address), tile.x, tile.y);
     read_cover(cover, who, accesses)
 }
 
 /// Stores tile (x, y) of the frame. False comes exactly where that is undefined.
 pub(crate) fn store_frame<C: Choices>(
     tile: Tile,
-    words: &C,
-    who: Who,
+    turn: &Turn<C>,
     memory: &mut PhysMem,
     accesses: &mut Accesses,
 ) -> bool
     requires { array_vec_len accesses.old ≤ 8 }
-    ensures { Stores who (frame_written tile.frame tile.x tile.y (C.listed words.now)) memory.old
-        memory.new accesses.old accesses.new result }
+    ensures { let words = C.listed turn.now.words.now in Stores turn.now.who
+        (frame_written tile.frame tile.x tile.y words) memory.old memory.new accesses.old
+        accesses.new result }
 {
     match tile.frame {
-        None => end_wild(who, accesses),
+        None => end_wild(turn.who, accesses),
         Some(frame) => {
             let style = frame_style(frame.bits);
             let cover = cover_for(style, Some(frame), frame.address, tile.x, tile.y);
-            write_cover(cover, words, who, memory, accesses)
+            write_cover(cover, turn, memory, accesses)
         }
     }
 }
@@ -203,18 +215,17 @@ pub(crate) fn store_frame<C: Choices>(
 #[tactic(auto, unfolding(crate::specs::Surfaces::whole_written), using(crate::proofs::Storing::chosen_size))]
 pub(crate) fn store_whole<C: Choices>(
     address: u32,
-    words: &C,
-    who: Who,
+    turn: &Turn<C>,
     memory: &mut PhysMem,
     accesses: &mut Accesses,
 )
     requires { array_vec_len accesses.old ≤ 8 }
-    ensures { Stores who (whole_written address (C.listed words.now)) memory.old memory.new
-        accesses.old accesses.new true }
+    ensures { Stores turn.now.who (whole_written address (C.listed turn.now.words.now)) memory.old
+        memory.new accesses.old accesses.new true }
 {
     let place = aligned(address) as u64;
-    store_chosen(memory, place, words, 0, WHOLE_SIZE);
-    list_access(who, Way::Write, place, WHOLE_SIZE, accesses);
+    store_chosen(memory, place, turn.words, 0, WHOLE_SIZE);
+    list_access(turn.who, Way::Write, place, WHOLE_SIZE, accesses);
 }
 
 /// Does the load that waits, where one does. False comes exactly where that is undefined.
@@ -235,6 +246,8 @@ pub(crate) fn load_waiting(
             list_access(who, Way::Read, place, WHOLE_SIZE, accesses);
             true
         }
-        Some(Load::General { bits, address }) => load_general(bits, address, tile, who, accesses),
+        Some(Load::General { bits, address }) => {
+            load_general(Buffer { bits, address }, tile, who, accesses)
+        }
     }
 }

@@ -10,11 +10,12 @@ ghost use Rattle.list_machine.specs.Renderer.{wait_plan, tile_named, enter_plan,
 
 use crate::blocks::tiles_of;
 use crate::job_lists::JobLists;
-use crate::parts::{load_waiting, store_frame, store_general, store_whole};
+use crate::parts::{Buffer, load_waiting, store_frame, store_general, store_whole};
 use crate::reads::{end_wild, read_listed};
 use crate::state::{Frame, Load, SubList};
 use crate::surface::Tile;
-use machine_plan::{Accesses, Choices, Who, byte_at};
+use crate::turn::Turn;
+use machine_plan::{Accesses, Choices, Reader, Who, byte_at};
 use packets::opcode::WAIT_ON_SEMAPHORE;
 use packets::{Config, Packet, decode, render_taken};
 use phys_mem::PhysMem;
@@ -153,13 +154,12 @@ impl JobLists {
     fn act<C: Choices>(
         &mut self,
         packet: Packet,
-        words: &C,
-        who: Who,
+        turn: &Turn<C>,
         memory: &mut PhysMem,
         accesses: &mut Accesses,
     ) -> bool
         requires { array_vec_len accesses.old ≤ 8 }
-        ensures shows { Carries who (act self.old (C.listed words.now) packet)
+        ensures shows { Carries turn.now.who (act self.old (C.listed turn.now.words.now) packet)
             memory.old memory.new accesses.old accesses.new (if_tame result self.new) }
         ensures same { result ≡ false → self.new ≡ self.old }
     {
@@ -169,21 +169,21 @@ impl JobLists {
                 self.take_semaphore();
                 true
             }
-            Packet::BranchToSubList { address } => self.branch(address, who, accesses),
-            Packet::StoreTileColor => store_frame(tile, words, who, memory, accesses),
-            Packet::StoreTileColorAndEnd => store_frame(tile, words, who, memory, accesses),
+            Packet::BranchToSubList { address } => self.branch(address, turn.who, accesses),
+            Packet::StoreTileColor => store_frame(tile, turn, memory, accesses),
+            Packet::StoreTileColorAndEnd => store_frame(tile, turn, memory, accesses),
             Packet::StoreFullResolution { address } => {
-                store_whole(address, words, who, memory, accesses);
+                store_whole(address, turn, memory, accesses);
                 true
             }
             Packet::LoadFullResolution { address } => {
-                self.wait_with(Load::Full(address), who, accesses)
+                self.wait_with(Load::Full(address), turn.who, accesses)
             }
             Packet::StoreTileBuffer { bits, address } => {
-                store_general(bits, address, tile, words, who, memory, accesses)
+                store_general(Buffer { bits, address }, tile, turn, memory, accesses)
             }
             Packet::LoadTileBuffer { bits, address } => {
-                self.wait_with(Load::General { bits, address }, who, accesses)
+                self.wait_with(Load::General { bits, address }, turn.who, accesses)
             }
             Packet::TileRenderingMode {
                 address,
@@ -200,7 +200,7 @@ impl JobLists {
                 true
             }
             Packet::ClearColors { .. } => true,
-            Packet::TileCoordinates { x, y } => self.name_tile(x, y, who, accesses),
+            Packet::TileCoordinates { x, y } => self.name_tile(x, y, turn.who, accesses),
         }
     }
 
@@ -209,21 +209,20 @@ impl JobLists {
     fn act_on<C: Choices>(
         &mut self,
         bytes: &[u8],
-        words: &C,
-        who: Who,
+        turn: &Turn<C>,
         memory: &mut PhysMem,
         accesses: &mut Accesses,
     ) -> bool
         requires length { length bytes.now ≡ render_taken (slice_index bytes.now 0) }
         requires room { array_vec_len accesses.old ≤ 8 }
-        ensures shows { Carries who (plan_of_packet self.old (C.listed words.now)
+        ensures shows { Carries turn.now.who (plan_of_packet self.old (C.listed turn.now.words.now)
             (packet_decoded bytes.now)) memory.old memory.new accesses.old accesses.new
             (if_tame result self.new) }
         ensures same { result ≡ false → self.new ≡ self.old }
     {
         match decode(bytes) {
-            None => end_wild(who, accesses),
-            Some(packet) => self.act(packet, words, who, memory, accesses),
+            None => end_wild(turn.who, accesses),
+            Some(packet) => self.act(packet, turn, memory, accesses),
         }
     }
 
@@ -231,22 +230,25 @@ impl JobLists {
     /// where that is undefined; then the renderer's work ends.
     pub(crate) fn take_packet<C: Choices>(
         &mut self,
-        words: &C,
-        who: Who,
+        turn: &Turn<C>,
         memory: &mut PhysMem,
         accesses: &mut Accesses,
     ) -> bool
         requires below { self.old.renderer.place < self.old.renderer.end }
         requires room { array_vec_len accesses.old ≤ 4 }
-        ensures shows { Carries who (packet_plan self.old (C.listed words.now))
+        ensures shows { Carries turn.now.who (packet_plan self.old (C.listed turn.now.words.now))
             memory.old memory.new accesses.old accesses.new (if_tame result self.new) }
         ensures wild { result ≡ false → self.new ≡ renderer_ended self.old }
     {
         let place = self.renderer().place;
         let len = render_taken(byte_at(memory, place));
-        let bytes = read_listed(place, len, who, memory, accesses);
+        let reader = &Reader {
+            who: turn.who,
+            memory,
+        };
+        let bytes = read_listed(place, len, reader, accesses);
         self.go_past(len);
-        if self.act_on(&bytes, words, who, memory, accesses) {
+        if self.act_on(&bytes, turn, memory, accesses) {
             return true;
         }
         self.end_renderer();

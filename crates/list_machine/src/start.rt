@@ -7,8 +7,14 @@ ghost use Rattle.list_machine.specs.Start.{code_offset, can_start, launch_plan, 
 use crate::fetch::record_place;
 use crate::reads::{read_listed, read_word};
 use crate::state::Program;
-use machine_plan::{Accesses, Free, Launch, Who, read_bytes};
-use phys_mem::PhysMem;
+use machine_plan::{Accesses, Free, Launch, Reader, read_bytes};
+
+/// A program of the shader record that a state word names.
+#[derive(Clone, Copy, Debug, PartialEq, Eq)]
+pub(crate) struct Shader {
+    pub program: Program,
+    pub word: u32,
+}
 
 // Where a record holds the place of a program's code.
 fn code_offset(program: Program) -> u64
@@ -35,24 +41,17 @@ pub(crate) fn can_start(threaded: bool, free: &Free) -> bool
 
 // Reads the flags, and the places of the program's code and of its uniforms.
 #[tactic(auto, unfolding(crate::specs::Start::launch_plan))]
-fn read_launch(
-    program: Program,
-    threaded: bool,
-    word: u32,
-    who: Who,
-    memory: &PhysMem,
-    accesses: &mut Accesses,
-) -> Launch
+fn read_launch(shader: Shader, threaded: bool, reader: &Reader, accesses: &mut Accesses) -> Launch
     requires { array_vec_len accesses.old < 260 }
-    ensures shows { CarriesOver who (launch_plan program threaded word) memory.now accesses.old
-        accesses.new (Some (Some result)) }
+    ensures shows { CarriesOver reader.now.who (launch_plan shader.program threaded shader.word)
+        reader.now.memory.now accesses.old accesses.new (Some (Some result)) }
     ensures len { array_vec_len accesses.new ≡ array_vec_len accesses.old + 3 }
 {
-    let base = record_place(word);
-    let place = base + code_offset(program);
-    read_listed(base, 2, who, memory, accesses);
-    let code = read_word(place, who, memory, accesses);
-    let uniforms = read_word(place + 4, who, memory, accesses);
+    let base = record_place(shader.word);
+    let place = base + code_offset(shader.program);
+    read_listed(base, 2, reader, accesses);
+    let code = read_word(place, reader, accesses);
+    let uniforms = read_word(place + 4, reader, accesses);
     Launch {
         threaded,
         code,
@@ -63,23 +62,22 @@ fn read_launch(
 // Starts a program, threaded or not, if it can start.
 #[tactic(auto, unfolding(crate::specs::Start::start_as))]
 fn start_as(
-    program: Program,
+    shader: Shader,
     threaded: bool,
     free: &Free,
-    word: u32,
-    who: Who,
-    memory: &PhysMem,
+    reader: &Reader,
     accesses: &mut Accesses,
 ) -> Option<Launch>
     requires { array_vec_len accesses.old < 260 }
-    ensures shows { CarriesOver who (start_as program threaded free.now word) memory.now
-        accesses.old accesses.new (Some result) }
+    ensures shows { CarriesOver reader.now.who
+        (start_as shader.program threaded free.now shader.word) reader.now.memory.now accesses.old
+        accesses.new (Some result) }
     ensures len { array_vec_len accesses.new ≤ array_vec_len accesses.old + 3 }
 {
     if !can_start(threaded, free) {
         return None;
     }
-    Some(read_launch(program, threaded, word, who, memory, accesses))
+    Some(read_launch(shader, threaded, reader, accesses))
 }
 
 // Whether the flags say that the fragment program is threaded.
@@ -91,29 +89,27 @@ fn is_threaded(flags: &[u8]) -> bool
     flags[0] % 2 == 0
 }
 
-/// Starts a program of this state word: reads the flags and the places of its code and of its uniforms.
+/// Starts a program of a shader record: reads the flags and the places of its code and of its uniforms.
 /// A program that can't start now reads nothing, and gives `None`.
 #[tactic(auto, unfolding(crate::specs::Start::start_plan))]
 pub(crate) fn start_program(
-    program: Program,
+    shader: Shader,
     free: &Free,
-    word: u32,
-    who: Who,
-    memory: &PhysMem,
+    reader: &Reader,
     accesses: &mut Accesses,
 ) -> Option<Launch>
     requires { array_vec_len accesses.old < 260 }
-    ensures shows { CarriesOver who (start_plan program free.now word) memory.now accesses.old
-        accesses.new (Some result) }
+    ensures shows { CarriesOver reader.now.who (start_plan shader.program free.now shader.word)
+        reader.now.memory.now accesses.old accesses.new (Some result) }
     ensures len { array_vec_len accesses.new ≤ array_vec_len accesses.old + 3 }
 {
-    match program {
+    match shader.program {
         Program::Fragment => {
-            let flags = read_bytes(memory, record_place(word), 2);
+            let flags = read_bytes(reader.memory, record_place(shader.word), 2);
             let threaded = is_threaded(&flags);
-            start_as(program, threaded, free, word, who, memory, accesses)
+            start_as(shader, threaded, free, reader, accesses)
         }
-        Program::Vertex => start_as(program, false, free, word, who, memory, accesses),
-        Program::Coordinate => start_as(program, false, free, word, who, memory, accesses),
+        Program::Vertex => start_as(shader, false, free, reader, accesses),
+        Program::Coordinate => start_as(shader, false, free, reader, accesses),
     }
 }

@@ -9,7 +9,9 @@ ghost use Rattle.machine.specs.State.{binner_job, renderer_job, picked_in, job_a
 ghost use Rattle.machine.specs.Step.{with_launch, is_ahead, binner_may, renderer_may, binner_turn, renderer_turn};
 
 use crate::machine::Machine;
-use machine_plan::{Accesses, Choices, Launch};
+use field_words::Actor;
+use list_machine::Turn;
+use machine_plan::{Accesses, Choices, Launch, Who};
 use qpu_machine::{Qpu, free_in, start_in};
 
 /// The program that a list unit starts, if it does, begins for this job.
@@ -86,13 +88,15 @@ impl Machine {
             accesses.new.items self.new }
     {
         let free = free_in(self.qpus.as_slice());
-        let started = self.jobs[job].step_binner(
-            job as u8,
-            &free,
+        let turn = Turn {
+            who: Who {
+                unit: Actor::Binner,
+                job: job as u8,
+            },
+            free,
             words,
-            &mut self.memory,
-            accesses,
-        );
+        };
+        let started = self.jobs[job].step_binner(&turn, &mut self.memory, accesses);
         begin(job as u8, started.unwrap_or(None), &mut self.qpus);
     }
 
@@ -121,13 +125,15 @@ impl Machine {
             accesses.new.items self.new }
     {
         let free = free_in(self.qpus.as_slice());
-        let started = self.jobs[job].step_renderer(
-            job as u8,
-            &free,
+        let turn = Turn {
+            who: Who {
+                unit: Actor::Renderer,
+                job: job as u8,
+            },
+            free,
             words,
-            &mut self.memory,
-            accesses,
-        );
+        };
+        let started = self.jobs[job].step_renderer(&turn, &mut self.memory, accesses);
         begin(job as u8, started.unwrap_or(None), &mut self.qpus);
     }
 }

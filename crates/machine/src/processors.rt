@@ -8,7 +8,7 @@ ghost use Rattle.machine.specs.Step.{qpu_may, tmu_may, qpu_job, tmu_job, qpu_tur
 
 use crate::machine::Machine;
 use field_words::Actor;
-use machine_plan::{Accesses, Choices, Who};
+use machine_plan::{Accesses, Choices, Reader, Who};
 use qpu_machine::{is_qpu_idle, is_qpu_ready, is_tmu_ready, qpu_job, step_qpu, step_tmu, tmu_job};
 
 impl Machine {
@@ -73,13 +73,11 @@ impl Machine {
             unit: Actor::Qpu(k),
             job: qpu_job(&self.qpus[k as usize]),
         };
-        step_qpu(
-            &mut self.qpus[k as usize],
-            words,
+        let reader = Reader {
             who,
-            &self.memory,
-            accesses,
-        );
+            memory: &self.memory,
+        };
+        step_qpu(&mut self.qpus[k as usize], words, &reader, accesses);
     }
 
     /// The turn of TMU `n` of processor `k`, which may step.
@@ -100,13 +98,10 @@ impl Machine {
             unit: Actor::Tmu(k, n),
             job: tmu_job(&self.qpus[k as usize], n),
         };
-        step_tmu(
-            &mut self.qpus[k as usize],
-            n,
-            words,
+        let reader = Reader {
             who,
-            &self.memory,
-            accesses,
-        );
+            memory: &self.memory,
+        };
+        step_tmu(&mut self.qpus[k as usize], n, words, &reader, accesses);
     }
 }

@@ -15,4 +15,4 @@ pub use accesses::Accesses;
 pub use bytes::{byte_at, list_access, put_byte, read_bytes};
 pub use choice::Choices;
 pub use launch::{Free, Launch, Slot};
-pub use who::Who;
+pub use who::{Reader, Who};

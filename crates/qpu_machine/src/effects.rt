@@ -14,6 +14,13 @@ use qpu_isa::word::{
 };
 use qpu_isa::writes::{add_names, writes_s, writes_tmu};
 
+/// What the two units compute: the add unit's sum and the multiply unit's product.
+#[derive(Drop)]
+pub(crate) struct Values {
+    pub sum: Row,
+    pub product: Row,
+}
+
 /// A fresh thread takes r0 to r5 from the choice words.
 #[tactic(auto, unfolding(crate::specs::Writes::awake))]
 pub(crate) fn wake<C: Choices>(words: &C, thread: &mut Thread)
@@ -53,22 +60,23 @@ fn write_acc<C: Choices>(address: u8, mask: u32, value: &Row, words: &C, acc: &m
     }
 }
 
-// A unit's write on the A side or the B side.
-#[tactic(auto, unfolding(crate::specs::Writes::written_at, crate::specs::Writes::pointer_after))]
-fn write_at<C: Choices>(
+// A register that a unit writes: its side, A or B, and its address.
+#[derive(Clone, Copy, Debug, PartialEq, Eq)]
+struct Register {
     on_a: bool,
     address: u8,
-    mask: u32,
-    value: &Row,
-    words: &C,
-    thread: &mut Thread,
-)
-    ensures { thread.new ≡ written_at on_a address mask value.now (C.listed words.now) thread.old }
+}
+
+// A unit's write on the A side or the B side.
+#[tactic(auto, unfolding(crate::specs::Writes::written_at, crate::specs::Writes::pointer_after))]
+fn write_at<C: Choices>(to: Register, mask: u32, value: &Row, words: &C, thread: &mut Thread)
+    ensures { thread.new ≡ written_at to.on_a to.address mask value.now (C.listed words.now)
+        thread.old }
 {
-    write_file(on_a, address, mask, value, &mut thread.a);
-    write_file(!on_a, address, mask, value, &mut thread.b);
-    write_acc(address, mask, value, words, &mut thread.acc);
-    if address == 40 && has_lane(mask, 0) {
+    write_file(to.on_a, to.address, mask, value, &mut thread.a);
+    write_file(!to.on_a, to.address, mask, value, &mut thread.b);
+    write_acc(to.address, mask, value, words, &mut thread.acc);
+    if to.address == 40 && has_lane(mask, 0) {
         thread.uniforms = value[0];
     }
 }
@@ -79,8 +87,11 @@ fn add<C: Choices>(word: u64, value: &Row, words: &C, thread: &mut Thread)
     ensures { thread.new ≡ after_add word value.now (C.listed words.now) thread.old }
 {
     let mask = mask_of(cond_add(word), words, 0);
-    let address = if is_branch(word) { 39 } else { waddr_add(word) };
-    write_at(!ws(word), address, mask, value, words, thread);
+    let to = Register {
+        on_a: !ws(word),
+        address: if is_branch(word) { 39 } else { waddr_add(word) },
+    };
+    write_at(to, mask, value, words, thread);
 }
 
 // The multiply unit writes.
@@ -89,8 +100,11 @@ fn multiply<C: Choices>(word: u64, value: &Row, words: &C, thread: &mut Thread)
     ensures { thread.new ≡ after_multiply word value.now (C.listed words.now) thread.old }
 {
     let mask = mask_of(cond_mul(word), words, 16);
-    let address = if is_branch(word) { 39 } else { waddr_mul(word) };
-    write_at(ws(word), address, mask, value, words, thread);
+    let to = Register {
+        on_a: ws(word),
+        address: if is_branch(word) { 39 } else { waddr_mul(word) },
+    };
+    write_at(to, mask, value, words, thread);
 }
 
 // The setup words that a TMU keeps.
@@ -203,8 +217,7 @@ fn go_on<C: Choices>(word: u64, words: &C, thread: &mut Thread)
 pub(crate) fn work<C: Choices>(
     word: u64,
     uniform: u32,
-    sum: &Row,
-    product: &Row,
+    values: &Values,
     words: &C,
     thread: &mut Thread,
 )
@@ -212,11 +225,11 @@ pub(crate) fn work<C: Choices>(
     requires room0 { writes_tmu word 0 ≡ true → array_vec_len thread.old.setups0 < 4 }
     requires room1 { writes_tmu word 1 ≡ true → array_vec_len thread.old.setups1 < 4 }
     ensures near { thread.new.place ≤ thread.old.place + 2 ^ 33 }
-    ensures value { thread.new ≡ after_work word uniform sum.now product.now (C.listed words.now)
-        thread.old }
+    ensures value { thread.new ≡ after_work word uniform values.now.sum values.now.product
+        (C.listed words.now) thread.old }
 {
-    add(word, sum, words, thread);
-    multiply(word, product, words, thread);
+    add(word, &values.sum, words, thread);
+    multiply(word, &values.product, words, thread);
     keep(word, 0, uniform, &mut thread.setups0);
     keep(word, 1, uniform, &mut thread.setups1);
     load(word, words, thread);
@@ -250,16 +263,10 @@ fn setup_word(setups: &ArrayVec<u32, 4>, uniform: u32, i: usize) -> u32
 
 // What a send asks this TMU for.
 #[tactic(auto, unfolding(crate::specs::Writes::ask_of, crate::specs::Writes::four, qpu_isa::specs::Terms::s_address))]
-fn ask_of(
-    word: u64,
-    tmu: u8,
-    uniform: u32,
-    sum: &Row,
-    product: &Row,
-    setups: &ArrayVec<u32, 4>,
-) -> Ask
+fn ask_of(word: u64, tmu: u8, uniform: u32, values: &Values, setups: &ArrayVec<u32, 4>) -> Ask
     requires { tmu < 2 }
-    ensures { result ≡ ask_of word tmu uniform sum.now product.now setups.now.items }
+    ensures { result
+        ≡ ask_of word tmu uniform values.now.sum values.now.product setups.now.items }
 {
     if !setups.is_empty() {
         return Ask::Texture([
@@ -270,28 +277,22 @@ fn ask_of(
         ]);
     }
     if add_names(word, 56 + 4 * tmu) {
-        return Ask::Direct(*sum);
+        return Ask::Direct(values.sum);
     }
-    Ask::Direct(*product)
+    Ask::Direct(values.product)
 }
 
 /// The request that the instruction makes.
 #[tactic(auto, unfolding(crate::specs::Writes::ask_made))]
-pub(crate) fn asked(
-    word: u64,
-    uniform: u32,
-    sum: &Row,
-    product: &Row,
-    thread: &Thread,
-) -> Option<Asked>
-    ensures { result ≡ ask_made word uniform sum.now product.now thread.now }
+pub(crate) fn asked(word: u64, uniform: u32, values: &Values, thread: &Thread) -> Option<Asked>
+    ensures { result ≡ ask_made word uniform values.now.sum values.now.product thread.now }
 {
     if writes_s(word, 0) {
-        let ask = ask_of(word, 0, uniform, sum, product, &thread.setups0);
+        let ask = ask_of(word, 0, uniform, values, &thread.setups0);
         return Some(Asked { tmu: 0, ask });
     }
     if writes_s(word, 1) {
-        let ask = ask_of(word, 1, uniform, sum, product, &thread.setups1);
+        let ask = ask_of(word, 1, uniform, values, &thread.setups1);
         return Some(Asked { tmu: 1, ask });
     }
     None

@@ -9,19 +9,20 @@ ghost use Rattle.qpu_machine.specs.State.{Read};
 
 use byteorder::{ByteOrder, LittleEndian};
 use field_words::Way;
-use machine_plan::{Accesses, Who, list_access, read_bytes};
+use machine_plan::{Accesses, Reader, list_access, read_bytes};
 use phys_mem::PhysMem;
 
 /// Reads the word at this place.
 #[tactic(auto, unfolding(field_words::specs::Words::u32_at))]
-pub(crate) fn read_word(place: u32, who: Who, memory: &PhysMem, accesses: &mut Accesses) -> u32
+pub(crate) fn read_word(place: u32, reader: &Reader, accesses: &mut Accesses) -> u32
     requires { array_vec_len accesses.old < 270 }
-    ensures value { result ≡ u32_at (bytes_at memory.now place 4) 0 }
-    ensures items { accesses.new.items ≡ accesses.old.items ++ access who Read place 4 ∷ [] }
+    ensures value { result ≡ u32_at (bytes_at reader.now.memory.now place 4) 0 }
+    ensures items { accesses.new.items ≡ accesses.old.items ++ access reader.now.who Read place 4 ∷
+        [] }
     ensures len { array_vec_len accesses.new ≡ array_vec_len accesses.old + 1 }
 {
-    list_access(who, Way::Read, u64::from(place), 4, accesses);
-    LittleEndian::read_u32(&read_bytes(memory, u64::from(place), 4))
+    list_access(reader.who, Way::Read, u64::from(place), 4, accesses);
+    LittleEndian::read_u32(&read_bytes(reader.memory, u64::from(place), 4))
 }
 
 /// The word of the instruction at this place.

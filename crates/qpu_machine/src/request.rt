@@ -11,19 +11,18 @@ ghost use Rattle.qpu_machine.specs.Request.{direct_plan, chosen_level, chosen_pl
 use crate::reads::read_word;
 use crate::state::{Ask, Row};
 use field_words::Way;
-use machine_plan::{Accesses, Choices, Who, list_access};
-use phys_mem::PhysMem;
+use machine_plan::{Accesses, Choices, Reader, list_access};
 use texture_layouts::{Texture, has_child_image, has_two_strides, lacks_stride};
 
 // The words at these addresses, without their low two bits.
-fn read_words(row: &Row, who: Who, memory: &PhysMem, accesses: &mut Accesses) -> Row
+fn read_words(row: &Row, reader: &Reader, accesses: &mut Accesses) -> Row
     requires { array_vec_len accesses.old ≤ 100 }
-    ensures { CarriesOver who (direct_plan row.now []) memory.now accesses.old accesses.new
-        (Some result) }
+    ensures { CarriesOver reader.now.who (direct_plan row.now []) reader.now.memory.now accesses.old
+        accesses.new (Some result) }
 {
     let mut found = [0; 16];
     for e in 0..16 {
-        found[e] = read_word(row[e] - row[e] % 4, who, memory, accesses);
+        found[e] = read_word(row[e] - row[e] % 4, reader, accesses);
     }
     found
 }
@@ -57,23 +56,23 @@ fn chosen_place<C: Choices>(texture: &Texture, level: u32, words: &C, m: u64) ->
 fn list_texels<C: Choices>(
     texture: &Texture,
     words: &C,
-    who: Who,
-    memory: &PhysMem,
+    reader: &Reader,
     accesses: &mut Accesses,
 ) -> bool
     requires room { array_vec_len accesses.old ≤ 100 }
     requires listed { is_unlisted texture.now ≡ false }
-    ensures { CarriesOver who (texture_reads texture.now (C.listed words.now) 0 128) memory.now
-        accesses.old accesses.new (if_tame result None) }
+    ensures { CarriesOver reader.now.who (texture_reads texture.now (C.listed words.now) 0 128)
+        reader.now.memory.now accesses.old accesses.new (if_tame result None) }
 {
     for m in 0..128 {
         let level = chosen_level(texture, words, m);
         match chosen_place(texture, level, words, m) {
             Some(place) => {
-                list_access(who, Way::Read, place, texture.fetch_size(level), accesses);
+                let size = texture.fetch_size(level);
+                list_access(reader.who, Way::Read, place, size, accesses);
             }
             None => {
-                list_access(who, Way::Wild, 0, 0, accesses);
+                list_access(reader.who, Way::Wild, 0, 0, accesses);
                 return false;
             }
         }
@@ -98,40 +97,38 @@ fn is_undefined(four: &[u32; 4], texture: &Texture) -> bool
 fn serve_texture<C: Choices>(
     four: &[u32; 4],
     words: &C,
-    who: Who,
-    memory: &PhysMem,
+    reader: &Reader,
     accesses: &mut Accesses,
 ) -> bool
     requires { array_vec_len accesses.old ≤ 100 }
-    ensures { CarriesOver who (ask_plan (Ask.Texture four.now) (C.listed words.now)) memory.now
-        accesses.old accesses.new (if_tame result None) }
+    ensures { CarriesOver reader.now.who (ask_plan (Ask.Texture four.now) (C.listed words.now))
+        reader.now.memory.now accesses.old accesses.new (if_tame result None) }
 {
     let texture = Texture::of(four);
     if is_undefined(four, &texture) {
-        list_access(who, Way::Wild, 0, 0, accesses);
+        list_access(reader.who, Way::Wild, 0, 0, accesses);
         return false;
     }
-    list_texels(&texture, words, who, memory, accesses)
+    list_texels(&texture, words, reader, accesses)
 }
 
-/// Serves a request, with the accesses of `who`. What the hardware leaves open is answered by the words; a missing word is
+/// Serves a request, with the accesses of `reader`. What the hardware leaves open is answered by the words; a missing word is
 /// zero. It comes to the words of a direct request, and for a texture to `Some(None)`, a result whose words are free. `None`
 /// comes exactly where the request is undefined; then a Wild access is listed behind the reads before it.
 pub fn serve<C: Choices>(
     ask: &Ask,
     words: &C,
-    who: Who,
-    memory: &PhysMem,
+    reader: &Reader,
     accesses: &mut Accesses,
 ) -> Option<Option<Row>>
     requires { array_vec_len accesses.old ≤ 100 }
-    ensures { CarriesOver who (ask_plan ask.now (C.listed words.now)) memory.now accesses.old
-        accesses.new result }
+    ensures { CarriesOver reader.now.who (ask_plan ask.now (C.listed words.now))
+        reader.now.memory.now accesses.old accesses.new result }
 {
     match ask {
-        Ask::Direct(row) => Some(Some(read_words(row, who, memory, accesses))),
+        Ask::Direct(row) => Some(Some(read_words(row, reader, accesses))),
         Ask::Texture(four) => {
-            if serve_texture(four, words, who, memory, accesses) {
+            if serve_texture(four, words, reader, accesses) {
                 Some(None)
             } else {
                 None

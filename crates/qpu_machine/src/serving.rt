@@ -8,8 +8,7 @@ ghost use Rattle.qpu_machine.specs.Bounds.{IsBounded, finished0, finished1};
 use crate::request::serve;
 use crate::state::{Qpu, Request, Row, Thread};
 use arrayvec::ArrayVec;
-use machine_plan::{Accesses, Choices, Who};
-use phys_mem::PhysMem;
+use machine_plan::{Accesses, Choices, Reader};
 
 /// Whether TMU `tmu` of the processor has a request, and so may step.
 pub fn is_tmu_ready(qpu: &Qpu, tmu: u8) -> bool
@@ -87,7 +86,7 @@ fn give(tmu: u8, second: bool, row: Option<Row>, qpu: &mut Qpu)
     }
 }
 
-/// One step of TMU `tmu`, which has a request: it serves the oldest one, with the accesses of `who`, listed behind those
+/// One step of TMU `tmu`, which has a request: it serves the oldest one, with the accesses of `reader`, listed behind those
 /// already listed. What the hardware leaves open is answered by the words; a missing word is zero.
 ///
 /// False comes exactly where the request is undefined: then a Wild access is listed behind the reads before it, and the request is
@@ -96,20 +95,19 @@ pub fn step_tmu<C: Choices>(
     qpu: &mut Qpu,
     tmu: u8,
     words: &C,
-    who: Who,
-    memory: &PhysMem,
+    reader: &Reader,
     accesses: &mut Accesses,
 ) -> bool
     requires ready { IsTrue (is_some (oldest (queue_of qpu.old tmu))) }
     requires bounded { IsBounded qpu.old }
     requires room { array_vec_len accesses.old ≤ 100 }
     ensures bounded { IsBounded qpu.new }
-    ensures shows { CarriesOver who (tmu_plan qpu.old tmu (C.listed words.now)) memory.now
-        accesses.old accesses.new (if_tame result qpu.new) }
+    ensures shows { CarriesOver reader.now.who (tmu_plan qpu.old tmu (C.listed words.now))
+        reader.now.memory.now accesses.old accesses.new (if_tame result qpu.new) }
     ensures wild { result ≡ false → qpu.new ≡ after_drop qpu.old tmu }
 {
     let request = drop_oldest(tmu, qpu);
-    match serve(&request.ask, words, who, memory, accesses) {
+    match serve(&request.ask, words, reader, accesses) {
         Some(row) => {
             give(tmu, request.second, row, qpu);
             true

@@ -9,25 +9,23 @@ ghost use Rattle.qpu_machine.specs.Bounds.{IsNear, IsBounded, SlotSteps};
 use crate::state::{Asked, Fate, Leaves, Qpu, Request, Thread};
 use crate::step::step_thread;
 use arrayvec::ArrayVec;
-use machine_plan::{Accesses, Choices, Who};
-use phys_mem::PhysMem;
+use machine_plan::{Accesses, Choices, Reader};
 
 // One instruction of the thread in this slot. `None` comes where it is undefined, or where no thread is there.
 fn step_slot<C: Choices>(
     slot: &mut Option<Thread>,
     words: &C,
-    who: Who,
-    memory: &PhysMem,
+    reader: &Reader,
     accesses: &mut Accesses,
 ) -> Option<Leaves>
     requires near { IsNear slot.old }
     requires room { array_vec_len accesses.old ≤ 260 }
-    ensures { IfSome slot.old (SlotSteps who (C.listed words.now) memory.now accesses.old
-        accesses.new slot.new result) }
+    ensures { IfSome slot.old (SlotSteps reader.now.who (C.listed words.now) reader.now.memory.now
+        accesses.old accesses.new slot.new result) }
 {
     match slot {
         None => None,
-        Some(thread) => step_thread(thread, words, who, memory, accesses),
+        Some(thread) => step_thread(thread, words, reader, accesses),
     }
 }
 
@@ -123,21 +121,19 @@ fn settle(job: u8, left: &Option<Leaves>, qpu: &mut Qpu)
 fn step_active<C: Choices>(
     qpu: &mut Qpu,
     words: &C,
-    who: Who,
-    memory: &PhysMem,
+    reader: &Reader,
     accesses: &mut Accesses,
 ) -> Option<Leaves>
     requires near { IsNear (active_of qpu.old) }
     requires room { array_vec_len accesses.old ≤ 260 }
     ensures kept { qpu.new ≡ with_active qpu.old (active_of qpu.new) }
-    ensures steps { IfSome (active_of qpu.old)
-        (SlotSteps who (C.listed words.now) memory.now accesses.old accesses.new
-        (active_of qpu.new) result) }
+    ensures steps { IfSome (active_of qpu.old) (SlotSteps reader.now.who (C.listed words.now)
+        reader.now.memory.now accesses.old accesses.new (active_of qpu.new) result) }
 {
     if qpu.second {
-        return step_slot(&mut qpu.other, words, who, memory, accesses);
+        return step_slot(&mut qpu.other, words, reader, accesses);
     }
-    step_slot(&mut qpu.first, words, who, memory, accesses)
+    step_slot(&mut qpu.first, words, reader, accesses)
 }
 
 /// The job of the active thread; 0 where none runs.
@@ -151,7 +147,7 @@ pub fn qpu_job(qpu: &Qpu) -> u8
     }
 }
 
-/// One step of a processor that may step, with the accesses of `who`, listed behind those already listed. What the hardware
+/// One step of a processor that may step, with the accesses of `reader`, listed behind those already listed. What the hardware
 /// leaves open is answered by the words; a missing word is zero.
 ///
 /// False comes exactly where its instruction is undefined: then a Wild access is listed behind the instruction's read, and the
@@ -159,20 +155,19 @@ pub fn qpu_job(qpu: &Qpu) -> u8
 pub fn step_qpu<C: Choices>(
     qpu: &mut Qpu,
     words: &C,
-    who: Who,
-    memory: &PhysMem,
+    reader: &Reader,
     accesses: &mut Accesses,
 ) -> bool
-    requires ready { IsTrue (glance_result (qpu_ready qpu.old) memory.now) }
+    requires ready { IsTrue (glance_result (qpu_ready qpu.old) reader.now.memory.now) }
     requires bounded { IsBounded qpu.old }
     requires room { array_vec_len accesses.old ≤ 260 }
     ensures bounded { IsBounded qpu.new }
-    ensures shows { CarriesOver who (qpu_plan qpu.old (C.listed words.now)) memory.now accesses.old
-        accesses.new (if_tame result qpu.new) }
+    ensures shows { CarriesOver reader.now.who (qpu_plan qpu.old (C.listed words.now))
+        reader.now.memory.now accesses.old accesses.new (if_tame result qpu.new) }
     ensures wild { result ≡ false → qpu.new ≡ qpu_stopped qpu.old }
 {
     let job = qpu_job(qpu);
-    let left = step_active(qpu, words, who, memory, accesses);
+    let left = step_active(qpu, words, reader, accesses);
     settle(job, &left, qpu);
     left.is_some()
 }

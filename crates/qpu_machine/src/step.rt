@@ -12,13 +12,13 @@ ghost use Rattle.qpu_machine.specs.Wild.{is_wild, takes_one};
 ghost use Rattle.qpu_machine.specs.Writes.{past_uniform};
 ghost use Rattle.qpu_machine.specs.Step.{turn_executed, word_plan, thread_plan, is_held_by, is_held, thread_ready, turn_taken};
 
-use crate::effects::{asked, fate_of, loads, wake, work};
+use crate::effects::{Values, asked, fate_of, loads, wake, work};
 use crate::operands::{add_row, mul_row};
 use crate::reads::{instruction_at, read_word};
 use crate::state::{Fate, Leaves, Thread};
 use crate::wild::{is_wild, takes_one};
 use field_words::Way;
-use machine_plan::{Accesses, Choices, Who, list_access};
+use machine_plan::{Accesses, Choices, Reader, list_access};
 use phys_mem::PhysMem;
 use qpu_isa::writes::writes_s;
 
@@ -32,37 +32,33 @@ fn execute<C: Choices>(word: u64, uniform: u32, words: &C, thread: &mut Thread) 
         ≡ record { thread = thread.new; leaves = result } }
     ensures near { thread.new.place ≤ thread.old.place + 2 ^ 33 }
 {
-    let sum = add_row(thread, word, uniform, words);
-    let product = mul_row(thread, word, uniform, words);
+    let values = Values {
+        sum: add_row(thread, word, uniform, words),
+        product: mul_row(thread, word, uniform, words),
+    };
     let fate = fate_of(thread);
-    let asked = asked(word, uniform, &sum, &product, thread);
-    work(word, uniform, &sum, &product, words, thread);
+    let asked = asked(word, uniform, &values, thread);
+    work(word, uniform, &values, words, thread);
     thread.fresh = fate == Fate::Switches || thread.fresh;
     Leaves { asked, fate }
 }
 
 // The uniform for this instruction, which is taken where it takes one; else 0.
 #[tactic(auto, unfolding(crate::specs::Writes::past_uniform))]
-fn uniform_for(
-    thread: &mut Thread,
-    word: u64,
-    who: Who,
-    memory: &PhysMem,
-    accesses: &mut Accesses,
-) -> u32
+fn uniform_for(thread: &mut Thread, word: u64, reader: &Reader, accesses: &mut Accesses) -> u32
     requires { array_vec_len accesses.old < 270 }
     ensures thread { thread.new ≡ (if takes_one thread.old word then past_uniform thread.old else
         thread.old) }
     ensures value { result ≡ (if takes_one thread.old word then u32_at
-        (bytes_at memory.now thread.old.uniforms 4) 0 else 0) }
+        (bytes_at reader.now.memory.now thread.old.uniforms 4) 0 else 0) }
     ensures items { accesses.new.items
         ≡ (if takes_one thread.old word then accesses.old.items
-        ++ access who Read thread.old.uniforms 4 ∷ [] else accesses.old.items) }
+        ++ access reader.now.who Read thread.old.uniforms 4 ∷ [] else accesses.old.items) }
 {
     if !takes_one(thread, word) {
         return 0;
     }
-    let uniform = read_word(thread.uniforms, who, memory, accesses);
+    let uniform = read_word(thread.uniforms, reader, accesses);
     thread.uniforms = thread.uniforms.wrapping_add(4);
     uniform
 }
@@ -73,49 +69,47 @@ fn obey<C: Choices>(
     thread: &mut Thread,
     word: u64,
     words: &C,
-    who: Who,
-    memory: &PhysMem,
+    reader: &Reader,
     accesses: &mut Accesses,
 ) -> Option<Leaves>
     requires place { thread.old.place < 2 ^ 62 }
     requires room { array_vec_len accesses.old < 270 }
     ensures near { IfSome result (λ leaves. (is_wild thread.old word ≡ false)
         × (thread.new.place ≤ thread.old.place + 2 ^ 33)) }
-    ensures shows { CarriesOver who (word_plan thread.old word (C.listed words.now)) memory.now
-        accesses.old accesses.new (turn_taken thread.new result) }
+    ensures shows { CarriesOver reader.now.who (word_plan thread.old word (C.listed words.now))
+        reader.now.memory.now accesses.old accesses.new (turn_taken thread.new result) }
     ensures same { result ≡ None → thread.new ≡ thread.old }
 {
     if is_wild(thread, word) {
-        list_access(who, Way::Wild, 0, 0, accesses);
+        list_access(reader.who, Way::Wild, 0, 0, accesses);
         return None;
     }
-    let uniform = uniform_for(thread, word, who, memory, accesses);
+    let uniform = uniform_for(thread, word, reader, accesses);
     wake(words, thread);
     Some(execute(word, uniform, words, thread))
 }
 
-/// One instruction of a thread, whose accesses are those of `who`. What the hardware leaves open is answered by the words; a
+/// One instruction of a thread, whose accesses are those of `reader`. What the hardware leaves open is answered by the words; a
 /// missing word is zero. It lists its accesses behind those already listed: the read of the instruction, and of the uniform
 /// where it takes one. `None` comes exactly where the instruction is undefined; then a Wild access is listed too, and the thread is
 /// as it was.
 pub fn step_thread<C: Choices>(
     thread: &mut Thread,
     words: &C,
-    who: Who,
-    memory: &PhysMem,
+    reader: &Reader,
     accesses: &mut Accesses,
 ) -> Option<Leaves>
     requires place { thread.old.place < 2 ^ 62 }
     requires room { array_vec_len accesses.old ≤ 260 }
     ensures near { IfSome result (λ leaves. thread.new.place ≤ 2 ^ 34) }
-    ensures shows { CarriesOver who (thread_plan thread.old (C.listed words.now)) memory.now
-        accesses.old accesses.new (turn_taken thread.new result) }
+    ensures shows { CarriesOver reader.now.who (thread_plan thread.old (C.listed words.now))
+        reader.now.memory.now accesses.old accesses.new (turn_taken thread.new result) }
     ensures same { result ≡ None → thread.new ≡ thread.old }
 {
-    let _size = memory.len();
-    let word = instruction_at(thread.place, memory);
-    list_access(who, Way::Read, thread.place, 8, accesses);
-    obey(thread, word, words, who, memory, accesses)
+    let _size = reader.memory.len();
+    let word = instruction_at(thread.place, reader.memory);
+    list_access(reader.who, Way::Read, thread.place, 8, accesses);
+    obey(thread, word, words, reader, accesses)
 }
 
 // Whether an instruction waits for this TMU.

@@ -57,31 +57,7 @@ fn picked<S: Script>(script: &S, favoured: Option<UnitKind>, step: u64, units: &
     }
 }
 
-// One step of the unit that the script picks, of these that may step.
-fn take_step<S: Script>(
-    script: &S,
-    favoured: Option<UnitKind>,
-    step: u64,
-    units: &[u8],
-    accesses: &mut Accesses,
-    machine: &mut Machine,
-) -> TraceLine
-    requires may { S.may script.now }
-    requires goes { is_finished machine.old ≡ false }
-    requires some { 1 ≤ length units.now }
-    requires few { length units.now ≤ 38 }
-    requires units { units.now ≡ enabled_units machine.old }
-    ensures { StepsBy (S.picks script.now) (S.gives script.now) favoured step machine.old
-        machine.new accesses.new.items result }
-{
-    let unit = picked(script, favoured, step, units);
-    let words = script.words(step, word_count(unit));
-    let job = machine.job_of(unit);
-    machine.step_by(unit, &words, accesses);
-    line_of(unit, job, accesses.as_slice())
-}
-
-// One step of the machine with its accesses, or why it steps no further.
+// One step of the unit that the script picks among those that may step, or why the machine steps no further.
 fn go_on<S: Script>(
     script: &S,
     favoured: Option<UnitKind>,
@@ -95,10 +71,12 @@ fn go_on<S: Script>(
     ensures over { IfErr result (IsOver machine.old) }
     ensures same { IsErr result → machine.new ≡ machine.old }
 {
-    match look(machine) {
-        Err(ending) => Err(ending),
-        Ok(units) => Ok(take_step(script, favoured, step, units.as_slice(), accesses, machine)),
-    }
+    let units = look(machine)?;
+    let unit = picked(script, favoured, step, units.as_slice());
+    let words = script.words(step, word_count(unit));
+    let job = machine.job_of(unit);
+    machine.step_by(unit, &words, accesses);
+    Ok(line_of(unit, job, accesses.as_slice()))
 }
 
 // The steps that the script gives, at most so many: how many there were, and why they ended.

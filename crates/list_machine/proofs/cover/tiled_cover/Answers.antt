@@ -7,7 +7,7 @@ use Rattle.list_machine.proofs.cover.tiled_cover.Goals as goal
 pub returns-clause-small : goal.returns-clause-small
 returns-clause-small c = record {
   wide = omega arith;
-  pixel = short_pixel c.args.cpp c.requires;
+  pixel = short_pixel c.args.style.now.cpp c.requires;
   left = begins c.args.x c.side-side.result c.microtile_width-width.result (omega arith) c.side-side.ensures.limit;
   top = begins c.args.y c.side-side.result c.microtile_height-height.result (omega arith) c.side-side.ensures.limit;
   across = omega (arith, c.units_of.ensures.limit);

@@ -5,6 +5,6 @@ use Rattle.list_machine.proofs.fetch.fetch_attributes.Given as goal
 
 abbrev pub invariant-loop-t : goal.invariant-loop-t
 invariant-loop-t l = record {
-  left : AttributesLeft l.who l.word l.index l.memory l.initial.accesses.items l.accesses.items l.t;
+  left : AttributesLeft l.reader.who l.vertex.word l.vertex.index l.reader.memory.now l.initial.accesses.items l.accesses.items l.t;
   long : array_vec_len l.accesses ≤ array_vec_len l.initial.accesses + 3 * l.t;
 }

@@ -11,7 +11,7 @@ loop-i-preserved g c =
     record {
       left = λ r.
           rw (c.list_access.ensures.items, c.store_chosen.ensures, c.part_place-place.ensures.value, c.bytes_before.ensures.value)
-          (writes_more c.args.who c.args.cover.now (g.C.Choices.listed c.args.words.now) r c.args.memory.now c.loop-i.memory c.args.accesses.now.items c.loop-i.accesses.items n
+          (writes_more c.args.turn.now.who c.args.cover.now (g.C.Choices.listed c.args.turn.now.words.now) r c.args.memory.now c.loop-i.memory c.args.accesses.now.items c.loop-i.accesses.items n
           i (n - i) (i + 1) (n - (i + 1)) (omega arith) (omega arith) (c.loop-i.invariant.left r));
       long = omega (arith, c.list_access.ensures.len, c.loop-i.invariant.long);
     }
@@ -19,4 +19,4 @@ loop-i-preserved g c =
 pub returns : goal.returns
 returns g c =
     let n = part_count c.args.cover.now in
-    λ r. writes_end c.args.who c.args.cover.now (g.C.Choices.listed c.args.words.now) r c.args.memory.now c.loop-i.memory c.args.accesses.now.items c.loop-i.accesses.items n c.loop-i.i (n - c.loop-i.i) (omega arith) (c.loop-i.invariant.left r)
+    λ r. writes_end c.args.turn.now.who c.args.cover.now (g.C.Choices.listed c.args.turn.now.words.now) r c.args.memory.now c.loop-i.memory c.args.accesses.now.items c.loop-i.accesses.items n c.loop-i.i (n - c.loop-i.i) (omega arith) (c.loop-i.invariant.left r)

@@ -22,7 +22,7 @@ returns-in-Some-clause-bounded g c =
 
 pub returns-in-Some-clause-shows : goal.returns-in-Some-clause-shows
 returns-in-Some-clause-shows g c =
-    tmu_shows c.args.who c.args.qpu.now c.args.tmu (g.C.Choices.listed c.args.words.now) c.args.memory.now c.args.accesses.now.items _ c.drop_oldest-request.result c.serve.result (Some c.give.new.qpu) c.drop_oldest-request.ensures.value c.serve.ensures
+    tmu_shows c.args.reader.now.who c.args.qpu.now c.args.tmu (g.C.Choices.listed c.args.words.now) c.args.reader.now.memory.now c.args.accesses.now.items _ c.drop_oldest-request.result c.serve.result (Some c.give.new.qpu) c.drop_oldest-request.ensures.value c.serve.ensures
     (ap (option_map (after_service c.args.qpu.now c.args.tmu c.drop_oldest-request.result)) c.in-Some.is
     ∙ ap Some (sym (c.give.ensures ∙ ap (λ q. result_given q c.args.tmu c.drop_oldest-request.result.second c.in-Some.row) c.drop_oldest-request.ensures.qpu)))
 
@@ -31,5 +31,5 @@ returns-in-None-clause-bounded g c = subst IsBounded (sym c.drop_oldest-request.
 
 pub returns-in-None-clause-shows : goal.returns-in-None-clause-shows
 returns-in-None-clause-shows g c =
-    tmu_shows c.args.who c.args.qpu.now c.args.tmu (g.C.Choices.listed c.args.words.now) c.args.memory.now c.args.accesses.now.items _ c.drop_oldest-request.result c.serve.result None c.drop_oldest-request.ensures.value c.serve.ensures
+    tmu_shows c.args.reader.now.who c.args.qpu.now c.args.tmu (g.C.Choices.listed c.args.words.now) c.args.reader.now.memory.now c.args.accesses.now.items _ c.drop_oldest-request.result c.serve.result None c.drop_oldest-request.ensures.value c.serve.ensures
     (ap (option_map (after_service c.args.qpu.now c.args.tmu c.drop_oldest-request.result)) c.in-None.is)
