@@ -47,21 +47,15 @@ fn put_half_word(out: &mut [u8], at: usize, opcode: u8, bits: u16, address: u32)
     put(out, at, &[opcode, b0, b1, a0, a1, a2, a3])
 }
 
-/// The image to draw: its address, its width and height in pixels, and the bits of its format.
-fn put_rendering_mode(
-    out: &mut [u8],
-    at: usize,
-    address: u32,
-    width: u16,
-    height: u16,
-    bits: u16,
-) -> usize
+/// The image to draw: its address, and its width and height in pixels and the bits of its format.
+fn put_rendering_mode(out: &mut [u8], at: usize, address: u32, shape: (u16, u16, u16)) -> usize
     requires room { at + 11 ≤ length out.old }
     ensures text { out.new ≡ with_bytes out.old at
-        (tile_rendering_mode ∷ (word address ++ (half width ++ (half height ++ half bits)))) }
+        (tile_rendering_mode ∷ (word address ++ (half shape.0 ++ (half shape.1 ++ half shape.2)))) }
     ensures end { result ≡ at + 11 }
 {
     let [a0, a1, a2, a3] = address.to_le_bytes();
+    let (width, height, bits) = shape;
     let [w0, w1] = width.to_le_bytes();
     let [h0, h1] = height.to_le_bytes();
     let [b0, b1] = bits.to_le_bytes();
@@ -73,19 +67,13 @@ fn put_rendering_mode(
 }
 
 /// What the tile buffer is cleared to: two colours, the depth and the stencil.
-fn put_clear_colors(
-    out: &mut [u8],
-    at: usize,
-    first: u32,
-    second: u32,
-    z: u32,
-    stencil: u8,
-) -> usize
+fn put_clear_colors(out: &mut [u8], at: usize, colors: (u32, u32), z: u32, stencil: u8) -> usize
     requires room { at + 14 ≤ length out.old }
     ensures text { out.new ≡ with_bytes out.old at
-        (clear_colors ∷ (word first ++ (word second ++ (word z ++ (stencil ∷ []))))) }
+        (clear_colors ∷ (word colors.0 ++ (word colors.1 ++ (word z ++ (stencil ∷ []))))) }
     ensures end { result ≡ at + 14 }
 {
+    let (first, second) = colors;
     let [f0, f1, f2, f3] = first.to_le_bytes();
     let [s0, s1, s2, s3] = second.to_le_bytes();
     let [z0, z1, z2, z3] = z.to_le_bytes();
@@ -139,13 +127,13 @@ pub fn put_packet(out: &mut [u8], at: usize, packet: Packet) -> usize
             width,
             height,
             bits,
-        } => put_rendering_mode(out, at, address, width, height, bits),
+        } => put_rendering_mode(out, at, address, (width, height, bits)),
         Packet::ClearColors {
             first,
             second,
             z,
             stencil,
-        } => put_clear_colors(out, at, first, second, z, stencil),
+        } => put_clear_colors(out, at, (first, second), z, stencil),
         Packet::TileCoordinates { x, y } => put(out, at, &[TILE_COORDINATES, x, y]),
     }
 }

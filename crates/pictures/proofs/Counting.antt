@@ -1,11 +1,11 @@
 -- Which boxes an access touches; and one access more.
-use Rattle.std.proofs.Common.{◌≡◌, ◌<◌, ◌≤◌, ◌⊎◌, inl, inr, ℕ, suc, ◌+◌, ◌*◌, ◌-◌, ◌/◌, ◌%◌, Bool, true, false, List, length, take, slice_index_or, refl, sym, ◌∙◌, ap, arith, if◌then◌else◌}
+use Rattle.std.proofs.Common.{◌≡◌, ◌<◌, ◌≤◌, ◌⊎◌, inl, inr, ℕ, suc, ◌+◌, ◌*◌, ◌-◌, ◌/◌, ◌%◌, Bool, true, false, List, length, take, slice_index_or, refl, sym, subst, ◌∙◌, ap, arith, if◌then◌else◌}
 use Rattle.std.proofs.{lemmas.List.FromFn.fill_by_all, Math.Nat.suc-mul, Math.Nat.mod-add-div', Math.Nat.add-mul-div_right}
 use Rattle.std.proofs.{lemmas.Nat.div_below, lemmas.Nat.le-div, lemmas.List.take_all}
 use Rattle.std.proofs.lemmas.Bool.{lt-ltb, le-ltb, le-leb, lt-leb, cases_lt}
 use Rattle.std.proofs.lemmas.List.Sums.{count_by_more_yes, count_by_more_no, count_by-le-length}
 use Rattle.std.specs.{Prelude.◌&&◌, Prelude.nat_le, Prelude.nat_lt, List.count_by, List.range_with_len, Prelude.map, Prelude.min}
-use Rattle.pictures.specs.Grid.{overlaps}
+use Rattle.pictures.specs.{Counts.IsOneMoreWhere, Grid.overlaps}
 
 first_by : (place size n : ℕ) → 1 ≤ size → (place < suc n * size) ⊎ (suc n * size ≤ place) → nat_lt place (suc n * size) ≡ nat_le (place / size) n
 first_by place size n some (inl below) =
@@ -76,6 +76,14 @@ more_by p xs i d old new false same is inside old_is new_is = new_is ∙ (old_is
 pub count_more : {X : Type 0} (p : X → Bool) (xs : List X) (i : ℕ) (d : X) (old new : ℕ) → i < length xs → old ≡ count_by p (take i xs)
     → new ≡ (if p (slice_index_or xs i d) then old + 1 else old) → new ≡ count_by p (take (i + 1) xs)
 count_more p xs i d old new inside old_is new_is = more_by p xs i d old new (p (slice_index_or xs i d)) refl refl inside old_is new_is
+
+-- where each count is one more for the access of this number that it is hit by
+pub one_counted : {X : Type 0} (hit : ℕ → X → Bool) (xs : List X) (i : ℕ) (d : X) (slice old new : List ℕ) (n : ℕ) → i < length xs → slice ≡ old → length old ≡ n
+    → ((k : ℕ) → k < n → slice_index_or old k 0 ≡ count_by (hit k) (take i xs)) → IsOneMoreWhere (λ k. hit k (slice_index_or xs i d)) slice new
+    → (k : ℕ) → k < n → slice_index_or new k 0 ≡ count_by (hit k) (take (i + 1) xs)
+one_counted hit xs i d slice old new n inside same long each one k below =
+    let on : IsOneMoreWhere (λ j. hit j (slice_index_or xs i d)) old new = subst (λ l. IsOneMoreWhere (λ j. hit j (slice_index_or xs i d)) l new) same one in
+    count_more (hit k) xs i d (slice_index_or old k 0) (slice_index_or new k 0) inside (each k below) (on k (subst (λ m. k < m) (sym long) below))
 
 -- all of them
 pub all_counted : {X : Type 0} (p : ℕ → X → Bool) (xs : List X) (counts : List ℕ) (n i : ℕ) → length counts ≡ n → length xs ≤ i

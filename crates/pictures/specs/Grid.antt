@@ -3,6 +3,7 @@ use Rattle.std.specs.Prelude.{ℕ, ◌+◌, ◌-◌, ◌*◌, ◌/◌, ◌%◌, 
 use Rattle.field_words.specs.Sizes.{page_size, slot_size}
 use Rattle.buffer_table.specs.{declared.buffer.Buffer.Buffer, declared.buffer.Kind.Kind, declared.buffer.Regions.Regions}
 use Rattle.buffer_table.specs.declared.buffer.Kind.TheVariants.{Plain, Code as CodeKind}
+use Rattle.job_format.specs.Model.{FileModel}
 use Rattle.pictures.specs.declared.grid.Shade.TheVariants.{Free, Slots, Lists, Several, Data, Code}
 use Rattle.pictures.specs.declared.grid.Shade.{Shade}
 
@@ -38,21 +39,21 @@ tag_of (Code tone) = 8 + tone
 unfoldable pub both : Shade → Shade → Shade
 both first second = if tag_of first == 0 then second else (if tag_of first == tag_of second then first else Several)
 
--- a thing put into a box from `from` to `to`, where it lies in it
-abbrev pub put_in : (from to begin size : ℕ) → Shade → Shade → Shade
-put_in from to begin size shade here = if overlaps begin size from to then both here shade else here
+-- a box with one thing more, if that lies in it
+abbrev pub put_in : (is_inside : Bool) → Shade → Shade → Shade
+put_in is_inside shade here = if is_inside then both here shade else here
 
 unfoldable pub with_buffer : (from to : ℕ) → Shade → Buffer → Shade
-with_buffer from to here buffer = put_in from to buffer.place buffer.size (shade_of buffer) here
+with_buffer from to here buffer = put_in (overlaps buffer.place buffer.size from to) (shade_of buffer) here
 
 unfoldable pub with_regions : (from to : ℕ) → Regions → Shade
 with_regions from to regions =
-    put_in from to regions.lists_place regions.lists_size Lists
-    (put_in from to regions.tile_place (slot_size * regions.tile_slots) Slots Free)
+    put_in (overlaps regions.lists_place regions.lists_size from to) Lists
+    (put_in (overlaps regions.tile_place (slot_size * regions.tile_slots) from to) Slots Free)
 
 -- what a box shows: the regions and buffers that have bytes from `from` to `to`
-abbrev pub shade_in : Regions → List Buffer → (from to : ℕ) → Shade
-shade_in regions buffers from to = fold (with_buffer from to) (with_regions from to regions) buffers
+abbrev pub shade_in : FileModel → (from to : ℕ) → Shade
+shade_in file from to = fold (with_buffer from to) (with_regions from to file.regions) file.buffers
 
 abbrev pub data_class : ℕ → List ℕ
 data_class tone =

@@ -1,6 +1,6 @@
 -- The heat: a strip of boxes for reads and one for writes, which shows how many accesses touch each box; over the memory's strip, paled.
 use Rattle.std.specs.Prelude.{ℕ, ◌+◌, ◌-◌, ◌*◌, ◌/◌, ◌%◌, ◌^◌, ◌==◌, min, List, [], ◌∷◌, ◌++◌, length, slice_index_or, codes, if◌then◌else◌, decimal}
-use Rattle.pictures.specs.{Forest.Forest, Forest.Nothing, Forest.Leaf, Forest.Beside, Forest.word_attribute, Forest.number_attribute, Parts.rect, Parts.label, Parts.each}
+use Rattle.pictures.specs.{Forest.Forest, Forest.Nothing, Forest.Leaf, Forest.Beside, Forest.word_attribute, Forest.number_attribute, Parts.block, Parts.label, Parts.each}
 
 -- the row of the drawing at which the two strips begin
 abbrev pub heat_top : ℕ
@@ -13,7 +13,7 @@ tone_of count = min (length (decimal count)) 7
 -- the box of this number, which so many accesses touch
 unfoldable pub heat_part : (class : List ℕ) → (x n count : ℕ) → Forest
 heat_part class x n count =
-    if count == 0 then Nothing else rect (x + 18 * (n % 16)) (heat_top + 12 * (n / 16)) 18 12 (class ++ decimal (tone_of count))
+    if count == 0 then Nothing else block (x + 18 * (n % 16)) (heat_top + 12 * (n / 16)) (class ++ decimal (tone_of count))
 
 abbrev pub heat_at : (class : List ℕ) → (x : ℕ) → (counts : List ℕ) → ℕ → Forest
 heat_at class x counts n = heat_part class x n (slice_index_or counts n 0)
@@ -31,8 +31,8 @@ heat_strip class title x counts =
 -- what the tones mean: each begins at ten times the number of the one before
 unfoldable pub tone_part : ℕ → Forest
 tone_part n =
-    Beside (rect 724 (heat_top + 20 * n) 18 12 (codes "read" ++ decimal (n + 1)))
-    (Beside (rect 742 (heat_top + 20 * n) 18 12 (codes "write" ++ decimal (n + 1))) (label 840 (heat_top + 11 + 20 * n) (codes "end") (decimal (10 ^ n))))
+    Beside (block 724 (heat_top + 20 * n) (codes "read" ++ decimal (n + 1)))
+    (Beside (block 742 (heat_top + 20 * n) (codes "write" ++ decimal (n + 1))) (label 840 (heat_top + 11 + 20 * n) (codes "end") (decimal (10 ^ n))))
 
 unfoldable pub tone_parts : Forest
 tone_parts = each tone_part 7

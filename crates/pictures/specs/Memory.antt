@@ -1,19 +1,19 @@
 -- The picture of a memory: its strip of boxes, sixteen in a row; where rows begin; what boxes show; and the first of its buffers.
 use Rattle.std.specs.Prelude.{ℕ, ◌+◌, ◌-◌, ◌*◌, ◌/◌, ◌%◌, min, nat_lt, List, [], ◌∷◌, ◌++◌, length, codes, if◌then◌else◌, decimal}
-use Rattle.buffer_table.specs.{declared.buffer.Buffer.Buffer, declared.buffer.Kind.Kind, declared.buffer.Regions.Regions, Table.buffer_at}
+use Rattle.buffer_table.specs.{declared.buffer.Buffer.Buffer, declared.buffer.Kind.Kind, Table.buffer_at}
 use Rattle.buffer_table.specs.declared.buffer.Kind.TheVariants.{Plain, Code}
+use Rattle.job_format.specs.Model.{FileModel}
 use Rattle.pictures.specs.{Forest.Forest, Forest.Nothing, Forest.Element, Forest.Beside, Forest.word_attribute, Grid.box_size, Grid.box_count, Grid.shade_of, Grid.shade_in, Grid.class_of}
-use Rattle.pictures.specs.Parts.{rect, label, hex, each, drawing}
+use Rattle.pictures.specs.Parts.{block, label, hex, each, drawing}
 
 -- the box of this number
-unfoldable pub box_part : (memory : ℕ) → Regions → List Buffer → ℕ → Forest
-box_part memory regions buffers n =
-    rect (96 + 18 * (n % 16)) (72 + 12 * (n / 16)) 18 12
-    (class_of (shade_in regions buffers (n * box_size memory) (n * box_size memory + box_size memory)))
+unfoldable pub box_part : FileModel → ℕ → Forest
+box_part file n =
+    block (96 + 18 * (n % 16)) (72 + 12 * (n / 16))
+    (class_of (shade_in file (n * box_size file.mem_size) (n * box_size file.mem_size + box_size file.mem_size)))
 
-unfoldable pub strip : (memory : ℕ) → Regions → List Buffer → Forest
-strip memory regions buffers =
-    Element (codes "g") (word_attribute (codes "id") (codes "strip") ∷ []) (each (box_part memory regions buffers) (box_count memory))
+unfoldable pub strip : FileModel → Forest
+strip file = Element (codes "g") (word_attribute (codes "id") (codes "strip") ∷ []) (each (box_part file) (box_count file.mem_size))
 
 -- at every fourth row of a strip that begins at y, the place of its first byte
 unfoldable pub place_part : (y memory : ℕ) → ℕ → Forest
@@ -32,11 +32,11 @@ head memory size =
 
 -- what a class shows, in words
 unfoldable pub entry : (y : ℕ) → (class words : List ℕ) → Forest
-entry y class words = Beside (rect 424 y 18 12 class) (label 506 (y + 11) (codes "note") words)
+entry y class words = Beside (block 424 y class) (label 506 (y + 11) (codes "note") words)
 
 -- the further tones of a class
 unfoldable pub tones : (y : ℕ) → (first second third : List ℕ) → Forest
-tones y first second third = Beside (rect 442 y 18 12 first) (Beside (rect 460 y 18 12 second) (rect 478 y 18 12 third))
+tones y first second third = Beside (block 442 y first) (Beside (block 460 y second) (block 478 y third))
 
 unfoldable pub legend_data : Forest
 legend_data =
@@ -68,7 +68,7 @@ most_rows = 12
 -- a buffer's line in the table
 unfoldable pub buffer_line : (number y : ℕ) → Buffer → Forest
 buffer_line number y buffer =
-    Beside (rect 424 (y - 11) 18 12 (class_of (shade_of buffer)))
+    Beside (block 424 (y - 11) (class_of (shade_of buffer)))
     (Beside (label 490 y (codes "end") (decimal number))
     (Beside (label 600 y (codes "end") (decimal buffer.client))
     (Beside (label 630 y (codes "note") (kind_words buffer.kind))
@@ -92,9 +92,10 @@ unfoldable pub table : List Buffer → Forest
 table buffers = Beside table_head (Beside (each (row_part buffers) (min (length buffers) most_rows)) (rest (length buffers)))
 
 -- all of it
-unfoldable pub memory_parts : (memory : ℕ) → Regions → List Buffer → Forest
-memory_parts memory regions buffers =
-    Beside (head memory (box_size memory)) (Beside (strip memory regions buffers) (Beside (places 72 memory) (Beside legend (table buffers))))
+unfoldable pub memory_parts : FileModel → Forest
+memory_parts file =
+    Beside (head file.mem_size (box_size file.mem_size))
+    (Beside (strip file) (Beside (places 72 file.mem_size) (Beside legend (table file.buffers))))
 
-unfoldable pub memory_picture : (memory : ℕ) → Regions → List Buffer → Forest
-memory_picture memory regions buffers = drawing 490 (codes "Memory of the jobs") (memory_parts memory regions buffers)
+unfoldable pub memory_picture : FileModel → Forest
+memory_picture file = drawing 490 (codes "Memory of the jobs") (memory_parts file)

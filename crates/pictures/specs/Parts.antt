@@ -4,10 +4,16 @@ use Rattle.std.specs.Fmt.{decimal, digits}
 use Rattle.pictures.specs.Forest.{Forest, Attribute, Nothing, Words, Leaf, Element, Beside, word_attribute, number_attribute, attribute_text, forest_text}
 use Rattle.pictures.specs.declared.parts.TheConstants.{STYLE, NAMESPACE}
 
-abbrev pub rect : (x y width height : ℕ) → (class : List ℕ) → Forest
-rect x y width height class = Leaf (codes "rect")
-    (number_attribute (codes "x") x ∷ number_attribute (codes "y") y ∷ number_attribute (codes "width") width ∷ number_attribute (codes "height") height
+-- a box of 18 columns and 12 rows
+abbrev pub block : (x y : ℕ) → (class : List ℕ) → Forest
+block x y class = Leaf (codes "rect")
+    (number_attribute (codes "x") x ∷ number_attribute (codes "y") y ∷ number_attribute (codes "width") 18 ∷ number_attribute (codes "height") 12
     ∷ word_attribute (codes "class") class ∷ [])
+
+abbrev pub paper : (height : ℕ) → Forest
+paper height = Leaf (codes "rect")
+    (number_attribute (codes "x") 0 ∷ number_attribute (codes "y") 0 ∷ number_attribute (codes "width") 960 ∷ number_attribute (codes "height") height
+    ∷ word_attribute (codes "class") (codes "paper") ∷ [])
 
 abbrev pub label : (x y : ℕ) → (class words : List ℕ) → Forest
 label x y class words = Element (codes "text") (number_attribute (codes "x") x ∷ number_attribute (codes "y") y ∷ word_attribute (codes "class") class ∷ []) (Words words)
@@ -33,10 +39,10 @@ root_attributes height =
 abbrev pub drawing : (height : ℕ) → (title : List ℕ) → Forest → Forest
 drawing height title inside =
     Element (codes "svg") (root_attributes height)
-    (Beside (word_element (codes "title") title) (Beside (word_element (codes "style") STYLE.now) (Beside (rect 0 0 960 height (codes "paper")) inside)))
+    (Beside (word_element (codes "title") title) (Beside (word_element (codes "style") STYLE.now) (Beside (paper height) inside)))
 
 -- what stands before what is in a drawing
 abbrev pub opening : (height : ℕ) → (title : List ℕ) → List ℕ
 opening height title =
     codes "<" ++ (codes "svg" ++ (flat_map attribute_text (root_attributes height) ++ (codes ">" ++ (forest_text (word_element (codes "title") title)
-    ++ (forest_text (word_element (codes "style") STYLE.now) ++ forest_text (rect 0 0 960 height (codes "paper")))))))
+    ++ (forest_text (word_element (codes "style") STYLE.now) ++ forest_text (paper height))))))

@@ -1,7 +1,7 @@
 -- The picture of a run: that of the memory; how far the run went; who touched what; and how often each box was touched.
 use Rattle.std.specs.Prelude.{ℕ, ◌+◌, ◌*◌, ◌/◌, max, List, length, codes, decimal}
-use Rattle.buffer_table.specs.{declared.buffer.Buffer.Buffer, declared.buffer.Regions.Regions}
 use Rattle.field_words.specs.declared.access.Way.TheVariants.{Read, Write}
+use Rattle.job_format.specs.Model.{FileModel}
 use Rattle.relocation.specs.declared.layout.Layout.{Layout}
 use Rattle.replay.specs.declared.logged.Log.{Log}
 use Rattle.dumper.specs.Trace.{ending_name}
@@ -21,9 +21,8 @@ run_head log =
     (Beside (run_numbers log) (label 456 538 (codes "note") (ending_name log.ending)))
 
 -- the table over the whole run
-unfoldable pub run_table : Regions → List Buffer → List Layout → Log → Forest
-run_table regions buffers layouts log =
-    unit_table (cell_counts regions buffers layouts Read log.accesses.items) (cell_counts regions buffers layouts Write log.accesses.items)
+unfoldable pub run_table : FileModel → List Layout → Log → Forest
+run_table file layouts log = unit_table (cell_counts file layouts Read log.accesses.items) (cell_counts file layouts Write log.accesses.items)
 
 -- and the heat over the whole run
 unfoldable pub run_heat : (memory : ℕ) → Log → Forest
@@ -36,12 +35,11 @@ run_heat memory log =
 unfoldable pub run_height : (memory : ℕ) → ℕ
 run_height memory = heat_top + 20 + max (12 * ((box_count memory + 15) / 16)) 140
 
-unfoldable pub run_parts : (memory : ℕ) → Regions → List Buffer → List Layout → Log → Forest
-run_parts memory regions buffers layouts log =
-    Beside (memory_parts memory regions buffers)
-    (Beside (run_head log) (Beside (run_table regions buffers layouts log) (run_heat memory log)))
+unfoldable pub run_parts : FileModel → List Layout → Log → Forest
+run_parts file layouts log =
+    Beside (memory_parts file) (Beside (run_head log) (Beside (run_table file layouts log) (run_heat file.mem_size log)))
 
 -- all of it
-unfoldable pub run_picture : (memory : ℕ) → Regions → List Buffer → List Layout → Log → Forest
-run_picture memory regions buffers layouts log =
-    drawing (run_height memory) (codes "Accesses of a run in the memory of the jobs") (run_parts memory regions buffers layouts log)
+unfoldable pub run_picture : FileModel → List Layout → Log → Forest
+run_picture file layouts log =
+    drawing (run_height file.mem_size) (codes "Accesses of a run in the memory of the jobs") (run_parts file layouts log)

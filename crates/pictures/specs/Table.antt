@@ -1,11 +1,16 @@
 -- The table of a run: how many reads and writes each kind of unit makes to each kind of region.
-use Rattle.std.specs.Prelude.{ℕ, ◌+◌, ◌*◌, ◌==◌, List, ◌++◌, slice_index_or, codes, if◌then◌else◌, decimal}
-use Rattle.pictures.specs.{Forest.Forest, Forest.Beside, Parts.rect, Parts.label, Parts.each}
+use Rattle.std.specs.Prelude.{◌≡◌, ℕ, ◌+◌, ◌*◌, ◌==◌, List, ◌++◌, length, slice_index_or, codes, if◌then◌else◌, decimal}
+use Rattle.pictures.specs.declared.table.Counts.{Counts}
+use Rattle.pictures.specs.{Forest.Forest, Forest.Beside, Parts.block, Parts.label, Parts.each}
+
+-- there are so many cells
+abbrev pub HasCells : Counts → Type 0
+HasCells counts = (length counts.reads.items ≡ 20) × (length counts.writes.items ≡ 20)
 
 -- a kind of region, above its columns
 unfoldable pub column_head : (column : ℕ) → (class name : List ℕ) → Forest
 column_head column class name =
-    Beside (rect (256 + 180 * column) 563 18 12 class) (Beside (label (280 + 180 * column) 574 (codes "note") name)
+    Beside (block (256 + 180 * column) 563 class) (Beside (label (280 + 180 * column) 574 (codes "note") name)
     (Beside (label (320 + 180 * column) 592 (codes "end") (codes "reads")) (label (400 + 180 * column) 592 (codes "end") (codes "writes"))))
 
 unfoldable pub column_heads : Forest

@@ -1,11 +1,13 @@
 //! How many accesses boxes take, and how many units make.
-ghost use Rattle.std.specs.Prelude.{◌≡◌, ◌≤◌, ◌<◌, ◌^◌, ◌+◌, ◌*◌, ◌&&◌, ℕ, nat_le, nat_lt, length, slice_index_or, if◌then◌else◌, IfOk};
+ghost use Rattle.std.specs.Prelude.{◌≡◌, ◌≤◌, ◌<◌, ◌^◌, ◌+◌, ◌*◌, ◌&&◌, nat_le, nat_lt, length, IfOk};
 ghost use Rattle.buffer_table.specs.Table.{buffer_at};
+ghost use Rattle.job_format.specs.Parts.{parts_view};
 ghost use Rattle.pictures.specs.Grid.{overlaps};
-ghost use Rattle.pictures.specs.Counts.{is_way, touches, box_counts, row_of, kind_column, column_of, cell_of, is_of_cell, cell_counts};
+ghost use Rattle.pictures.specs.Counts.{IsOneMoreWhere, HasRoom, is_way, touches, box_counts, row_of, kind_column, column_of, cell_of, is_in_cell, cell_counts};
 
-use buffer_table::{Buffer, Kind, Regions};
+use buffer_table::{Buffer, Kind};
 use field_words::{Access, Actor, Way};
+use job_format::FileParts;
 use relocation::Layout;
 use replay::Logged;
 use run_text::{Spot, spot_of};
@@ -17,10 +19,9 @@ const CELLS: usize = 20;
 // One more for each of these numbers.
 #[tactic(auto, using(crate::proofs::Counting::below_end))]
 fn add_each(counts: &mut [u64], first: u64, end: u64)
-    requires { (k : ℕ) → slice_index_or counts.old k 0 < 2 ^ 63 }
+    requires { HasRoom counts.old }
     ensures long { length counts.new ≡ length counts.old }
-    ensures each { (k : ℕ) → k < length counts.old →
-        slice_index_or counts.new k 0 ≡ (if nat_le first k && nat_lt k end then slice_index_or counts.old k 0 + 1 else slice_index_or counts.old k 0) }
+    ensures each { IsOneMoreWhere (λ k. nat_le first k && nat_lt k end) counts.old counts.new }
 {
     let past = end.min(counts.len() as u64);
     let from = first.min(past);
@@ -33,10 +34,10 @@ fn add_each(counts: &mut [u64], first: u64, end: u64)
 fn warm(counts: &mut [u64], size: u64, place: u64, len: u32)
     requires some { 4096 ≤ size }
     requires few { size < 2 ^ 32 }
-    requires room { (k : ℕ) → slice_index_or counts.old k 0 < 2 ^ 63 }
+    requires room { HasRoom counts.old }
     ensures long { length counts.new ≡ length counts.old }
-    ensures each { (k : ℕ) → k < length counts.old → slice_index_or counts.new k 0
-        ≡ (if overlaps place len (k * size) (k * size + size) then slice_index_or counts.old k 0 + 1 else slice_index_or counts.old k 0) }
+    ensures each { IsOneMoreWhere (λ k. overlaps place len (k * size) (k * size + size))
+        counts.old counts.new }
 {
     let first = place / size;
     let end = first + (place % size + u64::from(len) + (size - 1)) / size;
@@ -58,10 +59,9 @@ fn is_way(way: Way, other: Way) -> bool
 fn count_boxes(counts: &mut [u64], way: Way, size: u64, access: &Access)
     requires some { 4096 ≤ size }
     requires few { size < 2 ^ 32 }
-    requires room { (k : ℕ) → slice_index_or counts.old k 0 < 2 ^ 63 }
+    requires room { HasRoom counts.old }
     ensures long { length counts.new ≡ length counts.old }
-    ensures each { (k : ℕ) → k < length counts.old →
-        slice_index_or counts.new k 0 ≡ (if touches way size k access.now then slice_index_or counts.old k 0 + 1 else slice_index_or counts.old k 0) }
+    ensures each { IsOneMoreWhere (λ k. touches way size k access.now) counts.old counts.new }
 {
     if is_way(way, access.way) {
         warm(counts, size, access.place, access.len);
@@ -135,31 +135,24 @@ fn column_of(buffers: &[Buffer], spot: Spot) -> u64
 }
 
 #[tactic(auto, unfolding(crate::specs::Counts::cell_of))]
-fn cell_of(regions: &Regions, buffers: &[Buffer], layouts: &[Layout], access: &Access) -> u64
-    ensures value { result ≡ cell_of regions.now buffers.now layouts.now access.now }
+fn cell_of(file: &FileParts, layouts: &[Layout], access: &Access) -> u64
+    ensures value { result ≡ cell_of (parts_view file.now) layouts.now access.now }
     ensures few { result < 20 }
 {
-    let spot = spot_of(regions, buffers, layouts, access.place);
-    5 * row_of(access.unit) + column_of(buffers, spot)
+    let spot = spot_of(file, layouts, access.place);
+    5 * row_of(access.unit) + column_of(&file.buffers, spot)
 }
 
 // One more for the access's cell, if it is of this way.
-#[tactic(auto, unfolding(crate::specs::Counts::is_of_cell))]
-fn count_cell(
-    counts: &mut [u64],
-    regions: &Regions,
-    buffers: &[Buffer],
-    layouts: &[Layout],
-    way: Way,
-    access: &Access,
-)
-    requires room { (k : ℕ) → slice_index_or counts.old k 0 < 2 ^ 63 }
+#[tactic(auto, unfolding(crate::specs::Counts::is_of_cell, crate::specs::Counts::is_in_cell))]
+fn count_cell(counts: &mut [u64], file: &FileParts, layouts: &[Layout], way: Way, access: &Access)
+    requires room { HasRoom counts.old }
     ensures long { length counts.new ≡ length counts.old }
-    ensures each { (k : ℕ) → k < length counts.old → slice_index_or counts.new k 0
-        ≡ (if is_of_cell regions.now buffers.now layouts.now way k access.now then slice_index_or counts.old k 0 + 1 else slice_index_or counts.old k 0) }
+    ensures each { IsOneMoreWhere (λ k. is_in_cell file.now layouts.now way k access.now)
+        counts.old counts.new }
 {
     if is_way(way, access.way) {
-        let cell = cell_of(regions, buffers, layouts, access);
+        let cell = cell_of(file, layouts, access);
         add_each(counts, cell, cell + 1);
     }
 }
@@ -167,19 +160,18 @@ fn count_cell(
 /// How many accesses of this way are of each cell.
 pub(crate) fn cell_counts(
     alloc: Global,
-    regions: &Regions,
-    buffers: &[Buffer],
+    file: &FileParts,
     layouts: &[Layout],
     way: Way,
     accesses: &[Logged],
 ) -> Result<Vec<u64>, AllocError>
     ensures long { IfOk result (λ counts. length counts.items ≡ 20) }
     ensures value { IfOk result (λ counts. counts.items
-        ≡ cell_counts regions.now buffers.now layouts.now way accesses.now) }
+        ≡ cell_counts (parts_view file.now) layouts.now way accesses.now) }
 {
     let mut counts = vec![in alloc; 0u64; CELLS]?;
     for logged in accesses {
-        count_cell(&mut counts, regions, buffers, layouts, way, &logged.access);
+        count_cell(&mut counts, file, layouts, way, &logged.access);
     }
     Ok(counts)
 }

@@ -1,9 +1,11 @@
 //! The boxes of the strip, and what each shows.
 ghost use Rattle.std.specs.Prelude.{◌≡◌, ◌≤◌, ◌<◌, ◌^◌, ◌*◌, ◌/◌, ◌+◌, ◌-◌};
+ghost use Rattle.job_format.specs.Parts.{parts_view};
 ghost use Rattle.pictures.specs.Grid.{box_size, box_count, overlaps, shade_of, tag_of, both, put_in, with_buffer, with_regions, shade_in, data_class, code_class, class_of};
 
 use buffer_table::{Buffer, Kind, Regions};
 use field_words::{PAGE_SIZE, SLOT_SIZE};
+use job_format::FileParts;
 
 /// How many bytes 512 boxes of one page hold.
 const SMALL: u32 = 2_097_152;
@@ -132,30 +134,19 @@ fn both(first: Shade, second: Shade) -> Shade
     }
 }
 
-/// The box with this thing, where one of its bytes lies from `from` to before `to`.
-fn put_in(from: u64, to: u64, begin: u32, size: u64, shade: Shade, here: Shade) -> Shade
-    requires { size < 18446744069414584320 }
-    ensures { result ≡ put_in from to begin size shade here }
+/// The box with one thing more, if that lies in it.
+fn put_in(is_inside: bool, shade: Shade, here: Shade) -> Shade
+    ensures { result ≡ put_in is_inside shade here }
 {
-    if overlaps(begin, size, from, to) {
-        both(here, shade)
-    } else {
-        here
-    }
+    if is_inside { both(here, shade) } else { here }
 }
 
 #[tactic(auto, unfolding(crate::specs::Grid::with_buffer))]
 fn with_buffer(from: u64, to: u64, here: Shade, buffer: &Buffer) -> Shade
     ensures { result ≡ with_buffer from to here buffer.now }
 {
-    put_in(
-        from,
-        to,
-        buffer.place,
-        u64::from(buffer.size),
-        shade_of(buffer),
-        here,
-    )
+    let is_inside = overlaps(buffer.place, u64::from(buffer.size), from, to);
+    put_in(is_inside, shade_of(buffer), here)
 }
 
 #[tactic(auto, unfolding(crate::specs::Grid::with_regions))]
@@ -163,24 +154,22 @@ fn with_regions(from: u64, to: u64, regions: &Regions) -> Shade
     ensures { result ≡ with_regions from to regions.now }
 {
     let slots = u64::from(SLOT_SIZE) * u64::from(regions.tile_slots);
-    let here = put_in(
-        from,
-        to,
-        regions.tile_place,
-        slots,
-        Shade::Slots,
-        Shade::Free,
-    );
+    let has_slots = overlaps(regions.tile_place, slots, from, to);
     let lists = u64::from(regions.lists_size);
-    put_in(from, to, regions.lists_place, lists, Shade::Lists, here)
+    let has_lists = overlaps(regions.lists_place, lists, from, to);
+    put_in(
+        has_lists,
+        Shade::Lists,
+        put_in(has_slots, Shade::Slots, Shade::Free),
+    )
 }
 
 /// What the box from `from` to before `to` shows.
-pub(crate) fn shade_in(regions: &Regions, buffers: &[Buffer], from: u64, to: u64) -> Shade
-    ensures { result ≡ shade_in regions.now buffers.now from to }
+pub(crate) fn shade_in(file: &FileParts, from: u64, to: u64) -> Shade
+    ensures { result ≡ shade_in (parts_view file.now) from to }
 {
-    let mut here = with_regions(from, to, regions);
-    for buffer in buffers {
+    let mut here = with_regions(from, to, &file.regions);
+    for buffer in &file.buffers {
         here = with_buffer(from, to, here, buffer);
     }
     here

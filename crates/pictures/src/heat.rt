@@ -4,7 +4,7 @@ ghost use Rattle.pictures.specs.Forest.{forest_text};
 ghost use Rattle.pictures.specs.Parts.{each};
 ghost use Rattle.pictures.specs.Heat.{heat_part, heat_at, ground, heat_strip, tone_part, tone_parts, heat_legend, heat};
 
-use crate::parts::{decimal, push_label, push_rect};
+use crate::parts::{decimal, push_box, push_label};
 use crate::svg::{Drawn, begin, end_leaf, numbered, worded};
 use std::alloc::Global;
 
@@ -14,37 +14,45 @@ pub(crate) const TOP: u64 = 712;
 /// How many tones there are.
 const TONES: u64 = 7;
 
+/// A strip of the heat: its boxes' class without the tone, its title, and the column of the drawing
+/// at which it begins.
+#[derive(Clone, Copy)]
+struct Strip {
+    class: &'static str,
+    title: &'static str,
+    x: u64,
+}
+
 #[tactic(auto, unfolding(crate::specs::Heat::heat_part))]
-fn push_heat(alloc: Global, out: &mut Vec<u8>, class: &str, x: u64, n: u64, count: u64) -> Drawn
-    requires left { x < 2 ^ 32 }
+fn push_heat(alloc: Global, out: &mut Vec<u8>, strip: Strip, n: u64, count: u64) -> Drawn
+    requires left { strip.x < 2 ^ 32 }
     requires few { n < 2 ^ 32 }
     ensures { OnOk result (out.new.items ≡ out.old.items
-        ++ forest_text (heat_part class.now x n count)) }
+        ++ forest_text (heat_part strip.class.now strip.x n count)) }
 {
     if count == 0 {
         return Ok(());
     }
     let tone = (decimal(alloc, count)?.len() as u64).min(TONES);
-    let class = format!(in alloc; "{class}{tone}")?;
-    push_rect(
+    let name = strip.class;
+    let class = format!(in alloc; "{name}{tone}")?;
+    push_box(
         out,
-        x + 18 * (n % 16),
+        strip.x + 18 * (n % 16),
         TOP + 12 * (n / 16),
-        18,
-        12,
         class.as_str(),
     )
 }
 
 #[tactic(auto, using(crate::proofs::Each::each_more))]
-fn push_heats(alloc: Global, out: &mut Vec<u8>, class: &str, x: u64, counts: &[u64]) -> Drawn
-    requires left { x < 2 ^ 32 }
+fn push_heats(alloc: Global, out: &mut Vec<u8>, strip: Strip, counts: &[u64]) -> Drawn
+    requires left { strip.x < 2 ^ 32 }
     requires few { length counts.now < 2 ^ 32 }
     ensures { OnOk result (out.new.items ≡ out.old.items
-        ++ forest_text (each (heat_at class.now x counts.now) (length counts.now))) }
+        ++ forest_text (each (heat_at strip.class.now strip.x counts.now) (length counts.now))) }
 {
     for n in 0..counts.len() {
-        push_heat(alloc, out, class, x, n as u64, counts[n])?;
+        push_heat(alloc, out, strip, n as u64, counts[n])?;
     }
     Ok(())
 }
@@ -63,23 +71,16 @@ fn push_ground(out: &mut Vec<u8>, x: u64) -> Drawn
 }
 
 #[tactic(auto, unfolding(crate::specs::Heat::heat_strip))]
-fn push_strip(
-    alloc: Global,
-    out: &mut Vec<u8>,
-    class: &str,
-    title: &str,
-    x: u64,
-    counts: &[u64],
-) -> Drawn
-    requires right { 96 ≤ x }
-    requires left { x < 2 ^ 32 }
+fn push_strip(alloc: Global, out: &mut Vec<u8>, strip: Strip, counts: &[u64]) -> Drawn
+    requires right { 96 ≤ strip.x }
+    requires left { strip.x < 2 ^ 32 }
     requires few { length counts.now < 2 ^ 32 }
     ensures { OnOk result (out.new.items ≡ out.old.items
-        ++ forest_text (heat_strip class.now title.now x counts.now)) }
+        ++ forest_text (heat_strip strip.class.now strip.title.now strip.x counts.now)) }
 {
-    push_label(out, x, TOP - 12, "note", title.as_bytes())?;
-    push_ground(out, x)?;
-    push_heats(alloc, out, class, x, counts)
+    push_label(out, strip.x, TOP - 12, "note", strip.title.as_bytes())?;
+    push_ground(out, strip.x)?;
+    push_heats(alloc, out, strip, counts)
 }
 
 #[tactic(auto, unfolding(crate::specs::Heat::tone_part))]
@@ -91,8 +92,8 @@ fn push_tone(alloc: Global, out: &mut Vec<u8>, n: u64) -> Drawn
     let read = format!(in alloc; "read{tone}")?;
     let write = format!(in alloc; "write{tone}")?;
     let least = decimal(alloc, 10u64.pow(n as u32))?;
-    push_rect(out, 724, TOP + 20 * n, 18, 12, read.as_str())?;
-    push_rect(out, 742, TOP + 20 * n, 18, 12, write.as_str())?;
+    push_box(out, 724, TOP + 20 * n, read.as_str())?;
+    push_box(out, 742, TOP + 20 * n, write.as_str())?;
     push_label(out, 840, TOP + 11 + 20 * n, "end", &least)
 }
 
@@ -127,7 +128,17 @@ pub(crate) fn push_heat_strips(
     ensures { OnOk result (out.new.items ≡ out.old.items
         ++ forest_text (heat reads.now writes.now)) }
 {
-    push_strip(alloc, out, "read", "reads", 96, reads)?;
-    push_strip(alloc, out, "write", "writes", 408, writes)?;
+    let read = Strip {
+        class: "read",
+        title: "reads",
+        x: 96,
+    };
+    let write = Strip {
+        class: "write",
+        title: "writes",
+        x: 408,
+    };
+    push_strip(alloc, out, read, reads)?;
+    push_strip(alloc, out, write, writes)?;
     push_legend(alloc, out)
 }

@@ -1,14 +1,16 @@
 //! The picture of a memory.
 ghost use Rattle.std.specs.Prelude.{◌≡◌, ◌≤◌, ◌<◌, ◌^◌, ◌+◌, ◌++◌, length, codes, OnOk, IfOk};
+ghost use Rattle.job_format.specs.Parts.{parts_view};
 ghost use Rattle.pictures.specs.Forest.{forest_text};
 ghost use Rattle.pictures.specs.Parts.{each};
 ghost use Rattle.pictures.specs.Memory.{box_part, strip, place_part, places, head, entry, tones, legend_regions, legend_data, legend_code, legend_rest, legend, kind_words, buffer_line, row_part, table_head, rest, table, memory_parts, memory_picture};
 
 use crate::grid::{box_count, box_size, shade_in, shade_of};
-use crate::parts::{begin_drawing, decimal, end_drawing, hex, push_class, push_label, push_rect};
+use crate::parts::{begin_drawing, decimal, end_drawing, hex, push_box, push_label};
 use crate::svg::{Drawn, begin, close, end_tag, worded};
-use buffer_table::{Buffer, Kind, Regions};
+use buffer_table::{Buffer, Kind};
 use field_words::NoMemory;
+use job_format::FileParts;
 use std::alloc::Global;
 
 /// The most buffers that are listed.
@@ -18,44 +20,38 @@ const MOST_ROWS: usize = 12;
 const PICTURE: usize = 65_536;
 
 #[tactic(auto, unfolding(crate::specs::Memory::box_part))]
-fn push_box(out: &mut Vec<u8>, memory: u32, regions: &Regions, buffers: &[Buffer], n: u64) -> Drawn
+fn push_part(out: &mut Vec<u8>, file: &FileParts, n: u64) -> Drawn
     requires { n < 2 ^ 32 }
     ensures { OnOk result (out.new.items ≡ out.old.items
-        ++ forest_text (box_part memory regions.now buffers.now n)) }
+        ++ forest_text (box_part (parts_view file.now) n)) }
 {
-    let from = n * box_size(memory);
-    let shade = shade_in(regions, buffers, from, from + box_size(memory));
-    push_class(out, 96 + 18 * (n % 16), 72 + 12 * (n / 16), 18, 12, shade)
+    let size = box_size(file.mem_size);
+    let shade = shade_in(file, n * size, n * size + size);
+    push_box(out, 96 + 18 * (n % 16), 72 + 12 * (n / 16), shade.class())
 }
 
 #[tactic(auto, using(crate::proofs::Each::each_more))]
-fn push_boxes(
-    out: &mut Vec<u8>,
-    memory: u32,
-    regions: &Regions,
-    buffers: &[Buffer],
-    count: u64,
-) -> Drawn
+fn push_parts(out: &mut Vec<u8>, file: &FileParts, count: u64) -> Drawn
     requires { count < 2 ^ 32 }
     ensures { OnOk result (out.new.items ≡ out.old.items
-        ++ forest_text (each (box_part memory regions.now buffers.now) count)) }
+        ++ forest_text (each (box_part (parts_view file.now)) count)) }
 {
     for n in 0..count {
-        push_box(out, memory, regions, buffers, n)?;
+        push_part(out, file, n)?;
     }
     Ok(())
 }
 
 /// Appends the strip of boxes.
 #[tactic(auto, unfolding(crate::specs::Memory::strip))]
-fn push_strip(out: &mut Vec<u8>, memory: u32, regions: &Regions, buffers: &[Buffer]) -> Drawn
+fn push_strip(out: &mut Vec<u8>, file: &FileParts) -> Drawn
     ensures { OnOk result (out.new.items ≡ out.old.items
-        ++ forest_text (strip memory regions.now buffers.now)) }
+        ++ forest_text (strip (parts_view file.now))) }
 {
     begin(out, "g")?;
     worded(out, "id", "strip")?;
     end_tag(out)?;
-    push_boxes(out, memory, regions, buffers, box_count(memory))?;
+    push_parts(out, file, box_count(file.mem_size))?;
     close(out, "g")
 }
 
@@ -99,7 +95,7 @@ fn push_entry(out: &mut Vec<u8>, y: u64, class: &str, words: &str) -> Drawn
     ensures { OnOk result (out.new.items ≡ out.old.items
         ++ forest_text (entry y class.now words.now)) }
 {
-    push_rect(out, 424, y, 18, 12, class)?;
+    push_box(out, 424, y, class)?;
     push_label(out, 506, y + 11, "note", words.as_bytes())
 }
 
@@ -108,9 +104,9 @@ fn push_tones(out: &mut Vec<u8>, y: u64, first: &str, second: &str, third: &str)
     ensures { OnOk result (out.new.items ≡ out.old.items
         ++ forest_text (tones y first.now second.now third.now)) }
 {
-    push_rect(out, 442, y, 18, 12, first)?;
-    push_rect(out, 460, y, 18, 12, second)?;
-    push_rect(out, 478, y, 18, 12, third)
+    push_box(out, 442, y, first)?;
+    push_box(out, 460, y, second)?;
+    push_box(out, 478, y, third)
 }
 
 #[tactic(auto, unfolding(crate::specs::Memory::legend_regions))]
@@ -175,7 +171,7 @@ fn push_buffer(alloc: Global, out: &mut Vec<u8>, number: u64, y: u64, buffer: &B
     ensures { OnOk result (out.new.items ≡ out.old.items
         ++ forest_text (buffer_line number y buffer.now)) }
 {
-    push_class(out, 424, y - 11, 18, 12, shade_of(buffer))?;
+    push_box(out, 424, y - 11, shade_of(buffer).class())?;
     push_label(out, 490, y, "end", &decimal(alloc, number)?)?;
     push_label(
         out,
@@ -243,40 +239,31 @@ fn push_table(alloc: Global, out: &mut Vec<u8>, buffers: &[Buffer]) -> Drawn
     push_rest(alloc, out, buffers.len())
 }
 
-/// Appends the picture of a memory of so many bytes, with these regions and buffers, to a drawing: it takes 490 rows.
+/// Appends the picture of a file's memory to a drawing: it takes 490 rows.
 #[tactic(auto, unfolding(crate::specs::Memory::memory_parts))]
-pub fn push_memory(
-    alloc: Global,
-    out: &mut Vec<u8>,
-    memory: u32,
-    regions: &Regions,
-    buffers: &[Buffer],
-) -> Drawn
+pub fn push_memory(alloc: Global, out: &mut Vec<u8>, file: &FileParts) -> Drawn
     ensures { OnOk result (out.new.items ≡ out.old.items
-        ++ forest_text (memory_parts memory regions.now buffers.now)) }
+        ++ forest_text (memory_parts (parts_view file.now))) }
 {
+    let memory = file.mem_size;
     push_head(alloc, out, u64::from(memory), box_size(memory))?;
-    push_strip(out, memory, regions, buffers)?;
+    push_strip(out, file)?;
     push_places(alloc, out, 72, memory)?;
     push_legend(out)?;
-    push_table(alloc, out, buffers)
+    push_table(alloc, out, &file.buffers)
 }
 
-/// The picture of a memory of so many bytes, with these regions and buffers, as SVG: the text of one element, in which all numbers are the
-/// memory's. A box of its strip stands for so many pages that there are at most 512 boxes.
+/// The picture of a file's memory, with its regions and buffers, as SVG: the text of one element,
+/// in which all numbers are the memory's. A box of its strip stands for so many pages that there are
+/// at most 512 boxes.
 #[tactic(auto, unfolding(crate::specs::Memory::memory_picture))]
-pub fn memory_picture(
-    alloc: Global,
-    memory: u32,
-    regions: &Regions,
-    buffers: &[Buffer],
-) -> Result<Vec<u8>, NoMemory>
+pub fn memory_picture(alloc: Global, file: &FileParts) -> Result<Vec<u8>, NoMemory>
     ensures { IfOk result (λ text. text.items
-        ≡ forest_text (memory_picture memory regions.now buffers.now)) }
+        ≡ forest_text (memory_picture (parts_view file.now))) }
 {
     let mut out = Vec::with_capacity(alloc, PICTURE)?;
     begin_drawing(alloc, &mut out, 490, "Memory of the jobs")?;
-    push_memory(alloc, &mut out, memory, regions, buffers)?;
+    push_memory(alloc, &mut out, file)?;
     end_drawing(&mut out)?;
     Ok(out)
 }

@@ -2,10 +2,8 @@
 ghost use Rattle.std.specs.Prelude.{◌≡◌, ◌++◌, [], codes, flat_map, OnOk, IfOk};
 ghost use Rattle.std.specs.Fmt.{decimal};
 ghost use Rattle.pictures.specs.Forest.{forest_text, attribute_text};
-ghost use Rattle.pictures.specs.Parts.{rect, label, hex, word_element, root_attributes, opening};
-ghost use Rattle.pictures.specs.Grid.{class_of};
+ghost use Rattle.pictures.specs.Parts.{block, paper, label, hex, word_element, root_attributes, opening};
 
-use crate::grid::Shade;
 use crate::svg::{
     Drawn, begin, close, end_leaf, end_tag, numbered, push_number, push_words, worded,
 };
@@ -52,26 +50,30 @@ text{fill:#222}
 /// The name of the elements' namespace.
 const NAMESPACE: &str = "http://www.w3.org/2000/svg";
 
-/// Appends a box of this class.
-pub fn push_rect(out: &mut Vec<u8>, x: u64, y: u64, width: u64, height: u64, class: &str) -> Drawn
-    ensures { OnOk result (out.new.items ≡ out.old.items
-        ++ forest_text (rect x y width height class.now)) }
+/// Appends a box of this class: 18 columns and 12 rows.
+pub fn push_box(out: &mut Vec<u8>, x: u64, y: u64, class: &str) -> Drawn
+    ensures { OnOk result (out.new.items ≡ out.old.items ++ forest_text (block x y class.now)) }
 {
     begin(out, "rect")?;
     numbered(out, "x", x)?;
     numbered(out, "y", y)?;
-    numbered(out, "width", width)?;
-    numbered(out, "height", height)?;
+    numbered(out, "width", 18)?;
+    numbered(out, "height", 12)?;
     worded(out, "class", class)?;
     end_leaf(out)
 }
 
-/// Appends a box of this shade.
-pub fn push_class(out: &mut Vec<u8>, x: u64, y: u64, width: u64, height: u64, shade: Shade) -> Drawn
-    ensures { OnOk result (out.new.items ≡ out.old.items
-        ++ forest_text (rect x y width height (class_of shade))) }
+// The paper of a drawing of so many rows.
+fn push_paper(out: &mut Vec<u8>, height: u64) -> Drawn
+    ensures { OnOk result (out.new.items ≡ out.old.items ++ forest_text (paper height)) }
 {
-    push_rect(out, x, y, width, height, shade.class())
+    begin(out, "rect")?;
+    numbered(out, "x", 0)?;
+    numbered(out, "y", 0)?;
+    numbered(out, "width", 960)?;
+    numbered(out, "height", height)?;
+    worded(out, "class", "paper")?;
+    end_leaf(out)
 }
 
 /// Appends words at a place, in this class.
@@ -135,7 +137,7 @@ pub fn begin_drawing(alloc: Global, out: &mut Vec<u8>, height: u64, title: &str)
     end_tag(out)?;
     push_word_element(out, "title", title)?;
     push_word_element(out, "style", STYLE)?;
-    push_rect(out, 0, 0, 960, height, "paper")
+    push_paper(out, height)
 }
 
 /// Ends a drawing.

@@ -1,6 +1,7 @@
 //! The picture of a run.
 ghost use Rattle.std.specs.Prelude.{◌≡◌, ◌++◌, OnOk, IfOk};
 ghost use Rattle.dumper.specs.Trace.{ending_name};
+ghost use Rattle.job_format.specs.Parts.{parts_view};
 ghost use Rattle.pictures.specs.Forest.{forest_text};
 ghost use Rattle.pictures.specs.Run.{run_numbers, run_head, run_table, run_heat, run_height, run_parts, run_picture};
 
@@ -10,9 +11,9 @@ use crate::heat::{TOP, push_heat_strips};
 use crate::memory::{push_memory, push_places};
 use crate::parts::{begin_drawing, decimal, end_drawing, push_label};
 use crate::svg::Drawn;
-use crate::table::push_table;
-use buffer_table::{Buffer, Regions};
+use crate::table::{Counts, push_table};
 use field_words::{NoMemory, Way};
+use job_format::FileParts;
 use relocation::Layout;
 use replay::{Ending, Log};
 use std::alloc::Global;
@@ -60,18 +61,17 @@ fn push_head(alloc: Global, out: &mut Vec<u8>, log: &Log) -> Drawn
 fn push_run_table(
     alloc: Global,
     out: &mut Vec<u8>,
-    regions: &Regions,
-    buffers: &[Buffer],
+    file: &FileParts,
     layouts: &[Layout],
     log: &Log,
 ) -> Drawn
     ensures { OnOk result (out.new.items ≡ out.old.items
-        ++ forest_text (run_table regions.now buffers.now layouts.now log.now)) }
+        ++ forest_text (run_table (parts_view file.now) layouts.now log.now)) }
 {
     let accesses = &log.accesses;
-    let reads = cell_counts(alloc, regions, buffers, layouts, Way::Read, accesses)?;
-    let writes = cell_counts(alloc, regions, buffers, layouts, Way::Write, accesses)?;
-    push_table(alloc, out, &reads, &writes)
+    let reads = cell_counts(alloc, file, layouts, Way::Read, accesses)?;
+    let writes = cell_counts(alloc, file, layouts, Way::Write, accesses)?;
+    push_table(alloc, out, &Counts { reads, writes })
 }
 
 // The heat over the whole run.
@@ -98,39 +98,36 @@ fn run_height(memory: u32) -> u64
 fn push_parts(
     alloc: Global,
     out: &mut Vec<u8>,
-    memory: u32,
-    regions: &Regions,
-    buffers: &[Buffer],
+    file: &FileParts,
     layouts: &[Layout],
     log: &Log,
 ) -> Drawn
     ensures { OnOk result (out.new.items ≡ out.old.items
-        ++ forest_text (run_parts memory regions.now buffers.now layouts.now log.now)) }
+        ++ forest_text (run_parts (parts_view file.now) layouts.now log.now)) }
 {
-    push_memory(alloc, out, memory, regions, buffers)?;
+    push_memory(alloc, out, file)?;
     push_head(alloc, out, log)?;
-    push_run_table(alloc, out, regions, buffers, layouts, log)?;
-    push_run_heat(alloc, out, memory, log)
+    push_run_table(alloc, out, file, layouts, log)?;
+    push_run_heat(alloc, out, file.mem_size, log)
 }
 
-/// The picture of a memory of so many bytes, with these regions, buffers and lists of jobs, and of a run over it, as SVG: the text of one
-/// element. All numbers are the memory's, or say how many of the run's accesses are such.
+/// The picture of a file's memory, whose jobs' lists lie as these layouts say, and of a run over it,
+/// as SVG: the text of one element. All numbers are the memory's, or say how many of the run's
+/// accesses are such.
 #[tactic(auto, unfolding(crate::specs::Run::run_picture))]
 pub fn run_picture(
     alloc: Global,
-    memory: u32,
-    regions: &Regions,
-    buffers: &[Buffer],
+    file: &FileParts,
     layouts: &[Layout],
     log: &Log,
 ) -> Result<Vec<u8>, NoMemory>
     ensures { IfOk result (λ text. text.items
-        ≡ forest_text (run_picture memory regions.now buffers.now layouts.now log.now)) }
+        ≡ forest_text (run_picture (parts_view file.now) layouts.now log.now)) }
 {
     let mut out = Vec::with_capacity(alloc, PICTURE)?;
     let title = "Accesses of a run in the memory of the jobs";
-    begin_drawing(alloc, &mut out, run_height(memory), title)?;
-    push_parts(alloc, &mut out, memory, regions, buffers, layouts, log)?;
+    begin_drawing(alloc, &mut out, run_height(file.mem_size), title)?;
+    push_parts(alloc, &mut out, file, layouts, log)?;
     end_drawing(&mut out)?;
     Ok(out)
 }

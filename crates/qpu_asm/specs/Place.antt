@@ -3,7 +3,7 @@ use Rattle.std.specs.Prelude.{ℕ, ◌+◌, ◌-◌, ◌==◌, Bool, false, List
 use Rattle.std.specs.{Fmt.decimal, List.slice_split, List.flat_map, Str.bytes_eq}
 use Rattle.script.specs.Lines.{lines_of, before}
 use Rattle.qpu_asm.specs.declared.place.Opcode.TheVariants.{Nop, Alu, Li, Br}
-use Rattle.qpu_asm.specs.declared.place.Wanted.TheVariants.{FirstWord, LabelLine, NewLabel, Equals, Item, Order, Number, Operation, Target}
+use Rattle.qpu_asm.specs.declared.place.Wanted.TheVariants.{Tab, Return, FirstWord, LabelLine, NewLabel, Equals, Item, Order, Number, Operation, Target}
 use Rattle.qpu_asm.specs.{declared.fault.AsmFault.AsmFault, declared.fault.Mistake.Mistake, declared.place.FaultPlace.FaultPlace}
 use Rattle.qpu_asm.specs.{declared.place.Opcode.Opcode, declared.place.Wanted.Wanted, Labels.spots_of, Table.Named, Table.Row, Table.Kind}
 use Rattle.qpu_asm.specs.{Table.alu_rows, Table.load_imm_rows, Table.branch_rows, Lines.is_full, Lines.Line, Lines.Blank, Lines.Label}
@@ -82,10 +82,19 @@ abbrev pub words_place : Spots → ℕ → Line → List Word → FaultPlace
 words_place spots kind line [] = record { column = 1; wanted = FirstWord }
 words_place spots kind line (first ∷ items) = line_place spots kind first.column items line
 
--- The place of a text's fault: the first byte of the word that it is about, and what was expected there.
+-- the first tab or carriage return of a line that begins at a column
+unfoldable pub stray_from : ℕ → List ℕ → Option FaultPlace
+stray_from column [] = None
+stray_from column (byte ∷ bytes) =
+    if byte == 9 then Some (record { column = column; wanted = Tab })
+    else (if byte == 13 then Some (record { column = column; wanted = Return }) else stray_from (column + 1) bytes)
+
+-- The place of a text's fault: the first tab or carriage return of its line, or else the first byte of the word that it is about, and
+-- what was expected there.
 unfoldable pub fault_place : List ℕ → AsmFault → FaultPlace
 fault_place text fault =
-    words_place (spots_of text) fault.kind (read_line (line_at text fault.line)) (placed_words 1 (line_at text fault.line))
+    unwrap_or (stray_from 1 (line_at text fault.line))
+    (words_place (spots_of text) fault.kind (read_line (line_at text fault.line)) (placed_words 1 (line_at text fault.line)))
 
 -- what was expected, in words
 abbrev pub row_text : Row → List ℕ
@@ -110,6 +119,8 @@ wanted_text NewLabel = codes "an earlier line has this label"
 wanted_text Equals = codes "an item is a name, = and a value, without blanks"
 wanted_text (Item opcode) = codes "there is no such item of " ++ (opcode_text opcode ++ (codes ", whose items are" ++ items_text opcode))
 wanted_text (Order opcode) = codes "the item is repeated or out of order; the order is" ++ items_text opcode
-wanted_text (Number most) = codes "the value is a number from 0 to " ++ decimal most
-wanted_text (Operation most) = codes "the value is the name of an operation, or a number from 0 to " ++ decimal most
+wanted_text (Number most) = codes "the value is a decimal number from 0 to " ++ decimal most
+wanted_text (Operation most) = codes "the value is the name of an operation, or a decimal number from 0 to " ++ decimal most
+wanted_text Tab = codes "a tab stands here: blanks part words"
+wanted_text Return = codes "a carriage return stands here: a line ends with a line feed alone"
 wanted_text Target = codes "the value is the name of a label that the text has"

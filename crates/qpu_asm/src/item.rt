@@ -212,8 +212,7 @@ fn put_named<'a>(
         cut.entry.first.now cut.entry.rest.now }
 {
     if has_row(cut.first, partial.rows) {
-        let (word, rows) = (partial.word, partial.rows);
-        return skip_to(labels, index, partial.fault, word, rows, cut);
+        return skip_to(labels, index, partial, cut);
     }
     with_fault(partial, mistake_of(cut.first, all))
 }
@@ -231,20 +230,16 @@ fn mistake_of(name: &[u8], all: &[Row]) -> Mistake
 }
 
 #[tactic(auto, using(crate::proofs::Reading::default_narrow))]
-fn skip_to<'a>(
-    labels: &Labels<'a>,
-    index: u32,
-    fault: Option<Mistake>,
-    word: u64,
-    rows: &'static [Row],
-    cut: Cut<'a>,
-) -> Partial
-    requires { IsOpen word (rows_seen rows.now) }
+fn skip_to<'a>(labels: &Labels<'a>, index: u32, partial: Partial, cut: Cut<'a>) -> Partial
     ensures { result ≡ skipped cut.entry.first.now
-        (value_seen (spots_in labels.now) index cut.entry) fault word (rows_seen rows.now) }
+        (value_seen (spots_in labels.now) index cut.entry) partial.fault partial.word partial.rows }
 {
+    let Partial {
+        mut word,
+        rows,
+        fault,
+    } = partial;
     let mut rest = rows;
-    let mut word = word;
     while let Some((row, later)) = rest.split_first() {
         if is_row(cut.first, row) {
             return with_value(fault, word, row, later, read_value(labels, index, cut, row));

@@ -4,7 +4,7 @@ ghost use Rattle.std.specs.Option.{option_to_list};
 ghost use Rattle.qpu_asm.specs.Walk.{IsOpen};
 ghost use Rattle.qpu_asm.specs.Items.{kind_named as kind_by};
 ghost use Rattle.qpu_asm.specs.Lines.{read_line as line_read};
-ghost use Rattle.qpu_asm.specs.Place.{word_at, placed_words, line_at, opcode_of, wanted_number, wanted_value, wanted_item, is_of, item_place, code_place, words_place, fault_place, items_text, opcode_text, wanted_text};
+ghost use Rattle.qpu_asm.specs.Place.{word_at, placed_words, line_at, opcode_of, wanted_number, wanted_value, wanted_item, is_of, item_place, code_place, words_place, stray_from, fault_place, items_text, opcode_text, wanted_text};
 ghost use Rattle.qpu_asm.specs.Seen.{named_seen, rows_seen, spots_in};
 
 use crate::fault::AsmFault;
@@ -46,6 +46,10 @@ pub enum Wanted {
     Operation(u64),
     /// The name of a label.
     Target,
+    /// A blank, and no tab.
+    Tab,
+    /// The line's end, and no carriage return before it.
+    Return,
 }
 
 /// Where a fault stands: the column of the first byte of the word that it is about, from 1 on, and what was expected there.
@@ -193,22 +197,21 @@ fn is_of(kind: u8, partial: &Partial) -> bool
     }
 }
 
-/// The first of the items, which begin at a column, that has a mistake of this kind.
+/// The first item behind an instruction's first word that has a mistake of this kind.
 fn item_place<'a>(
     labels: &Labels<'a>,
     kind: u8,
     opcode: Opcode,
     of: Kind,
-    items: &'a [u8],
-    from: u32,
+    first: &Placed<'a>,
 ) -> Option<FaultPlace>
-    requires room { from + length items.now < 2 ^ 32 }
+    requires room { first.now.next + length first.now.cut.rest.now < 2 ^ 32 }
     requires open { IsOpen of.above (rows_seen of.rows.now) }
     ensures { result ≡ item_place (spots_in labels.now) kind opcode (rows_seen of.rows.now)
-        (rows_seen of.rows.now) (placed_words from items.now) }
+        (rows_seen of.rows.now) (placed_words first.now.next first.now.cut.rest.now) }
 {
-    let mut rest = items;
-    let mut column = from;
+    let mut rest = first.cut.rest;
+    let mut column = first.next;
     let mut partial = Partial::of(of);
     while let Some(placed) = next_placed(rest, column) {
         let item = placed.cut.first;
@@ -224,26 +227,19 @@ fn item_place<'a>(
     None
 }
 
-/// The place of a fault of this kind on an instruction's line, whose first word begins at `column`, and its items at `from`.
-fn code_place<'a>(
-    labels: &Labels<'a>,
-    kind: u8,
-    column: u32,
-    opcode: &[u8],
-    items: &'a [u8],
-    from: u32,
-) -> FaultPlace
-    requires { from + length items.now < 2 ^ 32 }
-    ensures { result ≡ code_place (spots_in labels.now) kind column opcode.now
-        (placed_words from items.now) (kind_by opcode.now) }
+/// The place of a fault of this kind on the line of an instruction with this first word.
+fn code_place<'a>(labels: &Labels<'a>, kind: u8, opcode: &[u8], first: &Placed<'a>) -> FaultPlace
+    requires { first.now.next + length first.now.cut.rest.now < 2 ^ 32 }
+    ensures { result ≡ code_place (spots_in labels.now) kind first.now.column opcode.now
+        (placed_words first.now.next first.now.cut.rest.now) (kind_by opcode.now) }
 {
-    let first = FaultPlace::new(column, Wanted::FirstWord);
+    let unknown = FaultPlace::new(first.column, Wanted::FirstWord);
     match kind_named(opcode) {
         Some(of) => {
             let opcode = opcode_of(opcode);
-            item_place(labels, kind, opcode, of, items, from).unwrap_or(first)
+            item_place(labels, kind, opcode, of, first).unwrap_or(unknown)
         }
-        None => first,
+        None => unknown,
     }
 }
 
@@ -261,15 +257,32 @@ fn place_on<'a>(labels: &Labels<'a>, kind: u8, line: &'a [u8]) -> FaultPlace
         Line::Blank => FaultPlace::new(column, Wanted::FirstWord),
         Line::Label(_) => FaultPlace::new(column, Wanted::NewLabel),
         Line::BadLabel => FaultPlace::new(column, Wanted::LabelLine),
-        Line::Coded(code) => {
-            let items = placed.cut.rest;
-            code_place(labels, kind, column, code.first, items, placed.next)
-        }
+        Line::Coded(code) => code_place(labels, kind, code.first, &placed),
     }
 }
 
-/// Where a text's fault stands on its line, and what was expected there: the first word for a label's line or an unknown instruction,
-/// else the first item that has a mistake of the fault's kind.
+/// The first tab or carriage return of a line.
+#[tactic(auto, unfolding(crate::specs::Place::stray_from))]
+fn stray_place(line: &[u8]) -> Option<FaultPlace>
+    requires { length line.now < 2 ^ 32 - 1 }
+    ensures { result ≡ stray_from 1 line.now }
+{
+    let mut rest = line;
+    let mut column = 1;
+    while let Some((byte, more)) = rest.split_first() {
+        match *byte {
+            b'\t' => return Some(FaultPlace::new(column, Wanted::Tab)),
+            b'\r' => return Some(FaultPlace::new(column, Wanted::Return)),
+            _ => {}
+        }
+        column += 1;
+        rest = more;
+    }
+    None
+}
+
+/// Where a text's fault stands on its line, and what was expected there: the line's first tab or carriage return, or else the first word
+/// for a label's line or an unknown instruction, and else the first item that has a mistake of the fault's kind.
 #[tactic(auto, unfolding(crate::specs::Place::fault_place))]
 pub fn fault_place(alloc: Global, text: &[u8], fault: AsmFault) -> Result<FaultPlace, AllocError>
     requires { length text.now < 2 ^ 32 - 1 }
@@ -277,7 +290,7 @@ pub fn fault_place(alloc: Global, text: &[u8], fault: AsmFault) -> Result<FaultP
 {
     let labels = find_labels(alloc, text)?;
     let line = line_at(text, fault.line);
-    Ok(place_on(&labels, fault.kind, line))
+    Ok(stray_place(line).unwrap_or(place_on(&labels, fault.kind, line)))
 }
 
 impl fmt::Display for Opcode {
@@ -337,11 +350,15 @@ impl fmt::Display for Wanted {
                     items
                 )
             }
-            Wanted::Number(most) => write!(f, "the value is a number from 0 to {}", most),
+            Wanted::Number(most) => write!(f, "the value is a decimal number from 0 to {}", most),
             Wanted::Operation(most) => write!(
                 f,
-                "the value is the name of an operation, or a number from 0 to {}",
+                "the value is the name of an operation, or a decimal number from 0 to {}",
                 most
+            ),
+            Wanted::Tab => f.write_str("a tab stands here: blanks part words"),
+            Wanted::Return => f.write_str(
+                "a carriage return stands here: a line ends with a line feed alone",
             ),
             Wanted::Target => f.write_str("the value is the name of a label that the text has"),
         }

@@ -104,7 +104,8 @@ fn tiles_size(frame: &Frame, has_bin: bool) -> u64
 pub fn render_size(frame: &Frame, has_bin: bool) -> u64
     requires { IsTileSet frame.now }
     ensures value { result ≡ render_length frame.now has_bin }
-    ensures text { (places : List (Option ℕ)) (grid : Option (ℕ × ℕ)) (slot : ℕ) → ArePlacesOf frame.now places → is_some grid ≡ has_bin
+    ensures text { (places : List (Option ℕ)) (grid : Option (ℕ × ℕ)) (slot : ℕ)
+        → ArePlacesOf frame.now places → is_some grid ≡ has_bin
         → length (render_text frame.now places grid slot) ≡ result }
     ensures limit { result ≤ most_render }
 {

@@ -19,9 +19,11 @@ ghost use Rattle.render_walks.specs.Walks.{WalksTo, OwesFine, IsBetween, at_star
 /// packets of each tile pass it at the tile's coordinates. `proofs::Walking::render_walks` is the same of
 /// any fact in place of a test.
 pub fn renderer_lists_walk()
-    ensures { (fine : Packet → ℕ → ℕ → Bool) (frame : Frame) (places : List (Option ℕ)) (grid : Option (ℕ × ℕ)) (slot : ℕ)
+    ensures { (fine : Packet → ℕ → ℕ → Bool) (frame : Frame) (places : List (Option ℕ))
+        (grid : Option (ℕ × ℕ)) (slot : ℕ)
         → IsTileSet frame → OwesFine (λ p x y. IsTrue (fine p x y)) frame places grid slot
-        → WalksTo (λ p x y. IsTrue (fine p x y)) (IsBetween (is_some grid)) at_start (render_slots frame places grid slot) }
+        → WalksTo (λ p x y. IsTrue (fine p x y)) (IsBetween (is_some grid)) at_start
+        (render_slots frame places grid slot) }
 {}
 
 /// The law that each number of a renderer list fits its field, where those of the frame, the surfaces'

@@ -1,8 +1,8 @@
 -- The text of all accesses of a run.
 use Rattle.std.specs.{Prelude.ℕ, Prelude.false, Prelude.List, Prelude.◌++◌, Prelude.codes, Fmt.decimal, Fmt.digits, List.flat_map}
-use Rattle.buffer_table.specs.{declared.buffer.Buffer.Buffer, declared.buffer.Regions.Regions}
 use Rattle.field_words.specs.declared.access.Way.TheVariants.{Read, Write, Wild}
 use Rattle.field_words.specs.declared.access.Way.{Way}
+use Rattle.job_format.specs.Model.{FileModel}
 use Rattle.relocation.specs.declared.layout.Layout.{Layout}
 use Rattle.replay.specs.{declared.logged.Log.Log as TheLog, declared.logged.Logged.Logged}
 use Rattle.dumper.specs.{Text.place_text, Trace.unit_text, Trace.ending_text}
@@ -37,11 +37,10 @@ unfoldable pub reach_text : Logged → List ℕ
 reach_text logged = way_text logged.access.way ++ (place_text logged.access.place ++ (codes " " ++ decimal logged.access.len))
 
 -- the line of an access: "17 qpu3 job 0 read 0010a040 16 buffer 3 + 0x40"
-unfoldable pub access_text : Regions → List Buffer → List Layout → Logged → List ℕ
-access_text regions buffers layouts logged =
-    actor_text logged ++ (reach_text logged ++ (codes " " ++ (spot_text (spot_of regions buffers layouts logged.access.place) ++ codes "\n")))
+unfoldable pub access_text : FileModel → List Layout → Logged → List ℕ
+access_text file layouts logged =
+    actor_text logged ++ (reach_text logged ++ (codes " " ++ (spot_text (spot_of file layouts logged.access.place) ++ codes "\n")))
 
 -- a line for each access, in order, and how the run ended, after how many steps
-unfoldable pub log_text : Regions → List Buffer → List Layout → TheLog → List ℕ
-log_text regions buffers layouts log =
-    flat_map (access_text regions buffers layouts) log.accesses.items ++ ending_text log.ending log.steps
+unfoldable pub log_text : FileModel → List Layout → TheLog → List ℕ
+log_text file layouts log = flat_map (access_text file layouts) log.accesses.items ++ ending_text log.ending log.steps

@@ -1,7 +1,8 @@
 -- What lies at a place of the memory of an accepted file: a tile slot, a list of a job, or a buffer.
 use Rattle.std.specs.Prelude.{ℕ, ◌+◌, ◌-◌, ◌*◌, ◌/◌, ◌%◌, ◌&&◌, nat_le, nat_lt, Bool, List, [], ◌∷◌, if◌then◌else◌}
 use Rattle.field_words.specs.Sizes.{slot_size}
-use Rattle.buffer_table.specs.{declared.buffer.Buffer.Buffer, declared.buffer.Regions.Regions}
+use Rattle.buffer_table.specs.declared.buffer.Buffer.{Buffer}
+use Rattle.job_format.specs.Model.{FileModel}
 use Rattle.relocation.specs.declared.layout.Layout.{Layout}
 use Rattle.run_text.specs.declared.spot.Spot.TheVariants.{Slot, BinList, Records, Uniforms, RenderList, Spare, InBuffer, Nowhere}
 use Rattle.run_text.specs.declared.spot.Spot.{Spot as TheSpot}
@@ -33,8 +34,8 @@ buffer_spot number (buffer ∷ buffers) place =
 unfoldable pub slot_spot : (into : ℕ) → TheSpot
 slot_spot into = Slot (into / slot_size) (into % slot_size)
 
--- What lies at a place, in a memory with these regions, these buffers and the lists of these jobs.
-unfoldable pub spot_of : Regions → List Buffer → List Layout → (place : ℕ) → TheSpot
-spot_of regions buffers layouts place =
-    if is_in regions.tile_place (slot_size * regions.tile_slots) place then slot_spot (place - regions.tile_place)
-    else (if is_in regions.lists_place regions.lists_size place then lists_spot 0 layouts place else buffer_spot 0 buffers place)
+-- What lies at a place of the memory of a file, whose jobs' lists lie as these layouts say.
+unfoldable pub spot_of : FileModel → List Layout → (place : ℕ) → TheSpot
+spot_of file layouts place =
+    if is_in file.regions.tile_place (slot_size * file.regions.tile_slots) place then slot_spot (place - file.regions.tile_place)
+    else (if is_in file.regions.lists_place file.regions.lists_size place then lists_spot 0 layouts place else buffer_spot 0 file.buffers place)

@@ -1,11 +1,12 @@
 //! The text of all accesses of a run.
 ghost use Rattle.std.specs.Prelude.{◌≡◌, ◌++◌, IfOk, OnOk};
+ghost use Rattle.job_format.specs.Parts.{parts_view};
 ghost use Rattle.run_text.specs.Log.{offset_text, spot_text, way_text, actor_text, reach_text, access_text, log_text};
 
 use crate::spot::{Spot, spot_of};
-use buffer_table::{Buffer, Regions};
 use dumper::{ending_text, push_number, push_place, push_unit};
 use field_words::{NoMemory, Way};
+use job_format::FileParts;
 use relocation::Layout;
 use replay::{Log, Logged};
 use std::alloc::{AllocError, Global};
@@ -81,15 +82,14 @@ fn push_reach(alloc: Global, out: &mut Vec<u8>, logged: &Logged) -> Result<(), A
 fn push_access(
     alloc: Global,
     out: &mut Vec<u8>,
-    regions: &Regions,
-    buffers: &[Buffer],
+    file: &FileParts,
     layouts: &[Layout],
     logged: &Logged,
 ) -> Result<(), AllocError>
     ensures { OnOk result (out.new.items ≡ out.old.items
-        ++ access_text regions.now buffers.now layouts.now logged.now) }
+        ++ access_text (parts_view file.now) layouts.now logged.now) }
 {
-    let spot = spot_of(regions, buffers, layouts, logged.access.place);
+    let spot = spot_of(file, layouts, logged.access.place);
     push_actor(out, logged)?;
     push_reach(alloc, out, logged)?;
     out.extend_from_slice(b" ")?;
@@ -97,23 +97,23 @@ fn push_access(
     out.extend_from_slice(b"\n")
 }
 
-/// The text of all accesses of a run over a memory with these regions, these buffers and the lists of these jobs: a line for each, and how
-/// the run ended after how many steps. A line has the number of the step, from 0 on, its unit and its job, what it did, the place and how
-/// many bytes, and what lies there.
+/// The text of all accesses of a run over the memory of a file, whose jobs' lists lie as these
+/// layouts say: a line for each, and how the run ended after how many steps. A line has the number
+/// of the step, from 0 on, its unit and its job, what it did, the place and how many bytes, and
+/// what lies there.
 #[tactic(auto, unfolding(crate::specs::Log::log_text))]
 pub fn log_text(
     alloc: Global,
-    regions: &Regions,
-    buffers: &[Buffer],
+    file: &FileParts,
     layouts: &[Layout],
     log: &Log,
 ) -> Result<Vec<u8>, NoMemory>
     ensures { IfOk result (λ text. text.items
-        ≡ log_text regions.now buffers.now layouts.now log.now) }
+        ≡ log_text (parts_view file.now) layouts.now log.now) }
 {
     let mut out = Vec::with_capacity(alloc, ACCESS_LINE.saturating_mul(log.accesses.len()))?;
     for logged in &log.accesses {
-        push_access(alloc, &mut out, regions, buffers, layouts, logged)?;
+        push_access(alloc, &mut out, file, layouts, logged)?;
     }
     let ending = ending_text(alloc, log.ending, log.steps as usize)?;
     out.extend_from_slice(ending.as_bytes())?;

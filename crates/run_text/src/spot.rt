@@ -1,9 +1,11 @@
 //! What lies at a place of the memory of an accepted file.
 ghost use Rattle.std.specs.Prelude.{◌≡◌, ◌≤◌, ◌<◌, ◌+◌, length};
+ghost use Rattle.job_format.specs.Parts.{parts_view};
 ghost use Rattle.run_text.specs.Spot.{is_in, list_spot, lists_spot, buffer_spot, slot_spot, spot_of};
 
-use buffer_table::{Buffer, Regions};
+use buffer_table::Buffer;
 use field_words::SLOT_SIZE;
+use job_format::FileParts;
 use relocation::Layout;
 
 /// What lies at a place: first the number of a slot, a job or a buffer, then how many bytes the place is into it.
@@ -93,11 +95,13 @@ fn slot_spot(into: u64) -> Spot
     Spot::Slot(into / u64::from(SLOT_SIZE), into % u64::from(SLOT_SIZE))
 }
 
-/// What lies at a place, in a memory with these regions, these buffers and the lists of these jobs. It takes no memory.
+/// What lies at a place of the memory of a file, whose jobs' lists lie as these layouts say. It
+/// takes no memory.
 #[tactic(auto, unfolding(crate::specs::Spot::spot_of))]
-pub fn spot_of(regions: &Regions, buffers: &[Buffer], layouts: &[Layout], place: u64) -> Spot
-    ensures { result ≡ spot_of regions.now buffers.now layouts.now place }
+pub fn spot_of(file: &FileParts, layouts: &[Layout], place: u64) -> Spot
+    ensures { result ≡ spot_of (parts_view file.now) layouts.now place }
 {
+    let regions = &file.regions;
     let slots = u64::from(SLOT_SIZE) * u64::from(regions.tile_slots);
     if is_in(regions.tile_place, slots, place) {
         return slot_spot(place - u64::from(regions.tile_place));
@@ -105,5 +109,5 @@ pub fn spot_of(regions: &Regions, buffers: &[Buffer], layouts: &[Layout], place:
     if is_in(regions.lists_place, u64::from(regions.lists_size), place) {
         return lists_spot(layouts, place);
     }
-    buffer_spot(buffers, place)
+    buffer_spot(&file.buffers, place)
 }

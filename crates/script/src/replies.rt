@@ -33,7 +33,8 @@ pub trait Clerk {
         requires { (lines : ℕ) × (past : Past) × (lines < 2 ^ 32) × Stands lines past self.old }
         ensures line { (n : ℕ) (past : Past) → Stands n past self.old
             → OnOk result (Adds out.old out.new (reply past line.now)) }
-        ensures kept { (n : ℕ) (past : Past) → Stands n past self.old → OnOk result (Stands (n + 1) (after past line.now) self.new) };
+        ensures kept { (n : ℕ) (past : Past) → Stands n past self.old
+            → OnOk result (Stands (n + 1) (after past line.now) self.new) };
 }
 
 // The number of the first line that isn't well formed.

@@ -12,17 +12,15 @@ pub step_moved : (version now : ℕ) (machine start : State) (favoured : Option 
 step_moved version now machine start favoured steps seed text v m report =
     subst (λ x. IsStepText now x favoured steps seed text) m (subst (λ x. IsStepText x machine favoured steps seed text) v report)
 
-pub access_moved : (view f : FileModel) (layouts : List Layout) (machine : State) (favoured : Option UnitKind) (steps seed : ℕ) (text : List ℕ) → view ≡ f → layouts ≡ layouts_of f → machine ≡ machine_of f → IsAccessText view.regions view.buffers layouts machine favoured steps seed text → IsAccessText f.regions f.buffers (layouts_of f) (machine_of f) favoured steps seed text
+pub access_moved : (view f : FileModel) (layouts : List Layout) (machine : State) (favoured : Option UnitKind) (steps seed : ℕ) (text : List ℕ) → view ≡ f → layouts ≡ layouts_of f → machine ≡ machine_of f → IsAccessText view layouts machine favoured steps seed text → IsAccessText f (layouts_of f) (machine_of f) favoured steps seed text
 access_moved view f layouts machine favoured steps seed text v l m report =
-    subst (λ x. IsAccessText f.regions f.buffers (layouts_of f) x favoured steps seed text) m
-    (subst (λ x. IsAccessText f.regions f.buffers x machine favoured steps seed text) l
-    (subst (λ (x : FileModel). IsAccessText x.regions x.buffers layouts machine favoured steps seed text) v report))
+    subst (λ x. IsAccessText f (layouts_of f) x favoured steps seed text) m
+    (subst (λ x. IsAccessText f x machine favoured steps seed text) l (subst (λ x. IsAccessText x layouts machine favoured steps seed text) v report))
 
-pub picture_moved : (view f : FileModel) (layouts : List Layout) (machine : State) (favoured : Option UnitKind) (steps seed : ℕ) (text : List ℕ) → view ≡ f → layouts ≡ layouts_of f → machine ≡ machine_of f → IsPictureText view.mem_size view.regions view.buffers layouts machine favoured steps seed text → IsPictureText f.mem_size f.regions f.buffers (layouts_of f) (machine_of f) favoured steps seed text
+pub picture_moved : (view f : FileModel) (layouts : List Layout) (machine : State) (favoured : Option UnitKind) (steps seed : ℕ) (text : List ℕ) → view ≡ f → layouts ≡ layouts_of f → machine ≡ machine_of f → IsPictureText view layouts machine favoured steps seed text → IsPictureText f (layouts_of f) (machine_of f) favoured steps seed text
 picture_moved view f layouts machine favoured steps seed text v l m report =
-    subst (λ x. IsPictureText f.mem_size f.regions f.buffers (layouts_of f) x favoured steps seed text) m
-    (subst (λ x. IsPictureText f.mem_size f.regions f.buffers x machine favoured steps seed text) l
-    (subst (λ (x : FileModel). IsPictureText x.mem_size x.regions x.buffers layouts machine favoured steps seed text) v report))
+    subst (λ x. IsPictureText f (layouts_of f) x favoured steps seed text) m
+    (subst (λ x. IsPictureText f x machine favoured steps seed text) l (subst (λ x. IsPictureText x layouts machine favoured steps seed text) v report))
 
 pub line_moved : (machine start : State) (favoured : Option UnitKind) (steps seed : ℕ) (line : List ℕ) → machine ≡ start → IsSeedLine machine favoured steps seed line → IsSeedLine start favoured steps seed line
 line_moved machine start favoured steps seed line m report = subst (λ x. IsSeedLine x favoured steps seed line) m report

@@ -1,6 +1,5 @@
 -- What is reported of runs of an accepted file's machine: the steps, all accesses, a picture of these, or how each of many runs ended.
 use Rattle.std.specs.Prelude.{◌≡◌, ℕ, zero, suc, ◌+◌, ◌≤◌, ◌<◌, ◌^◌, List, [], ◌++◌, length, codes, Option, decimal}
-use Rattle.buffer_table.specs.{declared.buffer.Buffer.Buffer, declared.buffer.Regions.Regions}
 use Rattle.job_format.specs.Model.{FileModel}
 use Rattle.job_check.specs.Jobs.{layouts_of}
 use Rattle.job_safety.specs.Accepted.{machine_of}
@@ -22,18 +21,18 @@ pub record IsStepText (version : ℕ) (machine : State) (favoured : Option UnitK
   pub shown : text ≡ trace_text version trace
 
 -- The text is that of all accesses of that run.
-pub record IsAccessText (regions : Regions) (buffers : List Buffer) (layouts : List Layout) (machine : State) (favoured : Option UnitKind) (steps seed : ℕ) (text : List ℕ) : Type 0 where
+pub record IsAccessText (file : FileModel) (layouts : List Layout) (machine : State) (favoured : Option UnitKind) (steps seed : ℕ) (text : List ℕ) : Type 0 where
   pub events : List Event
   pub log : Log
   pub run : IsLog (Picks seed) (Gives seed) favoured machine steps events log
-  pub shown : text ≡ log_text regions buffers layouts log
+  pub shown : text ≡ log_text file layouts log
 
--- The text is the picture of a memory of so many bytes with all accesses of that run.
-pub record IsPictureText (memory : ℕ) (regions : Regions) (buffers : List Buffer) (layouts : List Layout) (machine : State) (favoured : Option UnitKind) (steps seed : ℕ) (text : List ℕ) : Type 0 where
+-- The text is the picture of the file's memory with all accesses of that run.
+pub record IsPictureText (file : FileModel) (layouts : List Layout) (machine : State) (favoured : Option UnitKind) (steps seed : ℕ) (text : List ℕ) : Type 0 where
   pub events : List Event
   pub log : Log
   pub run : IsLog (Picks seed) (Gives seed) favoured machine steps events log
-  pub shown : text ≡ forest_text (run_picture memory regions buffers layouts log)
+  pub shown : text ≡ forest_text (run_picture file layouts log)
 
 -- "seed 7 finished after 1234"
 unfoldable pub seed_text : ℕ → Trace → List ℕ
@@ -54,8 +53,8 @@ AreSeedLines machine favoured steps seed (suc n) text =
 
 abbrev pub IsLookText : FileModel → Look → Option UnitKind → (steps seed : ℕ) → List ℕ → Type 0
 IsLookText f Steps favoured steps seed text = IsStepText f.version (machine_of f) favoured steps seed text
-IsLookText f Accesses favoured steps seed text = IsAccessText f.regions f.buffers (layouts_of f) (machine_of f) favoured steps seed text
-IsLookText f Picture favoured steps seed text = IsPictureText f.mem_size f.regions f.buffers (layouts_of f) (machine_of f) favoured steps seed text
+IsLookText f Accesses favoured steps seed text = IsAccessText f (layouts_of f) (machine_of f) favoured steps seed text
+IsLookText f Picture favoured steps seed text = IsPictureText f (layouts_of f) (machine_of f) favoured steps seed text
 IsLookText f (Seeds count) favoured steps seed text = AreSeedLines (machine_of f) favoured steps seed count text
 
 -- what is reported of an accepted file

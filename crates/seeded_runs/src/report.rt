@@ -3,16 +3,16 @@ ghost use Rattle.std.specs.Prelude.{◌≡◌, ◌⊎◌, ◌≤◌, ◌<◌, �
 ghost use Rattle.field_words.specs.Questions.{Answers};
 ghost use Rattle.job_check.specs.Whole.{all_questions};
 ghost use Rattle.job_format.specs.File.{IsFileOf};
+ghost use Rattle.job_format.specs.Parts.{parts_view};
 ghost use Rattle.job_format.specs.Reading.{file_at};
 ghost use Rattle.job_safety.specs.Accepted.{IsAccepted};
 ghost use Rattle.seeded_runs.specs.declared.report.Look.TheVariants.{Steps, Accesses, Picture, Seeds};
 ghost use Rattle.seeded_runs.specs.Report.{seed_text, IsStepText, IsAccessText, IsPictureText, IsSeedLine, IsLookText, IsReported, IsTrialWithin};
 
 use crate::seeded::{log_of, run_of};
-use buffer_table::{Buffer, Regions};
 use dumper::{ending_text, trace_text};
 use field_words::{NoMemory, Stop};
-use job_format::{Refusal, read_parts};
+use job_format::{FileParts, Refusal, read_parts};
 use job_safety::{Accepted, accept};
 use machine::Machine;
 use pictures::run_picture;
@@ -65,37 +65,34 @@ fn step_text(
 // The text of a run's accesses.
 fn access_text(
     alloc: Global,
-    regions: &Regions,
-    buffers: &[Buffer],
+    file: &FileParts,
     layouts: &[Layout],
     machine: Machine,
     trial: Trial,
 ) -> Result<Vec<u8>, NoMemory>
     requires { trial.steps ≤ 1000000 }
-    ensures { IfOk result (λ text. IsAccessText regions.now buffers.now layouts.now machine
+    ensures { IfOk result (λ text. IsAccessText (parts_view file.now) layouts.now machine
         trial.favoured trial.steps trial.seed text.items) }
 {
     let log = log_of(alloc, machine, trial.favoured, trial.steps, trial.seed)?;
-    let text = log_text(alloc, regions, buffers, layouts, &log)?;
+    let text = log_text(alloc, file, layouts, &log)?;
     Ok(text)
 }
 
 // The picture of a run's accesses.
 fn picture_text(
     alloc: Global,
-    memory: u32,
-    regions: &Regions,
-    buffers: &[Buffer],
+    file: &FileParts,
     layouts: &[Layout],
     machine: Machine,
     trial: Trial,
 ) -> Result<Vec<u8>, NoMemory>
     requires { trial.steps ≤ 1000000 }
-    ensures { IfOk result (λ text. IsPictureText memory regions.now buffers.now layouts.now machine
+    ensures { IfOk result (λ text. IsPictureText (parts_view file.now) layouts.now machine
         trial.favoured trial.steps trial.seed text.items) }
 {
     let log = log_of(alloc, machine, trial.favoured, trial.steps, trial.seed)?;
-    let text = run_picture(alloc, memory, regions, buffers, layouts, &log)?;
+    let text = run_picture(alloc, file, layouts, &log)?;
     Ok(text)
 }
 
@@ -128,7 +125,8 @@ fn seeds_text(
     requires some { 1 ≤ count }
     requires within { trial.seed + count < 2 ^ 64 }
     ensures answers { Answers (all_questions bytes.now)
-        (λ out. IsLookText (file_at bytes.now) (Seeds count) trial.favoured trial.steps trial.seed out.items) result }
+        (λ out. IsLookText (file_at bytes.now) (Seeds count) trial.favoured trial.steps
+        trial.seed out.items) result }
     ensures spelled { IsOk result → IsFileOf bytes.now (file_at bytes.now) }
 {
     let mut text = Vec::new(alloc);
@@ -145,7 +143,8 @@ fn seeds_text(
 fn steps_report(alloc: Global, bytes: &[u8], trial: Trial) -> Result<Vec<u8>, Stop<Refusal>>
     requires { trial.steps ≤ 1000000 }
     ensures answers { Answers (all_questions bytes.now)
-        (λ out. IsLookText (file_at bytes.now) Steps trial.favoured trial.steps trial.seed out.items) result }
+        (λ out. IsLookText (file_at bytes.now) Steps trial.favoured trial.steps
+        trial.seed out.items) result }
     ensures spelled { IsOk result → IsFileOf bytes.now (file_at bytes.now) }
 {
     let accepted = accept(alloc, bytes)?;
@@ -178,12 +177,9 @@ fn accesses_of(
         lengths: _,
         machine,
     } = accepted;
-    let memory = file.mem_size;
-    let regions = &file.regions;
-    let buffers = &file.buffers;
     match trial.look {
-        Look::Picture => { picture_text(alloc, memory, regions, buffers, &layouts, machine, trial) }
-        _ => access_text(alloc, regions, buffers, &layouts, machine, trial),
+        Look::Picture => picture_text(alloc, &file, &layouts, machine, trial),
+        _ => access_text(alloc, &file, &layouts, machine, trial),
     }
 }
 
@@ -192,7 +188,8 @@ fn accesses_report(alloc: Global, bytes: &[u8], trial: Trial) -> Result<Vec<u8>,
     requires few { trial.steps ≤ 1000000 }
     requires look { (trial.look ≡ Accesses) ⊎ (trial.look ≡ Picture) }
     ensures answers { Answers (all_questions bytes.now)
-        (λ out. IsLookText (file_at bytes.now) trial.look trial.favoured trial.steps trial.seed out.items) result }
+        (λ out. IsLookText (file_at bytes.now) trial.look trial.favoured trial.steps
+        trial.seed out.items) result }
     ensures spelled { IsOk result → IsFileOf bytes.now (file_at bytes.now) }
 {
     let accepted = accept(alloc, bytes)?;

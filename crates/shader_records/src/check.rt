@@ -4,8 +4,7 @@ ghost use Rattle.field_words.specs.Sizes.{most_list};
 ghost use Rattle.buffer_table.specs.Table.{most_place};
 ghost use Rattle.field_words.specs.Questions.{first_of, Answers};
 ghost use Rattle.field_words.specs.declared.stop.Stop.TheVariants.{NoMemory as OutOfMemory};
-ghost use Rattle.buffer_table.specs.Handles.{AreNumbersOf};
-ghost use Rattle.shader_records.specs.Inputs.{AreShaped, shaders_view, input_of, Fits};
+ghost use Rattle.shader_records.specs.Inputs.{Fits};
 ghost use Rattle.shader_records.specs.Rules.{all_questions};
 ghost use Rattle.shader_records.specs.Emitted.{IsEmitted};
 
@@ -14,12 +13,8 @@ use crate::fault::RecordFault;
 use crate::faults::first_fault;
 use crate::info::RecordInfo;
 use crate::inputs::Inputs;
-use bin_list::State;
-use buffer_table::{Handles, Table};
 use field_words::Stop;
-use qpu_isa::ShaderInfo;
 use relocation::Layout;
-use std::alloc::Global;
 
 /// Emits records and uniforms of which no rule fails, each at its offset in `out`.
 #[tactic(auto, using(crate::proofs::Lengths::length_records, crate::proofs::Lengths::length_uniforms))]
@@ -49,41 +44,23 @@ fn emit(inputs: &Inputs, layout: &Layout, out: &mut [u8]) -> RecordInfo
 /// records and uniforms at their offsets in `layout`, and no other byte of it changed. After a fault it may
 /// hold any bytes.
 ///
-/// `records` and `uniforms` are the job's, of which what is left over is ignored. `shaders` has one entry
-/// for each buffer of `table`: what is known of the shader in a Code buffer. No memory is taken.
+/// What is left over of the job's records and uniforms is ignored. No memory is taken.
 pub fn check_records(
-    _alloc: Global,
-    states: &[State],
-    records: &[u8],
-    uniforms: &[u8],
-    table: &Table,
-    handles: &Handles,
-    shaders: &[Option<ShaderInfo>],
+    inputs: &Inputs,
     layout: &Layout,
     out: &mut [u8],
 ) -> Result<RecordInfo, Stop<RecordFault>>
-    requires handles { AreNumbersOf table.now handles.now }
-    requires shaders { AreShaped table.now (shaders_view shaders.now) }
-    requires records_limit { length records.now ≤ most_list }
-    requires uniforms_limit { length uniforms.now ≤ most_list }
+    requires fits { Fits inputs.now }
     requires place_limit { layout.now.place ≤ most_place }
     requires limit { layout.now.uniforms ≤ 2 * most_list + 32 }
-    requires order { layout.now.records + length records.now ≤ layout.now.uniforms }
-    requires room { layout.now.uniforms + length uniforms.now ≤ length out.old }
-    ensures answers { let input = input_of states.now records.now uniforms.now table.now handles.now shaders.now in
-        Answers (all_questions input) (λ info. IsEmitted input layout.now out.old out.new info) result }
+    requires order { layout.now.records + length inputs.now.records ≤ layout.now.uniforms }
+    requires room { layout.now.uniforms + length inputs.now.uniforms ≤ length out.old }
+    ensures answers { Answers (all_questions inputs.now)
+        (λ info. IsEmitted inputs.now layout.now out.old out.new info) result }
     ensures takes_no_memory { result ≢ Err OutOfMemory }
 {
-    let inputs = Inputs {
-        states,
-        records,
-        uniforms,
-        table,
-        handles,
-        shaders,
-    };
-    match first_fault(&inputs) {
+    match first_fault(inputs) {
         Some(fault) => Err(Stop::Fault(fault)),
-        None => Ok(emit(&inputs, layout, out)),
+        None => Ok(emit(inputs, layout, out)),
     }
 }

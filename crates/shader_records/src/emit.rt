@@ -13,7 +13,7 @@ use crate::faults::source_of;
 use crate::inputs::Inputs;
 use crate::record_text::put_record;
 use crate::sizes::source_size;
-use crate::stream_text::put_streams;
+use crate::stream_text::{Stream, put_streams};
 use packets::record_room;
 
 /// Emits all records from `base` on; their streams stand from the place `first` on. Gives the bytes.
@@ -52,7 +52,12 @@ pub(crate) fn put_uniforms(inputs: &Inputs, first: u32, out: &mut [u8], base: us
     let mut from = 0;
     let mut done = 0;
     for k in 0..inputs.count() {
-        let amounts = put_streams(inputs, at, from, first + done as u32, out, base + done);
+        let stream = Stream {
+            from,
+            place: first + done as u32,
+            base: base + done,
+        };
+        let amounts = put_streams(inputs, at, stream, out);
         from += amounts.taken;
         done += amounts.given;
         at += source_size(inputs.state(k).word);

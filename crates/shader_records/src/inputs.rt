@@ -17,15 +17,15 @@ use qpu_isa::ShaderInfo;
 use std::marker::Model;
 
 /// The states, the parts of the job file that hold their records and uniforms, and what these name: the
-/// buffers of the job's handles, and what is known of the shader in each Code buffer.
+/// buffers of the job's handles, and, for each buffer of the table, what is known of the shader in it where it is a Code buffer.
 #[derive(Drop)]
-pub(crate) struct Inputs<'a> {
-    pub(crate) states: &'a [State],
-    pub(crate) records: &'a [u8],
-    pub(crate) uniforms: &'a [u8],
-    pub(crate) table: &'a Table<'a>,
-    pub(crate) handles: &'a Handles<'a>,
-    pub(crate) shaders: &'a [Option<ShaderInfo>],
+pub struct Inputs<'a> {
+    pub states: &'a [State],
+    pub records: &'a [u8],
+    pub uniforms: &'a [u8],
+    pub table: &'a Table<'a>,
+    pub handles: &'a Handles<'a>,
+    pub shaders: &'a [Option<ShaderInfo>],
 }
 
 impl<'a> Model for Inputs<'a> {

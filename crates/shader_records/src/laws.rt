@@ -23,9 +23,11 @@ pub fn streams_are_facts()
 /// with a stream that was made for just it, its flags agree with them, and its attributes lie in data that
 /// the handles name, up to the state's greatest index.
 pub fn records_are_facts()
-    ensures { (input : InputModel) (records first : ℕ) (memory : List ℕ) (k : ℕ) → AreInputs input → AreInMemory input
-        → first_of (all_questions input) ≡ None → k < length input.states → first + length input.uniforms < 2 ^ 32
+    ensures { (input : InputModel) (records first : ℕ) (memory : List ℕ) (k : ℕ)
+        → AreInputs input → AreInMemory input → first_of (all_questions input) ≡ None
+        → k < length input.states → first + length input.uniforms < 2 ^ 32
         → IsEmittedIn input records first memory
-        → IsRecord (IsDataIn input.table input.handles) (IsCodeIn input) (state_at input k).word (state_at input k).max_index
+        → IsRecord (IsDataIn input.table input.handles) (IsCodeIn input)
+        (state_at input k).word (state_at input k).max_index
         (λ i. u32_at memory (records + record_offset input k + 4 * i)) (u32_at memory) }
 {}

@@ -24,5 +24,6 @@ mod uniform_rules;
 pub use check::check_records;
 pub use fault::RecordFault;
 pub use info::RecordInfo;
+pub use inputs::Inputs;
 pub use laws::{records_are_facts, streams_are_facts};
 pub use rule::RecordRule;

@@ -35,8 +35,9 @@ struct Start {
 
 /// The bytes of the stream of a shader, of which there may be none.
 fn given_by(used: Option<&ShaderInfo>) -> u64
-    ensures value { (shader : Option ShaderModel) → MatchOption used.entry (shader ≡ None) (λ info. shader ≡ Some (shader_view info.now)) →
-        result ≡ given_by shader }
+    ensures value { (shader : Option ShaderModel)
+        → MatchOption used.entry (shader ≡ None) (λ info. shader ≡ Some (shader_view info.now))
+        → result ≡ given_by shader }
     ensures limit { result < 2 ^ 34 }
 {
     match used {

@@ -62,31 +62,33 @@ fn put_source(inputs: &Inputs, from: usize, info: &ShaderInfo, out: &mut [u8], b
     inputs.copy_uniforms(start, info.uniforms as usize, out, base);
 }
 
-/// Emits at `base` the stream of a shader whose uniforms begin at `from`: the words of its source, each
-/// sample's first moved by its buffer's place, and each address word the stream's own place.
+/// A stream: where its source begins in the job's uniforms, its place in memory, and where it goes in the window.
+#[derive(Clone, Copy)]
+pub(crate) struct Stream {
+    pub(crate) from: usize,
+    pub(crate) place: u32,
+    pub(crate) base: usize,
+}
+
+/// Emits the stream of a shader: the words of its source, each sample's first moved by its buffer's place,
+/// and each address word the stream's own place.
 #[tactic(auto, unfolding(crate::specs::Emission::stream_text), using(crate::proofs::Fine::use_inside))]
-fn put_words(
-    inputs: &Inputs,
-    from: usize,
-    info: &ShaderInfo,
-    stream: u32,
-    out: &mut [u8],
-    base: usize,
-)
+fn put_words(inputs: &Inputs, info: &ShaderInfo, stream: Stream, out: &mut [u8])
     requires fits { Fits inputs.now }
     requires shaped { IsShaped (shader_view info.now) }
-    requires fine { IsFineUse inputs.now from (Some (shader_view info.now)) }
-    requires room { base + 4 * info.now.uniforms ≤ length out.old }
-    ensures { out.new ≡ with_bytes out.old base
-        (stream_text inputs.now from stream (Some (shader_view info.now))) }
+    requires fine { IsFineUse inputs.now stream.from (Some (shader_view info.now)) }
+    requires room { stream.base + 4 * info.now.uniforms ≤ length out.old }
+    ensures { out.new ≡ with_bytes out.old stream.base
+        (stream_text inputs.now stream.from stream.place (Some (shader_view info.now))) }
 {
+    let Stream { from, place, base } = stream;
     put_source(inputs, from, info, out, base);
     for i in 0..info.samples.len() {
         let word = moved_word(inputs, from, info, i);
         put_u32(out, base + 4 * first_position(info, i), word);
     }
     for j in 0..info.address_words.len() {
-        put_u32(out, base + 4 * address_word(info, j), stream);
+        put_u32(out, base + 4 * address_word(info, j), place);
     }
 }
 
@@ -99,28 +101,20 @@ pub(crate) struct Amounts {
 
 /// Emits the stream of shader `s` of a record, of which there may be none.
 #[tactic(auto, unfolding(crate::specs::Emission::stream_text), using(field_words::proofs::Writes::with_nothing, crate::proofs::Fine::use_inside))]
-fn put_stream(
-    inputs: &Inputs,
-    at: usize,
-    s: usize,
-    from: usize,
-    stream: u32,
-    out: &mut [u8],
-    base: usize,
-) -> Amounts
+fn put_stream(inputs: &Inputs, at: usize, s: usize, stream: Stream, out: &mut [u8]) -> Amounts
     requires fits { Fits inputs.now }
     requires inside { at + 4 * s + 4 ≤ length inputs.now.records }
-    requires fine { IsFineUse inputs.now from (shader_used inputs.now at s) }
-    requires room { base + given_by (shader_used inputs.now at s) ≤ length out.old }
-    ensures text { out.new ≡ with_bytes out.old base
-        (stream_text inputs.now from stream (shader_used inputs.now at s)) }
+    requires fine { IsFineUse inputs.now stream.from (shader_used inputs.now at s) }
+    requires room { stream.base + given_by (shader_used inputs.now at s) ≤ length out.old }
+    ensures text { out.new ≡ with_bytes out.old stream.base
+        (stream_text inputs.now stream.from stream.place (shader_used inputs.now at s)) }
     ensures taken { result.taken ≡ taken_by (shader_used inputs.now at s) }
     ensures given { result.given ≡ given_by (shader_used inputs.now at s) }
 {
     let Some(info) = inputs.shader_used(at, s) else {
         return Amounts { taken: 0, given: 0 };
     };
-    put_words(inputs, from, info, stream, out, base);
+    put_words(inputs, info, stream, out);
     let given = 4 * info.uniforms as usize;
     Amounts {
         taken: 4 * info.samples.len() + given,
@@ -128,25 +122,18 @@ fn put_stream(
     }
 }
 
-/// Emits the streams of a record's shaders, whose uniforms begin at `from`. The first stands at the place
-/// `first` in memory, and at `base` in `out`.
-pub(crate) fn put_streams(
-    inputs: &Inputs,
-    at: usize,
-    from: usize,
-    first: u32,
-    out: &mut [u8],
-    base: usize,
-) -> Amounts
+/// Emits the streams of a record's shaders one after the other, of which the first is given.
+pub(crate) fn put_streams(inputs: &Inputs, at: usize, first: Stream, out: &mut [u8]) -> Amounts
     requires fits { Fits inputs.now }
     requires inside { at + 12 ≤ length inputs.now.records }
-    requires fine { (s : ℕ) → s < 3
-        → IsFineUse inputs.now (from + taken_before inputs.now at s) (shader_used inputs.now at s) }
-    requires taken { from + taken_before inputs.now at 3 ≤ length inputs.now.uniforms }
-    requires base { base < 2 ^ 32 }
-    requires places { first + given_before inputs.now at 3 < 2 ^ 32 }
-    requires room { base + given_before inputs.now at 3 ≤ length out.old }
-    ensures text { out.new ≡ with_bytes out.old base (streams_text inputs.now at from first 3) }
+    requires fine { (s : ℕ) → s < 3 → IsFineUse inputs.now
+        (first.from + taken_before inputs.now at s) (shader_used inputs.now at s) }
+    requires taken { first.from + taken_before inputs.now at 3 ≤ length inputs.now.uniforms }
+    requires base { first.base < 2 ^ 32 }
+    requires places { first.place + given_before inputs.now at 3 < 2 ^ 32 }
+    requires room { first.base + given_before inputs.now at 3 ≤ length out.old }
+    ensures text { out.new ≡ with_bytes out.old first.base
+        (streams_text inputs.now at first.from first.place 3) }
     ensures amounts { result ≡ record {
       taken = taken_before inputs.now at 3;
       given = given_before
@@ -156,15 +143,12 @@ pub(crate) fn put_streams(
     let mut taken = 0;
     let mut given = 0;
     for s in 0..3usize {
-        let amounts = put_stream(
-            inputs,
-            at,
-            s,
-            from + taken,
-            first + given as u32,
-            out,
-            base + given,
-        );
+        let stream = Stream {
+            from: first.from + taken,
+            place: first.place + given as u32,
+            base: first.base + given,
+        };
+        let amounts = put_stream(inputs, at, s, stream, out);
         taken += amounts.taken;
         given += amounts.given;
     }

@@ -69,10 +69,10 @@ all_inside width height cpp raster pixel size i outside =
 
 pub untiles_what_was_tiled : UntilesWhatWasTiled
 unfolding size_in
-untiles_what_was_tiled tiling width height cpp raster surface back pixel size there again =
-    comes_back Rows (Surface tiling) width height cpp raster surface back size there again (all_inside width height cpp raster pixel size)
+untiles_what_was_tiled p raster surface back pixel size there again =
+    comes_back Rows (Surface p.tiling) p.width p.height p.cpp raster surface back size there again (all_inside p.width p.height p.cpp raster pixel size)
 
 pub tiles_what_was_untiled : TilesWhatWasUntiled
 unfolding size_in
-tiles_what_was_untiled tiling width height cpp surface raster back pixel size clear there again =
-    comes_back (Surface tiling) Rows width height cpp surface raster back size there again clear
+tiles_what_was_untiled p surface raster back pixel size clear there again =
+    comes_back (Surface p.tiling) Rows p.width p.height p.cpp surface raster back size there again clear

@@ -1,10 +1,10 @@
 -- Pictures: width times height pixels of cpp bytes, in the order of rows or in that of a surface.
-use Rattle.std.specs.Prelude.{◌≡◌, ◌<◌, ℕ, ◌+◌, ◌*◌, ◌/◌, ◌%◌, ◌==◌, ◌-◌, min, not, List, [], ◌∷◌, length, slice_index}
+use Rattle.std.specs.Prelude.{◌≡◌, ◌≤◌, ◌<◌, ℕ, ◌+◌, ◌*◌, ◌/◌, ◌%◌, ◌==◌, ◌-◌, min, not, List, [], ◌∷◌, length, slice_index}
 use Rattle.std.specs.Int.{div_ceil}
 use Rattle.field_words.specs.Questions.{Question, Ask}
 use Rattle.texture_layouts.specs.declared.surface.Tiling.TheVariants.{Raster, T, Lt}
 use Rattle.texture_layouts.specs.{declared.surface.Tiling.Tiling, Place.pixel_place_of, Surface.microtile_width_of, Surface.size_for, Surface.IsPixelSize}
-use Rattle.tile_convert.specs.{declared.order.Order.Order, declared.order.Order.TheVariants.Rows, declared.order.Order.TheVariants.Surface}
+use Rattle.tile_convert.specs.{declared.order.Picture.Picture, declared.order.Order.Order, declared.order.Order.TheVariants.Rows, declared.order.Order.TheVariants.Surface}
 
 -- Where the bytes of pixel (x, y) begin. In rows no row is aligned.
 unfoldable pub place_in : Order → ℕ → ℕ → ℕ → ℕ → ℕ
@@ -15,6 +15,24 @@ place_in (Surface tiling) width cpp x y = pixel_place_of tiling width cpp x y
 unfoldable pub size_in : Order → ℕ → ℕ → ℕ → ℕ
 size_in Rows width height cpp = width * height * cpp
 size_in (Surface tiling) width height cpp = size_for tiling width height cpp
+
+-- a side has 1 to so many pixels
+abbrev pub most_side : ℕ
+most_side = 4096
+
+-- the pixels are of 1, 2, 4 or 8 bytes, and no side has too many of them
+abbrev pub IsWithin : (width height cpp : ℕ) → Type 0
+IsWithin width height cpp = IsPixelSize cpp × (width ≤ most_side) × (height ≤ most_side)
+
+abbrev pub IsPictureWithin : Picture → Type 0
+IsPictureWithin p = IsWithin p.width p.height p.cpp
+
+-- how many bytes a picture takes as a surface, and by rows
+abbrev pub surface_bytes : Picture → ℕ
+surface_bytes p = size_for p.tiling p.width p.height p.cpp
+
+abbrev pub pixel_bytes : Picture → ℕ
+pixel_bytes p = p.width * p.height * p.cpp
 
 -- byte i is none of a pixel's
 abbrev pub IsOutside : Order → ℕ → ℕ → ℕ → ℕ → Type 0
@@ -32,11 +50,11 @@ pub record IsCopy (from to : Order) (width height cpp : ℕ) (source target : Li
   pub blank : IsZeroOutside to width height cpp target
 
 -- the raster is the picture of the surface, and the surface that of the raster
-abbrev pub IsPicture : Tiling → ℕ → ℕ → ℕ → List ℕ → List ℕ → Type 0
-IsPicture tiling width height cpp surface raster = IsCopy (Surface tiling) Rows width height cpp surface raster
+abbrev pub IsPicture : Picture → List ℕ → List ℕ → Type 0
+IsPicture p surface raster = IsCopy (Surface p.tiling) Rows p.width p.height p.cpp surface raster
 
-abbrev pub IsSurface : Tiling → ℕ → ℕ → ℕ → List ℕ → List ℕ → Type 0
-IsSurface tiling width height cpp raster surface = IsCopy Rows (Surface tiling) width height cpp raster surface
+abbrev pub IsSurface : Picture → List ℕ → List ℕ → Type 0
+IsSurface p raster surface = IsCopy Rows (Surface p.tiling) p.width p.height p.cpp raster surface
 
 -- the one rule: there are as many bytes as wanted, and else the answer is how many are wanted
 abbrev pub length_questions : List ℕ → ℕ → List (Question ℕ)
@@ -59,10 +77,10 @@ pixels_there width cpp mx = min (microtile_width_of cpp) (width - mx * microtile
 -- What comes back. A raster that goes to a surface and back is itself, and a surface that goes to a raster and back is itself
 -- where it is zero outside its pixels.
 abbrev pub UntilesWhatWasTiled : Type 0
-UntilesWhatWasTiled = (tiling : Tiling) (width height cpp : ℕ) (raster surface back : List ℕ) → IsPixelSize cpp → length raster ≡ width * height * cpp
-    → IsSurface tiling width height cpp raster surface → IsPicture tiling width height cpp surface back → back ≡ raster
+UntilesWhatWasTiled = (p : Picture) (raster surface back : List ℕ) → IsPixelSize p.cpp → length raster ≡ pixel_bytes p
+    → IsSurface p raster surface → IsPicture p surface back → back ≡ raster
 
 abbrev pub TilesWhatWasUntiled : Type 0
-TilesWhatWasUntiled = (tiling : Tiling) (width height cpp : ℕ) (surface raster back : List ℕ) → IsPixelSize cpp
-    → length surface ≡ size_for tiling width height cpp → IsZeroOutside (Surface tiling) width height cpp surface
-    → IsPicture tiling width height cpp surface raster → IsSurface tiling width height cpp raster back → back ≡ surface
+TilesWhatWasUntiled = (p : Picture) (surface raster back : List ℕ) → IsPixelSize p.cpp
+    → length surface ≡ surface_bytes p → IsZeroOutside (Surface p.tiling) p.width p.height p.cpp surface
+    → IsPicture p surface raster → IsSurface p raster back → back ≡ surface

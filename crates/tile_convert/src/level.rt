@@ -5,7 +5,7 @@ ghost use Rattle.texture_layouts.specs.Fits.{is_unlisted, IsInBuffer};
 ghost use Rattle.texture_layouts.specs.Setup.{texture_in, faces_of, size_at, level_place_of};
 ghost use Rattle.tile_convert.specs.Level.{part_questions, level_rules, IsLevelPicture};
 
-use crate::copy::copied;
+use crate::copy::{Reordering, copied};
 use crate::order::Order;
 use field_words::{NoMemory, Stop};
 use std::alloc::Global;
@@ -83,12 +83,14 @@ fn level_picture(
     ensures { IfOk result (λ raster. IsLevelPicture texture.now face level bytes.now raster.items) }
 {
     let part = level_part(texture, bytes, face, level);
-    let tiling = texture.level_tiling(level);
-    let width = texture.level_width(level);
-    let height = texture.level_height(level);
-    let cpp = texture.pixel_bytes();
-    let order = Order::Surface(tiling);
-    copied(alloc, order, Order::Rows, width, height, cpp, part)
+    let r = Reordering {
+        from: Order::Surface(texture.level_tiling(level)),
+        to: Order::Rows,
+        width: texture.level_width(level),
+        height: texture.level_height(level),
+        cpp: texture.pixel_bytes(),
+    };
+    copied(alloc, r, part)
 }
 
 /// One level of a face of the texture with these set-up words, whose base counts from the start of `bytes`: its pixels by rows, or

@@ -11,4 +11,5 @@ mod order;
 mod surface;
 
 pub use level::{LevelFault, extract};
+pub use order::Picture;
 pub use surface::{tile, tile_of_untile, untile, untile_of_tile};

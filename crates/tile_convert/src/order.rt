@@ -14,6 +14,15 @@ pub enum Order {
     Surface(Tiling),
 }
 
+/// A picture in a tiling: how many pixels it is wide and high, and how many bytes each has.
+#[derive(Clone, Copy, Debug, PartialEq, Eq)]
+pub struct Picture {
+    pub tiling: Tiling,
+    pub cpp: u32,
+    pub width: u32,
+    pub height: u32,
+}
+
 /// How many bytes a picture of `width` times `height` pixels of `cpp` bytes takes.
 #[tactic(auto, unfolding(crate::specs::Picture::size_in), using(crate::proofs::Numbers::rows_limit))]
 pub(crate) fn picture_size(order: Order, width: u32, height: u32, cpp: u32) -> u64

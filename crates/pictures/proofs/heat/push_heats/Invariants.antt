@@ -5,4 +5,4 @@ use Rattle.pictures.specs.Heat.{heat_at}
 use Rattle.pictures.proofs.heat.push_heats.Given as goal
 
 abbrev pub invariant-loop-n : goal.invariant-loop-n
-invariant-loop-n l = l.out.items ≡ l.fn.out.items ++ forest_text (each (heat_at l.class l.x l.counts) l.n)
+invariant-loop-n l = l.out.items ≡ l.fn.out.items ++ forest_text (each (heat_at l.strip.class.now l.strip.x l.counts) l.n)

@@ -5,4 +5,4 @@ use Rattle.pictures.specs.Table.{cell_part}
 use Rattle.pictures.proofs.table.push_cells.Given as goal
 
 abbrev pub invariant-loop-column : goal.invariant-loop-column
-invariant-loop-column l = l.out.items ≡ l.fn.out.items ++ forest_text (each (cell_part l.reads l.writes l.row) l.column)
+invariant-loop-column l = l.out.items ≡ l.fn.out.items ++ forest_text (each (cell_part l.counts.reads.items l.counts.writes.items l.row) l.column)

@@ -5,4 +5,4 @@ use Rattle.pictures.specs.Table.{unit_part}
 use Rattle.pictures.proofs.table.push_units.Given as goal
 
 abbrev pub invariant-loop-row : goal.invariant-loop-row
-invariant-loop-row l = l.out.items ≡ l.fn.out.items ++ forest_text (each (unit_part l.reads l.writes) l.row)
+invariant-loop-row l = l.out.items ≡ l.fn.out.items ++ forest_text (each (unit_part l.counts.reads.items l.counts.writes.items) l.row)

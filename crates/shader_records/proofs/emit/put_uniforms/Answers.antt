@@ -17,18 +17,18 @@ loop-k-init c =
       done = sym (streams_zero c.args.inputs.now);
     }
 
-pub overflow_cast-done : goal.overflow_cast-done
-overflow_cast-done c =
+pub overflow_cast-stream : goal.overflow_cast-stream
+overflow_cast-stream c =
     let inside = state_inside c.args.inputs.now c.loop-k.k c.requires.fine (omega (arith, c.loop-k-test.true, c.count-k-end.ensures)) in
     omega (arith, inside.given, c.loop-k.invariant.done, c.requires.places)
 
-pub overflow_add-first : goal.overflow_add-first
-overflow_add-first c =
+pub overflow_add-stream : goal.overflow_add-stream
+overflow_add-stream c =
     let inside = state_inside c.args.inputs.now c.loop-k.k c.requires.fine (omega (arith, c.loop-k-test.true, c.count-k-end.ensures)) in
     omega (arith, inside.given, c.loop-k.invariant.done, c.requires.places)
 
-pub overflow_add-base : goal.overflow_add-base
-overflow_add-base c =
+pub overflow_add-stream-in-loop-k : goal.overflow_add-stream-in-loop-k
+overflow_add-stream-in-loop-k c =
     let inside = state_inside c.args.inputs.now c.loop-k.k c.requires.fine (omega (arith, c.loop-k-test.true, c.count-k-end.ensures)) in
     omega (arith, inside.given, c.loop-k.invariant.done, c.requires.places, c.requires.base)
 

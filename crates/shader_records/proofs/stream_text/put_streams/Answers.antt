@@ -10,22 +10,22 @@ use Rattle.shader_records.proofs.stream_text.put_streams.Goals as goal
 pub loop-s-init : goal.loop-s-init
 loop-s-init c =
     record {
-      text = no_streams c.args.out.now c.args.base c.args.inputs.now c.args.at c.args.from c.args.first (omega (arith, c.requires.room));
+      text = no_streams c.args.out.now c.args.first.base c.args.inputs.now c.args.at c.args.first.from c.args.first.place (omega (arith, c.requires.room));
       taken = sym (taken_zero c.args.inputs.now c.args.at);
       given = sym (given_zero c.args.inputs.now c.args.at);
     }
 
-pub overflow_cast-given : goal.overflow_cast-given
-overflow_cast-given c = omega (arith, c.loop-s.invariant.given, given_upto c.args.inputs.now c.args.at c.loop-s.s c.loop-s-test.true, c.requires.places)
+pub overflow_cast-stream : goal.overflow_cast-stream
+overflow_cast-stream c = omega (arith, c.loop-s.invariant.given, given_upto c.args.inputs.now c.args.at c.loop-s.s c.loop-s-test.true, c.requires.places)
 
-pub overflow_add-first : goal.overflow_add-first
-overflow_add-first c = omega (arith, c.loop-s.invariant.given, given_upto c.args.inputs.now c.args.at c.loop-s.s c.loop-s-test.true, c.requires.places)
+pub overflow_add-stream-in-loop-s : goal.overflow_add-stream-in-loop-s
+overflow_add-stream-in-loop-s c = omega (arith, c.loop-s.invariant.given, given_upto c.args.inputs.now c.args.at c.loop-s.s c.loop-s-test.true, c.requires.places)
 
-pub overflow_add-base : goal.overflow_add-base
-overflow_add-base c = omega (arith, c.loop-s.invariant.given, given_upto c.args.inputs.now c.args.at c.loop-s.s c.loop-s-test.true, c.requires.places, c.requires.base)
+pub overflow_add-stream-in-loop-s-2 : goal.overflow_add-stream-in-loop-s-2
+overflow_add-stream-in-loop-s-2 c = omega (arith, c.loop-s.invariant.given, given_upto c.args.inputs.now c.args.at c.loop-s.s c.loop-s-test.true, c.requires.places, c.requires.base)
 
-pub overflow_add-from : goal.overflow_add-from
-overflow_add-from c = omega (arith, c.loop-s.invariant.taken, taken_upto c.args.inputs.now c.args.at c.loop-s.s c.loop-s-test.true, c.requires.taken, c.requires.fits.uniforms)
+pub overflow_add-stream : goal.overflow_add-stream
+overflow_add-stream c = omega (arith, c.loop-s.invariant.taken, taken_upto c.args.inputs.now c.args.at c.loop-s.s c.loop-s-test.true, c.requires.taken, c.requires.fits.uniforms)
 
 pub put_stream-amounts-requires-clause-room : goal.put_stream-amounts-requires-clause-room
 put_stream-amounts-requires-clause-room c = omega (arith, c.loop-s.invariant.given, c.loop-s.auto.out, given_upto c.args.inputs.now c.args.at c.loop-s.s c.loop-s-test.true, c.requires.room)
@@ -41,8 +41,8 @@ loop-s-preserved c =
     let input = c.args.inputs.now in
     let at = c.args.at in
     let s = c.loop-s.s in
-    let from = c.args.from in
-    let first = c.args.first in
+    let from = c.args.first.from in
+    let first = c.args.first.place in
     let given = c.loop-s.invariant.given in
     let rest = stream_text input (from + taken_before input at s) (first + given_before input at s) (shader_used input at s) in
     let same : stream_text input (from + c.loop-s.taken) (first + c.loop-s.given) (shader_used input at s) ≡ rest =
@@ -51,10 +51,10 @@ loop-s-preserved c =
     let long = length_stream input (from + taken_before input at s) (first + given_before input at s) (shader_used input at s) in
     record {
       text =
-          put_behind c.args.out.now c.args.base c.loop-s.given (streams_text input at from first s) rest c.loop-s.out c.put_stream-amounts.new.out c.loop-s.invariant.text
-          (length_streams input at from first s ∙ sym given) (c.put_stream-amounts.ensures.text ∙ ap (λ t. with_bytes c.loop-s.out (c.args.base + c.loop-s.given) t) same)
+          put_behind c.args.out.now c.args.first.base c.loop-s.given (streams_text input at from first s) rest c.loop-s.out c.put_stream-amounts.new.out c.loop-s.invariant.text
+          (length_streams input at from first s ∙ sym given) (c.put_stream-amounts.ensures.text ∙ ap (λ t. with_bytes c.loop-s.out (c.args.first.base + c.loop-s.given) t) same)
           (omega (arith, given, long, given_upto input at s c.loop-s-test.true, c.requires.room))
-          ∙ ap (λ t. with_bytes c.args.out.now c.args.base t) (sym (streams_more input at from first s));
+          ∙ ap (λ t. with_bytes c.args.out.now c.args.first.base t) (sym (streams_more input at from first s));
       taken = omega (arith, c.loop-s.invariant.taken, c.put_stream-amounts.ensures.taken, taken_next input at s);
       given = omega (arith, given, c.put_stream-amounts.ensures.given, given_next input at s);
     }

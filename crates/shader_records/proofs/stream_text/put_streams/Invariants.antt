@@ -7,7 +7,7 @@ use Rattle.shader_records.proofs.stream_text.put_streams.Given as goal
 abbrev pub invariant-loop-s : goal.invariant-loop-s
 invariant-loop-s l =
     record {
-      text : l.out ≡ with_bytes l.fn.out l.fn.base (streams_text l.fn.inputs l.fn.at l.fn.from l.fn.first l.s);
+      text : l.out ≡ with_bytes l.fn.out l.fn.first.base (streams_text l.fn.inputs l.fn.at l.fn.first.from l.fn.first.place l.s);
       taken : l.taken ≡ taken_before l.fn.inputs l.fn.at l.s;
       given : l.given ≡ given_before l.fn.inputs l.fn.at l.s;
     }

@@ -11,6 +11,6 @@ returns c =
     let new = c.copy_rows.new.target in
     let blank = c.deref_mut.ensures.value ∙ c.in_ok-target.ensures.items_if_clones_equal (λ y same. same) in
     let long : length new ≡ made.len = omega (arith, c.copy_rows.ensures.size, c.deref_mut.ensures.len) in
-    subst (IsCopy a.from a.to a.width a.height a.cpp a.source.now) (sym (take_at new (drop (length new) made.items) made.len long))
-    (copied_whole a.from a.to a.width a.height a.cpp c.picture_size.result a.source.now new c.picture_size.ensures.value
-    (subst (λ before. IsCopied a.from a.to a.width a.cpp a.source.now before new 0 a.height) blank c.copy_rows.ensures))
+    subst (IsCopy a.r.from a.r.to a.r.width a.r.height a.r.cpp a.source.now) (sym (take_at new (drop (length new) made.items) made.len long))
+    (copied_whole a.r.from a.r.to a.r.width a.r.height a.r.cpp c.picture_size.result a.source.now new c.picture_size.ensures.value
+    (subst (λ before. IsCopied a.r.from a.r.to a.r.width a.r.cpp a.source.now before new 0 a.r.height) blank c.copy_rows.ensures))

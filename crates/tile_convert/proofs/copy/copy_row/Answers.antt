@@ -19,30 +19,30 @@ moved source mid new a b c d m n first second third copied =
 
 pub copy_part-requires-clause-source : goal.copy_part-requires-clause-source
 copy_part-requires-clause-source c =
-    fits c.args.from c.args.width c.args.cpp c.loop-mx.mx c.args.y (length c.args.source.now) c.row_start-source_row.result c.part_offset.result
+    fits c.args.r.from c.args.r.width c.args.r.cpp c.loop-mx.mx c.args.y (length c.args.source.now) c.row_start-source_row.result c.part_offset.result
     c.pixels_there.result c.requires.source (omega (arith, c.parts_across-mx-end.ensures.value)) c.row_start-source_row.ensures.value c.part_offset.ensures.value
     c.pixels_there.ensures.value
 
 pub copy_part-requires-clause-target : goal.copy_part-requires-clause-target
 copy_part-requires-clause-target c =
-    fits c.args.to c.args.width c.args.cpp c.loop-mx.mx c.args.y (length c.loop-mx.target) c.row_start-target_row.result c.part_offset-in-loop-mx.result
-    c.pixels_there.result (subst (λ n. HasRow c.args.to c.args.width c.args.cpp c.args.y n) (sym c.loop-mx.auto.target) c.requires.target)
+    fits c.args.r.to c.args.r.width c.args.r.cpp c.loop-mx.mx c.args.y (length c.loop-mx.target) c.row_start-target_row.result c.part_offset-in-loop-mx.result
+    c.pixels_there.result (subst (λ n. HasRow c.args.r.to c.args.r.width c.args.r.cpp c.args.y n) (sym c.loop-mx.auto.target) c.requires.target)
     (omega (arith, c.parts_across-mx-end.ensures.value)) c.row_start-target_row.ensures.value c.part_offset-in-loop-mx.ensures.value c.pixels_there.ensures.value
 
 pub loop-mx-preserved : goal.loop-mx-preserved
 loop-mx-preserved c old before =
-    one_more c.args.from c.args.to c.args.width c.args.cpp c.loop-mx.mx c.args.y c.args.source.now old c.loop-mx.target c.copy_part.new.target c.requires.pixel
+    one_more c.args.r.from c.args.r.to c.args.r.width c.args.r.cpp c.loop-mx.mx c.args.y c.args.source.now old c.loop-mx.target c.copy_part.new.target c.requires.within.0
     (omega (arith, c.parts_across-mx-end.ensures.value))
     (moved c.args.source.now c.loop-mx.target c.copy_part.new.target _ _ _ _ _ _
     (omega (arith, c.row_start-source_row.ensures.value, c.part_offset.ensures.value))
     (omega (arith, c.row_start-target_row.ensures.value, c.part_offset-in-loop-mx.ensures.value))
-    (ap (λ m. m * c.args.cpp) c.pixels_there.ensures.value) c.copy_part.ensures)
+    (ap (λ m. m * c.args.r.cpp) c.pixels_there.ensures.value) c.copy_part.ensures)
     (c.loop-mx.invariant old before)
 
 pub returns : goal.returns
 returns c old before =
-    let end : c.loop-mx.mx ≡ parts_across c.args.width c.args.cpp = omega (arith, c.parts_across-mx-end.ensures.value) in
-    let all : min (c.loop-mx.mx * microtile_width_of c.args.cpp) c.args.width ≡ c.args.width =
-    ap (λ m. min (m * microtile_width_of c.args.cpp) c.args.width) end ∙ whole_row c.args.width c.args.cpp in
-    next_row c.args.from c.args.to c.args.width c.args.cpp c.args.y c.args.source.now old c.loop-mx.target
-    (subst (λ x. IsCopied c.args.from c.args.to c.args.width c.args.cpp c.args.source.now old c.loop-mx.target x c.args.y) all (c.loop-mx.invariant old before))
+    let end : c.loop-mx.mx ≡ parts_across c.args.r.width c.args.r.cpp = omega (arith, c.parts_across-mx-end.ensures.value) in
+    let all : min (c.loop-mx.mx * microtile_width_of c.args.r.cpp) c.args.r.width ≡ c.args.r.width =
+    ap (λ m. min (m * microtile_width_of c.args.r.cpp) c.args.r.width) end ∙ whole_row c.args.r.width c.args.r.cpp in
+    next_row c.args.r.from c.args.r.to c.args.r.width c.args.r.cpp c.args.y c.args.source.now old c.loop-mx.target
+    (subst (λ x. IsCopied c.args.r.from c.args.r.to c.args.r.width c.args.r.cpp c.args.source.now old c.loop-mx.target x c.args.y) all (c.loop-mx.invariant old before))

@@ -5,5 +5,5 @@ use Rattle.tile_convert.proofs.copy.copy_row.Given as goal
 
 abbrev pub invariant-loop-mx : goal.invariant-loop-mx
 invariant-loop-mx l =
-    (old : List ℕ) → IsCopied l.from l.to l.width l.cpp l.source old l.initial.target 0 l.y
-    → IsCopied l.from l.to l.width l.cpp l.source old l.target (min (l.mx * microtile_width_of l.cpp) l.width) l.y
+    (old : List ℕ) → IsCopied l.r.from l.r.to l.r.width l.r.cpp l.source old l.initial.target 0 l.y
+    → IsCopied l.r.from l.r.to l.r.width l.r.cpp l.source old l.target (min (l.mx * microtile_width_of l.r.cpp) l.r.width) l.y

@@ -10,8 +10,8 @@ copied-requires-clause-source c =
     ap (λ l. length l) c.level_part-part.ensures
     ∙ part_long c.args.bytes.now (level_place_of t c.args.face c.args.level) (size_at t c.args.level)
     (c.requires.inside.upto c.args.face c.args.level c.requires.face c.requires.level)
-    ∙ sym (computed_bytes t c.args.level c.level_tiling-tiling.result c.level_width-width.result c.level_height-height.result c.pixel_bytes-cpp.result
-    c.level_tiling-tiling.ensures c.level_width-width.ensures.value c.level_height-height.ensures.value c.pixel_bytes-cpp.ensures.value)
+    ∙ sym (computed_bytes t c.args.level c.level_tiling.result c.level_width.result c.level_height.result c.pixel_bytes.result
+    c.level_tiling.ensures c.level_width.ensures.value c.level_height.ensures.value c.pixel_bytes.ensures.value)
 
 pub returns : goal.returns
 returns c =
@@ -20,5 +20,5 @@ returns c =
     level_of_copy t c.args.face c.args.level c.args.bytes.now raster.items c.requires.inside.pixel
     (subst (λ part. IsCopy (Surface (tiling_at t c.args.level)) Rows (level_width_of t c.args.level) (level_height_of t c.args.level) t.cpp part raster.items)
     c.level_part-part.ensures
-    (computed_copy t c.args.level c.level_tiling-tiling.result c.level_width-width.result c.level_height-height.result c.pixel_bytes-cpp.result _ raster.items
-    c.level_tiling-tiling.ensures c.level_width-width.ensures.value c.level_height-height.ensures.value c.pixel_bytes-cpp.ensures.value copy))) c.copied.ensures
+    (computed_copy t c.args.level c.level_tiling.result c.level_width.result c.level_height.result c.pixel_bytes.result _ raster.items
+    c.level_tiling.ensures c.level_width.ensures.value c.level_height.ensures.value c.pixel_bytes.ensures.value copy))) c.copied.ensures

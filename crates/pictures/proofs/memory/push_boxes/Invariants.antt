@@ -1,7 +1,0 @@
-use Rattle.std.proofs.Common.{◌≡◌, ◌++◌}
-use Rattle.pictures.specs.Forest.{forest_text}
-use Rattle.pictures.specs.{Parts.each, Memory.box_part}
-use Rattle.pictures.proofs.memory.push_boxes.Given as goal
-
-abbrev pub invariant-loop-n : goal.invariant-loop-n
-invariant-loop-n l = l.out.items ≡ l.fn.out.items ++ forest_text (each (box_part l.memory l.regions l.buffers) l.n)
