@@ -9,7 +9,7 @@ use Rattle.script.specs.Lines.{before, lines_of, onto_line}
 use Rattle.job_text.proofs.Marks.{Free, free_append, free_before, free_by}
 use Rattle.job_text.specs.Made.{words_of, digits_read, size_named, word_by, word_read, words_read, line_read, part_read, stays_inside, lines_read, both, text_bytes, is_blank, past_blanks, says}
 use Rattle.job_text.specs.Meanings.{said_if}
-use Rattle.job_text.specs.Shown.{remark, is_in, is_past, reason_text, end_text, line_text, lines_text, text_shown}
+use Rattle.job_text.specs.Shown.{Look, remark, is_in, is_past, is_content, is_left_out, reason_text, end_text, whole_line, line_text, lines_text, text_shown}
 use Rattle.job_text.specs.{declared.note.Note.Note, declared.note.Note.TheVariants.Unread, declared.note.Piece.Piece}
 
 before_mark : (mark : ℕ) (xs rest : List ℕ) → Free mark xs → before mark (xs ++ mark ∷ rest) ≡ xs
@@ -134,16 +134,15 @@ free_mark : (is : Bool) → Free 10 (said_if is (codes " <== refused here"))
 free_mark true = free_by 10 (codes " <== refused here") refl
 free_mark false = tt
 
-line_again : (n at b : ℕ) (bytes rest why : List ℕ) (note : Note) (refused : Option ℕ) → IsBytes (b ∷ bytes)
-    → lines_read n false (lines_of (line_text at (b ∷ bytes) note refused why ++ rest))
-    ≡ both (Ok (b ∷ bytes)) (lines_read (n + 1) false (lines_of (reason_text (is_in at (length (b ∷ bytes)) refused) why ++ rest)))
-unfolding line_text end_text remark
-line_again n at b bytes rest why note refused fits =
+line_again : (look : Look) (n at b : ℕ) (bytes rest : List ℕ) (note : Note) (is : Bool) → IsBytes (b ∷ bytes)
+    → lines_read n false (lines_of (whole_line look at (b ∷ bytes) note is ++ rest))
+    ≡ both (Ok (b ∷ bytes)) (lines_read (n + 1) false (lines_of (reason_text is look.why ++ rest)))
+unfolding whole_line end_text remark
+line_again look n at b bytes rest note is fits =
     let digits = encode_lower (b ∷ bytes) in
-    let is = is_in at (length (b ∷ bytes)) refused in
-    let r = remark at (b ∷ bytes) note in
+    let r = remark look.omitted at (b ∷ bytes) note in
     let m = said_if is (codes " <== refused here") in
-    let w = reason_text is why in
+    let w = reason_text is look.why in
     let line = digits ++ (codes "  # " ++ (r ++ m)) in
     let free_note : Free 10 (r ++ m) = free_append 10 r m (free_before 10 _) (free_mark is) in
     let no_feed : Free 10 line =
@@ -156,6 +155,12 @@ line_again n at b bytes rest why note refused fits =
     ∙ ap (lines_read n false) (lines_line line (w ++ rest) no_feed)
     ∙ plain_line n line (lines_of (w ++ rest)) (digits_plain b bytes (codes "  # " ++ (r ++ m)) fits)
     ∙ ap (λ x. both x (lines_read (n + 1) false (lines_of (w ++ rest)))) read
+
+-- nothing is left out where contents aren't
+line_kept : (look : Look) (at b : ℕ) (bytes : List ℕ) (note : Note) → look.omitted.contents ≡ false
+    → line_text look at (b ∷ bytes) note ≡ whole_line look at (b ∷ bytes) note (is_in at (length (b ∷ bytes)) look.refused)
+unfolding line_text is_left_out
+line_kept look at b bytes note all = rw all refl
 
 -- the reason holds no bytes
 reason_again : (n : ℕ) (is : Bool) (why more rest : List ℕ)
@@ -172,14 +177,16 @@ reason_again n true why more rest later =
     ∙ ap (both (Ok [])) (later (n + 1))
 
 -- the lines of some bytes, and of the bytes behind them
-piece_again : (n at : ℕ) (bytes more rest why : List ℕ) (note : Note) (refused : Option ℕ) → IsBytes bytes
+piece_again : (look : Look) (n at : ℕ) (bytes more rest : List ℕ) (note : Note) → look.omitted.contents ≡ false → IsBytes bytes
     → ((m : ℕ) → lines_read m false (lines_of rest) ≡ Ok more)
-    → lines_read n false (lines_of (line_text at bytes note refused why ++ rest)) ≡ Ok (bytes ++ more)
+    → lines_read n false (lines_of (line_text look at bytes note ++ rest)) ≡ Ok (bytes ++ more)
 unfolding line_text
-piece_again n at [] more rest why note refused fits later = later n
-piece_again n at (b ∷ bytes) more rest why note refused fits later =
-    line_again n at b bytes rest why note refused fits
-    ∙ ap (both (Ok (b ∷ bytes))) (reason_again (n + 1) (is_in at (length (b ∷ bytes)) refused) why more rest later)
+piece_again look n at [] more rest note all fits later = later n
+piece_again look n at (b ∷ bytes) more rest note all fits later =
+    let is = is_in at (length (b ∷ bytes)) look.refused in
+    ap (λ t. lines_read n false (lines_of (t ++ rest))) (line_kept look at b bytes note all)
+    ∙ line_again look n at b bytes rest note is fits
+    ∙ ap (both (Ok (b ∷ bytes))) (reason_again (n + 1) is look.why more rest later)
 
 bytes_take : (n : ℕ) (bytes : List ℕ) → IsBytes bytes → IsBytes (take n bytes)
 bytes_take zero bytes fits k = omega arith
@@ -197,19 +204,19 @@ halves zero bytes = refl
 halves (suc n) [] = refl
 halves (suc n) (b ∷ bytes) = ap (λ l. b ∷ l) (halves n bytes)
 
-lines_again : (pieces : List Piece) (n at : ℕ) (bytes rest why : List ℕ) (refused : Option ℕ) → IsBytes bytes
+lines_again : (look : Look) (pieces : List Piece) (n at : ℕ) (bytes rest : List ℕ) → look.omitted.contents ≡ false → IsBytes bytes
     → ((m : ℕ) → lines_read m false (lines_of rest) ≡ Ok [])
-    → lines_read n false (lines_of (lines_text at bytes pieces refused why ++ rest)) ≡ Ok bytes
+    → lines_read n false (lines_of (lines_text look at bytes pieces ++ rest)) ≡ Ok bytes
 unfolding lines_text
-lines_again [] n at bytes rest why refused fits later =
-    piece_again n at bytes [] rest why Unread refused fits later ∙ ap (λ (l : List ℕ). Ok l) (append-nil bytes)
-lines_again (piece ∷ pieces) n at bytes rest why refused fits later =
+lines_again look [] n at bytes rest all fits later =
+    piece_again look n at bytes [] rest Unread all fits later ∙ ap (λ (l : List ℕ). Ok l) (append-nil bytes)
+lines_again look (piece ∷ pieces) n at bytes rest all fits later =
     let front = take piece.size bytes in
     let back = drop piece.size bytes in
-    let others = lines_text (at + length front) back pieces refused why in
-    ap (λ t. lines_read n false (lines_of t)) (append_assoc (line_text at front piece.note refused why) others rest)
-    ∙ piece_again n at front back (others ++ rest) why piece.note refused (bytes_take piece.size bytes fits)
-    (λ m. lines_again pieces m (at + length front) back rest why refused (bytes_drop piece.size bytes fits) later)
+    let others = lines_text look (at + length front) back pieces in
+    ap (λ t. lines_read n false (lines_of t)) (append_assoc (line_text look at front piece.note) others rest)
+    ∙ piece_again look n at front back (others ++ rest) piece.note all (bytes_take piece.size bytes fits)
+    (λ m. lines_again look pieces m (at + length front) back rest all (bytes_drop piece.size bytes fits) later)
     ∙ ap (λ (l : List ℕ). Ok l) (halves piece.size bytes)
 
 -- the reason at the end holds none either
@@ -218,10 +225,10 @@ unfolding lines_read lines_of
 last_again n is why =
     ap (λ t. lines_read n false (lines_of t)) (sym (append-nil (reason_text is why))) ∙ reason_again n is why [] [] (λ m. refl)
 
-pub shown_again : (bytes text why : List ℕ) (pieces : List Piece) (refused : Option ℕ) → IsBytes bytes
-    → text ≡ text_shown bytes pieces refused why → text_bytes text ≡ Ok bytes
+pub shown_again : (look : Look) (bytes text : List ℕ) (pieces : List Piece) → look.omitted.contents ≡ false → IsBytes bytes
+    → text ≡ text_shown look bytes pieces → text_bytes text ≡ Ok bytes
 unfolding text_shown
-shown_again bytes text why pieces refused fits is =
+shown_again look bytes text pieces all fits is =
+    let past = is_past (length bytes) look.refused in
     ap text_bytes is
-    ∙ lines_again pieces 1 0 bytes (reason_text (is_past (length bytes) refused) why) why refused fits
-    (λ m. last_again m (is_past (length bytes) refused) why)
+    ∙ lines_again look pieces 1 0 bytes (reason_text past look.why) all fits (λ m. last_again m past look.why)

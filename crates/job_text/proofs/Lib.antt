@@ -4,5 +4,6 @@ pub mod FieldSteps
 pub mod Marks
 pub mod Pieces
 pub mod Steps
+pub mod Taking
 pub mod Texts
 pub mod WordSteps

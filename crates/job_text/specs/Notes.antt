@@ -25,13 +25,23 @@ abbrev pub value_text : Meaning → ℕ → List ℕ
 value_text Plain number = float_text number
 value_text meaning number = []
 
--- which shader takes a uniform, and what it makes of it
-unfoldable pub meant_text : ℕ → Stage → Meaning → List ℕ
-meant_text k stage meaning = codes "; record " ++ (decimal k ++ (codes " " ++ (stage_name stage ++ (codes ": " ++ meaning_text meaning))))
+-- which of the uniforms that the shader's instructions take it is, where it is one
+abbrev pub own_text : Option ℕ → List ℕ
+own_text None = []
+own_text (Some own) = codes " uniform " ++ decimal own
 
--- an instruction as assembler text and as familiar text, and the uniform that it takes
+-- which shader takes a uniform, as which of its own, and what it makes of it
+unfoldable pub meant_text : ℕ → Stage → Option ℕ → Meaning → List ℕ
+meant_text k stage own meaning =
+    codes "; record " ++ (decimal k ++ (codes " " ++ (stage_name stage ++ (own_text own ++ (codes ": " ++ meaning_text meaning)))))
+
+-- an instruction as familiar text, and the uniform that it takes
+unfoldable pub description : ℕ → Option ℕ → List ℕ
+description word uniform = familiar_text word ++ taken_text uniform
+
+-- as assembler text, and so
 unfoldable pub instruction_text : ℕ → Option ℕ → List ℕ
-instruction_text word uniform = word_text word ++ (codes " | " ++ (familiar_text word ++ taken_text uniform))
+instruction_text word uniform = word_text word ++ (codes " | " ++ description word uniform)
 
 -- the number of a buffer's instruction
 unfoldable pub numbered_text : ℕ → ℕ → List ℕ
@@ -55,8 +65,8 @@ note_text (Packet j buffer) bytes = listed_text j buffer bytes
 note_text (BehindHalt j) bytes = of_job j (codes "binner list: behind the halt")
 note_text (Records j) bytes = of_job j (codes "shader records")
 note_text (Uniform j i) bytes = number_note j (codes "uniform ") i (codes ": ") bytes
-note_text (Taken j i k stage meaning) bytes =
-    number_note j (codes "uniform ") i (codes ": ") bytes ++ (value_text meaning (u32_at bytes 0) ++ meant_text k stage meaning)
+note_text (Taken j i k stage own meaning) bytes =
+    number_note j (codes "uniform ") i (codes ": ") bytes ++ (value_text meaning (u32_at bytes 0) ++ meant_text k stage own meaning)
 note_text (Data b) bytes = codes "buffer " ++ (decimal b ++ codes " content")
 note_text (Instruction b i uniform) bytes = numbered_text b i ++ instruction_text (u64_at bytes 0) uniform
 note_text Unread bytes = codes "unread"

@@ -5,8 +5,8 @@ use Rattle.job_text.specs.declared.fault.Mistake.TheVariants.{WrongCharacter, Lo
 use Rattle.job_text.specs.declared.fault.Mistake.{Mistake}
 
 abbrev pub sentence_of : Mistake → List ℕ
-sentence_of WrongCharacter = codes "here stands neither a hexadecimal digit nor a blank"
-sentence_of LoneDigit = codes "a byte has two hexadecimal digits"
+sentence_of WrongCharacter = codes "here may stand two hexadecimal digits a byte, u8:, u16: or u32: and a number, asm, or # and a note"
+sentence_of LoneDigit = codes "here may stand two hexadecimal digits a byte, u8:, u16: or u32: and a number, asm, or # and a note"
 sentence_of WrongNumber = codes "a number is decimal, or 0x and hexadecimal digits, and fits in its bytes"
 sentence_of NoEnd = codes "no line behind asm says end"
 sentence_of LongBlock = codes "assembler text has fewer than 4294967295 bytes"

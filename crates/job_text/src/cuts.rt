@@ -4,7 +4,7 @@ use crate::cutting::{Job, Pieces, part_at, word};
 use crate::note::{Cut, Field, Note, Part, Role};
 use crate::streams::known_shaders;
 use field_words::{NoMemory, get_u16};
-use job_format::{ENTRY_SIZE, HEADER_SIZE, JOB_SIZE};
+use job_format::{ENTRY_SIZE, HEADER_SIZE, JOB_SIZE, MOST_BUFFERS};
 use qpu_isa::ShaderInfo;
 use std::alloc::{AllocError, Global};
 
@@ -104,6 +104,18 @@ fn job_at<'a>(bytes: &'a [u8], number: u32, entry: usize, at: &mut usize) -> Job
     }
 }
 
+// How many of so many entries of a size begin in a file, from an offset on.
+fn entries_in(bytes: &[u8], first: usize, size: usize, count: u32) -> u32 {
+    let mut at = first;
+    for number in 0..count {
+        if at >= bytes.len() {
+            return number;
+        }
+        at = at.saturating_add(size);
+    }
+    count
+}
+
 // Where the handles of the first job begin, where the first content begins at an offset.
 fn contents_end(bytes: &[u8], buffers: u32, start: usize) -> usize {
     let mut at = start;
@@ -139,11 +151,11 @@ impl Pieces {
     fn push_content(&mut self, bytes: &[u8], buffer: u32, at: usize) -> Result<usize, AllocError> {
         let entry = HEADER_SIZE + ENTRY_SIZE * buffer as usize;
         let size = word(bytes, entry + 16) as usize;
+        let content = part_at(bytes, at, size);
         if word(bytes, entry + 12) == 1 {
-            let code = part_at(bytes, at, size);
-            self.cuts.push(Cut::Code(buffer, code.len()))?;
+            self.cuts.push(Cut::Code(buffer, content.len()))?;
         } else {
-            self.left = size;
+            self.left = content.len();
             self.push_all(32, Note::Data(buffer))?;
         }
         Ok(at.saturating_add(size))
@@ -171,20 +183,21 @@ impl Pieces {
         Ok(())
     }
 
-    // Appends the entries, and says where the parts end. The first content begins at an offset.
+    // Appends the entries of so many buffers and those of the jobs, as far as the file goes, and says where the parts end. The first
+    // content begins at an offset.
     fn push_entries<'a>(
         &mut self,
         bytes: &'a [u8],
         jobs: &mut Vec<Job<'a>>,
+        buffers: u32,
         start: usize,
     ) -> Result<usize, AllocError> {
-        let buffers = word(bytes, 28);
-        let first = HEADER_SIZE + ENTRY_SIZE * buffers as usize;
+        let first = HEADER_SIZE + ENTRY_SIZE * word(bytes, 28) as usize;
         for buffer in 0..buffers {
             self.push_fields(Part::Buffer(buffer), &BUFFER)?;
         }
         let mut at = contents_end(bytes, buffers, start);
-        for number in 0..word(bytes, 32) {
+        for number in 0..entries_in(bytes, first, JOB_SIZE, word(bytes, 32)) {
             let job = job_at(bytes, number, first + JOB_SIZE * number as usize, &mut at);
             self.push_job(job)?;
             jobs.push(job)?;
@@ -192,19 +205,13 @@ impl Pieces {
         Ok(at)
     }
 
-    // Appends what follows the header.
+    // Appends what follows the header, as far as the file goes.
     fn push_rest(&mut self, alloc: Global, bytes: &[u8]) -> Result<(), NoMemory> {
-        let buffers = word(bytes, 28);
-        let entries = HEADER_SIZE + ENTRY_SIZE * buffers as usize;
+        let entries = HEADER_SIZE + ENTRY_SIZE * word(bytes, 28) as usize;
         let start = entries + JOB_SIZE * word(bytes, 32) as usize;
-        if start > bytes.len() {
-            return self.push_unread(bytes, HEADER_SIZE);
-        }
+        let buffers = entries_in(bytes, HEADER_SIZE, ENTRY_SIZE, word(bytes, 28));
         let mut jobs = Vec::new(alloc);
-        let end = self.push_entries(bytes, &mut jobs, start)?;
-        if end > bytes.len() {
-            return self.push_unread(bytes, start);
-        }
+        let end = self.push_entries(bytes, &mut jobs, buffers, start)?;
         let mut at = start;
         for buffer in 0..buffers {
             at = self.push_content(bytes, buffer, at)?;
@@ -217,14 +224,15 @@ impl Pieces {
     }
 }
 
-/// The parts of a file, in order.
+/// The parts of a file, in order, as far as it goes. Behind the header of one that claims more buffers than a file may have, nothing is
+/// read.
 pub(crate) fn cuts_of(alloc: Global, bytes: &[u8]) -> Result<Vec<Cut>, NoMemory> {
     let mut out = Pieces {
         cuts: Vec::new(alloc),
         left: usize::MAX,
     };
     out.push_fields(Part::Header, &HEADER)?;
-    if bytes.len() < HEADER_SIZE {
+    if word(bytes, 28) > MOST_BUFFERS {
         out.push_unread(bytes, HEADER_SIZE)?;
     } else {
         out.push_rest(alloc, bytes)?;

@@ -27,8 +27,8 @@ impl Mistake {
         ensures { result.now ≡ sentence_of self }
     {
         match self {
-            Mistake::WrongCharacter => "here stands neither a hexadecimal digit nor a blank",
-            Mistake::LoneDigit => "a byte has two hexadecimal digits",
+            Mistake::WrongCharacter | Mistake::LoneDigit =>
+                "here may stand two hexadecimal digits a byte, u8:, u16: or u32: and a number, asm, or # and a note",
             Mistake::WrongNumber =>
                 "a number is decimal, or 0x and hexadecimal digits, and fits in its bytes",
             Mistake::NoEnd => "no line behind asm says end",

@@ -1,6 +1,6 @@
 //! What a line says of an instruction.
 ghost use Rattle.std.specs.Prelude.{◌≡◌, ◌++◌, OnOk};
-ghost use Rattle.job_text.specs.Notes.{taken_text, instruction_text, numbered_text};
+ghost use Rattle.job_text.specs.Notes.{taken_text, description, instruction_text, numbered_text};
 
 use crate::numbers::put_number;
 use qpu_asm::put_word;
@@ -20,6 +20,19 @@ fn put_taken(out: &mut Vec<u8>, uniform: Option<usize>) -> Result<(), AllocError
     }
 }
 
+/// Appends an instruction as familiar text, and the uniform that it takes.
+#[tactic(auto, unfolding(crate::specs::Notes::description))]
+pub(crate) fn put_description(
+    out: &mut Vec<u8>,
+    word: u64,
+    uniform: Option<usize>,
+) -> Result<(), AllocError>
+    ensures { OnOk result (out.new.items ≡ out.old.items ++ description word uniform) }
+{
+    put_familiar(out, word)?;
+    put_taken(out, uniform)
+}
+
 /// Appends an instruction as assembler text and as familiar text, and the uniform that it takes.
 #[tactic(auto, unfolding(crate::specs::Notes::instruction_text))]
 pub(crate) fn put_instruction(
@@ -31,8 +44,7 @@ pub(crate) fn put_instruction(
 {
     put_word(out, word)?;
     out.extend_from_slice(b" | ")?;
-    put_familiar(out, word)?;
-    put_taken(out, uniform)
+    put_description(out, word, uniform)
 }
 
 /// Appends the number of a buffer's instruction.

@@ -108,13 +108,19 @@ pub(crate) fn put_of_job(out: &mut Vec<u8>, job: u32, text: &[u8]) -> Result<(),
     out.extend_from_slice(text)
 }
 
-// Appends a job's number, that of a record of it, and what is said of a part of it.
+/// Appends a job's number, the name and the number of a thing of which it has several, and what is said of a part of that.
 #[tactic(auto, unfolding(crate::specs::Names::of_job))]
-fn put_of_record(out: &mut Vec<u8>, job: u32, index: usize, text: &[u8]) -> Result<(), AllocError>
+pub(crate) fn put_counted(
+    out: &mut Vec<u8>,
+    job: u32,
+    name: &[u8],
+    index: usize,
+    text: &[u8],
+) -> Result<(), AllocError>
     ensures { OnOk result (out.new.items ≡ out.old.items
-        ++ of_job job (codes "record " ++ (decimal index ++ text.now))) }
+        ++ of_job job (name.now ++ (decimal index ++ text.now))) }
 {
-    put_of_job(out, job, b"record ")?;
+    put_of_job(out, job, name)?;
     put_number(out, index)?;
     out.extend_from_slice(text)
 }
@@ -125,7 +131,7 @@ fn put_stage(out: &mut Vec<u8>, job: u32, index: usize, stage: Stage) -> Result<
     ensures { OnOk result (out.new.items ≡ out.old.items
         ++ part_text (Part.Shader job index stage)) }
 {
-    put_of_record(out, job, index, b" ")?;
+    put_counted(out, job, b"record ", index, b" ")?;
     out.extend_from_slice(stage_name(stage).as_bytes())
 }
 
@@ -140,7 +146,7 @@ fn put_attribute(
     ensures { OnOk result (out.new.items ≡ out.old.items
         ++ part_text (Part.Attribute job index attribute)) }
 {
-    put_of_record(out, job, index, b" attribute ")?;
+    put_counted(out, job, b"record ", index, b" attribute ")?;
     put_number(out, attribute)
 }
 
@@ -159,10 +165,7 @@ pub(crate) fn put_part(out: &mut Vec<u8>, part: Part) -> Result<(), AllocError>
             put_number(out, j as usize)
         }
         Part::Surface(j, role) => put_of_job(out, j, role_name(role).as_bytes()),
-        Part::Record(j, k) => {
-            put_of_job(out, j, b"record ")?;
-            put_number(out, k)
-        }
+        Part::Record(j, k) => put_counted(out, j, b"record ", k, b""),
         Part::Shader(j, k, stage) => put_stage(out, j, k, stage),
         Part::Attribute(j, k, t) => put_attribute(out, j, k, t),
     }

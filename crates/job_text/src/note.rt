@@ -102,8 +102,8 @@ pub enum Meaning {
 
 /// What some bytes are. The first number is that of the job, or of the buffer for `Data` and `Instruction`; the second
 /// counts handles, uniforms and instructions. The buffer that a handle names stands last, and the uniform that an instruction
-/// takes. A surface's bits have the frame's width and height, and a uniform the record, the shader, and what that makes of it,
-/// where these are known.
+/// takes. A surface's bits have the frame's width and height, and a uniform the record, the shader, its number among those that the
+/// shader's instructions take, if it is one of them, and what the shader makes of it, where these are known.
 #[derive(Clone, Copy, Debug, PartialEq, Eq)]
 pub enum Note {
     Number(Part, Field),
@@ -114,7 +114,7 @@ pub enum Note {
     BehindHalt(u32),
     Records(u32),
     Uniform(u32, usize),
-    Taken(u32, usize, usize, Stage, Meaning),
+    Taken(u32, usize, usize, Stage, Option<usize>, Meaning),
     Data(u32),
     Instruction(u32, usize, Option<usize>),
     Unread,

@@ -1,11 +1,11 @@
 //! What a line says of its bytes.
-ghost use Rattle.std.specs.Prelude.{◌≡◌, ◌++◌, drop, OnOk};
-ghost use Rattle.job_text.specs.Notes.{number_note, value_text, field_text, meant_text, listed_text, note_text};
+ghost use Rattle.std.specs.Prelude.{◌≡◌, ◌++◌, codes, drop, OnOk};
+ghost use Rattle.job_text.specs.Notes.{number_note, value_text, field_text, own_text, meant_text, listed_text, note_text};
 
 use crate::floats::put_float;
 use crate::instructions::{put_instruction, put_numbered};
 use crate::meanings::{bits_style, put_size};
-use crate::names::{put_named, put_of_job, put_part, stage_name};
+use crate::names::{put_counted, put_named, put_of_job, put_part, stage_name};
 use crate::note::{Field, Meaning, Note, Part, Stage};
 use crate::numbers::{byte_at, instruction, number, put_number};
 use crate::rows::{put_packet_row, put_valued};
@@ -21,21 +21,23 @@ fn put_field(out: &mut Vec<u8>, part: Part, field: Field, bytes: &[u8]) -> Resul
     put_valued(out, field, bytes)
 }
 
+// Appends the number of a handle's buffer.
 #[tactic(auto, unfolding(crate::specs::Names::of_job, crate::specs::Notes::number_note))]
-fn put_counted(
-    out: &mut Vec<u8>,
-    job: u32,
-    name: &[u8],
-    count: usize,
-    what: &[u8],
-    bytes: &[u8],
-) -> Result<(), AllocError>
+fn put_handle(out: &mut Vec<u8>, job: u32, index: usize, bytes: &[u8]) -> Result<(), AllocError>
     ensures { OnOk result (out.new.items ≡ out.old.items
-        ++ number_note job name.now count what.now bytes.now) }
+        ++ number_note job (codes "handle ") index (codes ": buffer ") bytes.now) }
 {
-    put_of_job(out, job, name)?;
-    put_number(out, count)?;
-    out.extend_from_slice(what)?;
+    put_counted(out, job, b"handle ", index, b": buffer ")?;
+    put_number(out, number(bytes) as usize)
+}
+
+// Appends a uniform's number.
+#[tactic(auto, unfolding(crate::specs::Names::of_job, crate::specs::Notes::number_note))]
+fn put_uniform(out: &mut Vec<u8>, job: u32, index: usize, bytes: &[u8]) -> Result<(), AllocError>
+    ensures { OnOk result (out.new.items ≡ out.old.items
+        ++ number_note job (codes "uniform ") index (codes ": ") bytes.now) }
+{
+    put_counted(out, job, b"uniform ", index, b": ")?;
     put_number(out, number(bytes) as usize)
 }
 
@@ -49,20 +51,34 @@ fn put_value(out: &mut Vec<u8>, meaning: Meaning, number: u32) -> Result<(), All
     }
 }
 
-// Appends which shader takes a uniform, and what it makes of it.
+// Appends which of a shader's uniforms it is, where it is one.
+fn put_own(out: &mut Vec<u8>, own: Option<usize>) -> Result<(), AllocError>
+    ensures { OnOk result (out.new.items ≡ out.old.items ++ own_text own) }
+{
+    if let Some(own) = own {
+        out.extend_from_slice(b" uniform ")?;
+        put_number(out, own)?;
+    }
+    Ok(())
+}
+
+// Appends which shader takes a uniform, as which of its own, and what it makes of it.
 #[tactic(auto, unfolding(crate::specs::Notes::meant_text))]
 fn put_meant(
     out: &mut Vec<u8>,
     number: usize,
     stage: Stage,
+    own: Option<usize>,
     meaning: Meaning,
 ) -> Result<(), AllocError>
-    ensures { OnOk result (out.new.items ≡ out.old.items ++ meant_text number stage meaning) }
+    ensures { OnOk result (out.new.items
+        ≡ out.old.items ++ meant_text number stage own meaning) }
 {
     out.extend_from_slice(b"; record ")?;
     put_number(out, number)?;
     out.extend_from_slice(b" ")?;
     out.extend_from_slice(stage_name(stage).as_bytes())?;
+    put_own(out, own)?;
     out.extend_from_slice(b": ")?;
     put_use(out, meaning)?;
     Ok(())
@@ -108,15 +124,15 @@ pub(crate) fn put_note(out: &mut Vec<u8>, note: Note, bytes: &[u8]) -> Result<()
             put_field(out, part, field, bytes)?;
             put_size(out, bits_style(field, number(bytes)), width, height)?
         }
-        Note::Handle(job, index) => put_counted(out, job, b"handle ", index, b": buffer ", bytes)?,
+        Note::Handle(job, index) => put_handle(out, job, index, bytes)?,
         Note::Packet(job, buffer) => put_packet(out, job, buffer, bytes)?,
         Note::BehindHalt(job) => put_of_job(out, job, b"binner list: behind the halt")?,
         Note::Records(job) => put_of_job(out, job, b"shader records")?,
-        Note::Uniform(job, index) => put_counted(out, job, b"uniform ", index, b": ", bytes)?,
-        Note::Taken(job, index, record, stage, meaning) => {
-            put_counted(out, job, b"uniform ", index, b": ", bytes)?;
+        Note::Uniform(job, index) => put_uniform(out, job, index, bytes)?,
+        Note::Taken(job, index, record, stage, own, meaning) => {
+            put_uniform(out, job, index, bytes)?;
             put_value(out, meaning, number(bytes))?;
-            put_meant(out, record, stage, meaning)?
+            put_meant(out, record, stage, own, meaning)?
         }
         Note::Data(buffer) => {
             out.extend_from_slice(b"buffer ")?;

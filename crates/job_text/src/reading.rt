@@ -9,7 +9,7 @@ use crate::blocks::{put_block, says};
 use crate::fault::{MakeFault, Mistake};
 use crate::words::{most_of, next_word, number_named, size_named};
 use field_words::Stop;
-use script::{cut_at, next_line};
+use script::{Cut, cut_at, next_line};
 use std::alloc::Global;
 
 pub(crate) fn digit_value(character: u8) -> Option<u8>
@@ -128,28 +128,28 @@ fn put_line(out: &mut Vec<u8>, line: usize, text: &[u8]) -> Result<(), Stop<Make
     Ok(())
 }
 
-// Appends what a line gives, behind which these lines come: nothing if it is assembler text, of which `asm` gave the bytes.
+// Appends what the first line of a text gives: nothing if it is assembler text, of which `asm` gave the bytes.
 #[tactic(auto, unfolding(crate::specs::Made::part_read))]
 fn put_part(
     alloc: Global,
     out: &mut Vec<u8>,
     line: usize,
     inside: bool,
-    text: &[u8],
-    lines: &[u8],
+    text: Cut<'_>,
 ) -> Result<(), Stop<MakeFault>>
     requires { line ≤ 2 ^ 63 }
     ensures bytes { IfOk result (λ _. both (Ok out.old.items)
-        (part_read line inside text.now (lines_of lines.now)) ≡ Ok out.new.items) }
-    ensures fault { IfErr result (IsFaultOf (part_read line inside text.now (lines_of lines.now))) }
+        (part_read line inside text.entry.first.now (lines_of text.entry.rest.now)) ≡ Ok out.new.items) }
+    ensures fault { IfErr result
+        (IsFaultOf (part_read line inside text.entry.first.now (lines_of text.entry.rest.now))) }
 {
     if inside {
         return Ok(());
     }
-    if says(b"asm", text) {
-        return put_block(alloc, out, line, lines);
+    if says(b"asm", text.first) {
+        return put_block(alloc, out, line, text.rest);
     }
-    put_line(out, line, text)
+    put_line(out, line, text.first)
 }
 
 // Whether the line behind this one is assembler text.
@@ -177,7 +177,7 @@ pub fn make(alloc: Global, text: &[u8]) -> Result<Vec<u8>, Stop<MakeFault>>
     let mut inside = false;
     while !rest.is_empty() {
         let cut = next_line(rest);
-        put_part(alloc, &mut out, line, inside, cut.first, cut.rest)?;
+        put_part(alloc, &mut out, line, inside, cut)?;
         inside = stays_inside(inside, cut.first);
         line += 1;
         rest = cut.rest;

@@ -41,67 +41,82 @@ fn put_fields(out: &mut Vec<u8>, fields: &[Field], bytes: &[u8]) -> Result<(), A
     Ok(())
 }
 
-// The name of the packet of an opcode, and the fields behind the opcode, in order.
+const INDEXED_PRIMITIVES: [Field; 4] = [
+    Field::IndexMode,
+    Field::Length,
+    Field::Address,
+    Field::MaxIndex,
+];
+
+const WINDOW: [Field; 4] = [
+    Field::ClipLeft,
+    Field::ClipBottom,
+    Field::Width,
+    Field::Height,
+];
+
+const BINNING: [Field; 6] = [
+    Field::ListsAddress,
+    Field::ListsBytes,
+    Field::StatesAddress,
+    Field::TilesAcross,
+    Field::TilesDown,
+    Field::BinnerFlags,
+];
+
+// The name of the packet of an opcode.
 #[tactic(auto, unfolding(crate::specs::Rows::packet_row))]
-fn packet_row(opcode: u8) -> (&'static str, &'static [Field])
-    ensures name { result.0.now ≡ (packet_row opcode).0 }
-    ensures fields { result.1.now ≡ (packet_row opcode).1 }
+fn packet_name(opcode: u8) -> &'static str
+    ensures { result.now ≡ (packet_row opcode).0 }
 {
     match opcode {
-        HALT => ("halt", &[]),
-        NOP => ("nop", &[]),
-        FLUSH => ("flush", &[]),
-        START_TILE_BINNING => ("start of tile binning", &[]),
-        INCREMENT_SEMAPHORE => ("increment of the semaphore", &[]),
-        INDEXED_PRIMITIVE_LIST => (
-            "indexed primitive list",
-            &[
-                Field::IndexMode,
-                Field::Length,
-                Field::Address,
-                Field::MaxIndex,
-            ],
-        ),
-        ARRAY_PRIMITIVE_LIST => (
-            "array primitive list",
-            &[Field::PrimitiveMode, Field::Length, Field::FirstIndex],
-        ),
-        PRIMITIVE_LIST_FORMAT => ("primitive list format", &[Field::ListFormat]),
-        GL_SHADER_STATE => ("GL shader state", &[Field::StateWord]),
-        CONFIGURATION_BITS => ("configuration bits", &[Field::ConfigurationBits]),
-        FLAT_SHADE_FLAGS => ("flat shade flags", &[Field::FlatFlags]),
-        POINT_SIZE => ("point size", &[Field::PointWidth]),
-        LINE_WIDTH => ("line width", &[Field::PointWidth]),
-        RHT_X_BOUNDARY => ("right hand triangle x boundary", &[Field::Boundary]),
-        DEPTH_OFFSET => ("depth offset", &[Field::DepthFactor, Field::DepthUnits]),
-        CLIP_WINDOW => (
-            "clip window",
-            &[
-                Field::ClipLeft,
-                Field::ClipBottom,
-                Field::Width,
-                Field::Height,
-            ],
-        ),
-        VIEWPORT_OFFSET => ("viewport offset", &[Field::CenterX, Field::CenterY]),
-        CLIPPER_XY_SCALING => ("clipper xy scaling", &[Field::ScaleX, Field::ScaleY]),
-        CLIPPER_Z_SCALING => ("clipper z scaling", &[Field::ScaleZ, Field::OffsetZ]),
-        TILE_BINNING_MODE => (
-            "tile binning mode configuration",
-            &[
-                Field::ListsAddress,
-                Field::ListsBytes,
-                Field::StatesAddress,
-                Field::TilesAcross,
-                Field::TilesDown,
-                Field::BinnerFlags,
-            ],
-        ),
-        BUFFER_HANDLES => (
-            "buffer handles",
-            &[Field::IndexHandle, Field::FurtherHandle],
-        ),
-        _ => ("no packet", &[]),
+        HALT => "halt",
+        NOP => "nop",
+        FLUSH => "flush",
+        START_TILE_BINNING => "start of tile binning",
+        INCREMENT_SEMAPHORE => "increment of the semaphore",
+        INDEXED_PRIMITIVE_LIST => "indexed primitive list",
+        ARRAY_PRIMITIVE_LIST => "array primitive list",
+        PRIMITIVE_LIST_FORMAT => "primitive list format",
+        GL_SHADER_STATE => "GL shader state",
+        CONFIGURATION_BITS => "configuration bits",
+        FLAT_SHADE_FLAGS => "flat shade flags",
+        POINT_SIZE => "point size",
+        LINE_WIDTH => "line width",
+        RHT_X_BOUNDARY => "right hand triangle x boundary",
+        DEPTH_OFFSET => "depth offset",
+        CLIP_WINDOW => "clip window",
+        VIEWPORT_OFFSET => "viewport offset",
+        CLIPPER_XY_SCALING => "clipper xy scaling",
+        CLIPPER_Z_SCALING => "clipper z scaling",
+        TILE_BINNING_MODE => "tile binning mode configuration",
+        BUFFER_HANDLES => "buffer handles",
+        _ => "no packet",
+    }
+}
+
+// The fields behind an opcode, in order.
+#[tactic(auto, unfolding(crate::specs::Rows::packet_row))]
+fn packet_fields(opcode: u8) -> &'static [Field]
+    ensures { result.now ≡ (packet_row opcode).1 }
+{
+    match opcode {
+        INDEXED_PRIMITIVE_LIST => &INDEXED_PRIMITIVES,
+        ARRAY_PRIMITIVE_LIST => &[Field::PrimitiveMode, Field::Length, Field::FirstIndex],
+        PRIMITIVE_LIST_FORMAT => &[Field::ListFormat],
+        GL_SHADER_STATE => &[Field::StateWord],
+        CONFIGURATION_BITS => &[Field::ConfigurationBits],
+        FLAT_SHADE_FLAGS => &[Field::FlatFlags],
+        POINT_SIZE | LINE_WIDTH => &[Field::PointWidth],
+        RHT_X_BOUNDARY => &[Field::Boundary],
+        DEPTH_OFFSET => &[Field::DepthFactor, Field::DepthUnits],
+        CLIP_WINDOW => &WINDOW,
+        VIEWPORT_OFFSET => &[Field::CenterX, Field::CenterY],
+        CLIPPER_XY_SCALING => &[Field::ScaleX, Field::ScaleY],
+        CLIPPER_Z_SCALING => &[Field::ScaleZ, Field::OffsetZ],
+        TILE_BINNING_MODE => &BINNING,
+        BUFFER_HANDLES => &[Field::IndexHandle, Field::FurtherHandle],
+        _ => &[],
     }
 }
 
@@ -110,8 +125,7 @@ fn packet_row(opcode: u8) -> (&'static str, &'static [Field])
 pub(crate) fn put_packet_row(out: &mut Vec<u8>, opcode: u8, bytes: &[u8]) -> Result<(), AllocError>
     ensures { OnOk result (out.new.items ≡ out.old.items ++ packet_text opcode bytes.now) }
 {
-    let (name, fields) = packet_row(opcode);
-    out.extend_from_slice(name.as_bytes())?;
-    put_fields(out, fields, bytes)?;
+    out.extend_from_slice(packet_name(opcode).as_bytes())?;
+    put_fields(out, packet_fields(opcode), bytes)?;
     Ok(())
 }

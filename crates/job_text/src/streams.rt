@@ -144,10 +144,15 @@ impl Pieces {
         if stream.len() / 4 < total {
             return Ok(false);
         }
-        let mut number = at / 4;
-        for meaning in &meanings_of(alloc, job, info, stream)? {
-            self.push(4, Note::Taken(job.number, number, user.0, user.1, *meaning))?;
-            number = number.saturating_add(1);
+        let before = info.samples.len();
+        let meanings = meanings_of(alloc, job, info, stream)?;
+        for (index, meaning) in meanings.iter().enumerate() {
+            let number = (at / 4).saturating_add(index);
+            let own = index.checked_sub(before);
+            self.push(
+                4,
+                Note::Taken(job.number, number, user.0, user.1, own, *meaning),
+            )?;
         }
         Ok(true)
     }

@@ -1,7 +1,7 @@
 //! A file as text.
-ghost use Rattle.std.specs.Prelude.{◌≡◌, ◌≤◌, ◌<◌, ◌^◌, ◌+◌, ◌++◌, length, List, IfOk, OnOk, Ok};
+ghost use Rattle.std.specs.Prelude.{◌≡◌, ◌<◌, ◌^◌, ◌+◌, ◌++◌, false, length, List, IfOk, OnOk, Ok};
 ghost use Rattle.job_text.specs.declared.note.Piece.{Piece as PieceModel};
-ghost use Rattle.job_text.specs.Shown.{remark, is_in, is_past, reason_text, end_text, line_text, text_shown};
+ghost use Rattle.job_text.specs.Shown.{offset_text, remark, is_in, reason_text, end_text, whole_line, line_text, look_of, text_shown};
 ghost use Rattle.job_text.specs.Cuts.{AreLines, AreAllLines};
 ghost use Rattle.job_text.specs.Made.{text_bytes};
 
@@ -11,6 +11,7 @@ use crate::meanings::put_if;
 use crate::note::{Cut, Note};
 use crate::notes::put_note;
 use crate::numbers::{instruction, put_number};
+use crate::view::{Omitted, View};
 use field_words::NoMemory;
 use script::cut_at;
 use std::alloc::{AllocError, Global};
@@ -18,44 +19,40 @@ use std::alloc::{AllocError, Global};
 /// How many bytes a remark has at most, as a rule.
 const USUAL_REMARK: usize = 128;
 
+// Some bytes of a file, and their offset in it.
+#[derive(Clone, Copy)]
+struct Span<'a> {
+    at: usize,
+    bytes: &'a [u8],
+}
+
+#[tactic(auto, unfolding(crate::specs::Shown::offset_text))]
+fn put_offset(out: &mut Vec<u8>, omitted: Omitted, at: usize) -> Result<(), AllocError>
+    ensures { OnOk result (out.new.items ≡ out.old.items ++ offset_text omitted at) }
+{
+    if omitted.offsets {
+        return Ok(());
+    }
+    put_number(out, at)?;
+    out.extend_from_slice(b" ")
+}
+
 // Writes the offset of bytes and what they are, up to a line's end.
 #[tactic(auto, unfolding(crate::specs::Shown::remark))]
 fn put_remark(
     alloc: Global,
     out: &mut Vec<u8>,
-    at: usize,
-    bytes: &[u8],
+    omitted: Omitted,
+    span: Span<'_>,
     note: Note,
 ) -> Result<(), AllocError>
-    ensures { OnOk result (out.new.items ≡ out.old.items ++ remark at bytes.now note) }
+    ensures { OnOk result (out.new.items
+        ≡ out.old.items ++ remark omitted span.entry.at span.entry.bytes.now note) }
 {
     let mut said = Vec::with_capacity(alloc, USUAL_REMARK)?;
-    put_number(&mut said, at)?;
-    said.push(b' ')?;
-    put_note(&mut said, note, bytes)?;
+    put_offset(&mut said, omitted, span.at)?;
+    put_note(&mut said, note, span.bytes)?;
     out.extend_from_slice(cut_at(&said, b'\n').first)
-}
-
-// Whether the offset of a refusal lies in so many bytes from another on.
-#[tactic(auto, unfolding(crate::specs::Shown::is_in))]
-fn is_in(at: usize, count: usize, refused: Option<u64>) -> bool
-    ensures { result ≡ is_in at count refused }
-{
-    match refused {
-        None => false,
-        Some(offset) => at as u64 <= offset && offset - (at as u64) < count as u64,
-    }
-}
-
-// Whether the offset of a refusal lies in none of so many bytes.
-#[tactic(auto, unfolding(crate::specs::Shown::is_past))]
-fn is_past(count: usize, refused: Option<u64>) -> bool
-    ensures { result ≡ is_past count refused }
-{
-    match refused {
-        None => false,
-        Some(offset) => count as u64 <= offset,
-    }
 }
 
 #[tactic(auto, unfolding(crate::specs::Shown::reason_text))]
@@ -80,52 +77,67 @@ fn put_end(out: &mut Vec<u8>, is: bool, why: &[u8]) -> Result<(), AllocError>
     put_reason(out, is, why)
 }
 
-#[tactic(auto, unfolding(crate::specs::Shown::line_text), using(crate::proofs::Texts::four_parts))]
+// Writes the line of bytes, and the reason where they are refused.
+#[tactic(auto, unfolding(crate::specs::Shown::whole_line), using(crate::proofs::Texts::four_parts))]
+fn put_whole_line(
+    alloc: Global,
+    out: &mut Vec<u8>,
+    span: Span<'_>,
+    note: Note,
+    view: View<'_>,
+) -> Result<(), NoMemory>
+    ensures { OnOk result (out.new.items ≡ out.old.items
+        ++ whole_line (look_of view.entry) span.entry.at span.entry.bytes.now note
+        (is_in span.entry.at (length span.entry.bytes.now) view.entry.refused)) }
+{
+    let refused = view.is_refused_in(span.at, span.bytes.len());
+    let digits = hex::encode(alloc, span.bytes)?;
+    out.extend_from_slice(digits.as_bytes())?;
+    out.extend_from_slice(b"  # ")?;
+    put_remark(alloc, out, view.omitted, span, note)?;
+    put_end(out, refused, view.why)?;
+    Ok(())
+}
+
+#[tactic(auto, unfolding(crate::specs::Shown::line_text))]
 fn put_line(
     alloc: Global,
     out: &mut Vec<u8>,
-    at: usize,
-    bytes: &[u8],
+    span: Span<'_>,
     note: Note,
-    refused: Option<u64>,
-    why: &[u8],
+    view: View<'_>,
 ) -> Result<(), NoMemory>
     ensures { OnOk result (out.new.items ≡ out.old.items
-        ++ line_text at bytes.now note refused why.now) }
+        ++ line_text (look_of view.entry) span.entry.at span.entry.bytes.now note) }
 {
-    if bytes.is_empty() {
+    let refused = view.is_refused_in(span.at, span.bytes.len());
+    if span.bytes.is_empty() || view.leaves_out(note, refused) {
         return Ok(());
     }
-    let digits = hex::encode(alloc, bytes)?;
-    out.extend_from_slice(digits.as_bytes())?;
-    out.extend_from_slice(b"  # ")?;
-    put_remark(alloc, out, at, bytes, note)?;
-    put_end(out, is_in(at, bytes.len(), refused), why)?;
-    Ok(())
+    put_whole_line(alloc, out, span, note, view)
 }
 
 // Writes the lines of a buffer's code, one for each instruction.
 fn put_code(
     alloc: Global,
     out: &mut Vec<u8>,
-    at: usize,
-    code: &[u8],
+    code: Span<'_>,
     buffer: u32,
-    refused: Option<u64>,
-    why: &[u8],
+    view: View<'_>,
 ) -> Result<(), NoMemory>
-    requires { at + length code.now < 2 ^ 64 }
-    ensures { OnOk result (AreLines out.old.items out.new.items at code.now refused why.now) }
+    requires { code.at + length code.bytes.now < 2 ^ 64 }
+    ensures { OnOk result (AreLines (look_of view.entry) out.old.items out.new.items
+        code.entry.at code.entry.bytes.now) }
 {
     let mut now = Taking::default();
-    let mut rest = code;
+    let mut rest = code.bytes;
     let mut number = 0;
     while !rest.is_empty() {
         let (front, back) = rest.split_at(rest.len().min(8));
-        let place = at + (code.len() - rest.len());
+        let at = code.at + (code.bytes.len() - rest.len());
         let word = instruction(front);
         let note = Note::Instruction(buffer, number, uniform_of(now, word));
-        put_line(alloc, out, place, front, note, refused, why)?;
+        put_line(alloc, out, Span { at, bytes: front }, note, view)?;
         now = next(now, word);
         number += 1;
         rest = back;
@@ -136,21 +148,20 @@ fn put_code(
 fn put_cut(
     alloc: Global,
     out: &mut Vec<u8>,
-    at: usize,
-    bytes: &[u8],
+    span: Span<'_>,
     cut: Cut,
-    refused: Option<u64>,
-    why: &[u8],
+    view: View<'_>,
 ) -> Result<(), NoMemory>
-    requires { at + length bytes.now < 2 ^ 64 }
-    ensures { OnOk result (AreLines out.old.items out.new.items at bytes.now refused why.now) }
+    requires { span.at + length span.bytes.now < 2 ^ 64 }
+    ensures { OnOk result (AreLines (look_of view.entry) out.old.items out.new.items
+        span.entry.at span.entry.bytes.now) }
 {
     match cut {
         Cut::Line(piece) => {
-            put_line(alloc, out, at, bytes, piece.note, refused, why)?;
+            put_line(alloc, out, span, piece.note, view)?;
             Ok(())
         }
-        Cut::Code(buffer, _) => put_code(alloc, out, at, bytes, buffer, refused, why),
+        Cut::Code(buffer, _) => put_code(alloc, out, span, buffer, view),
     }
 }
 
@@ -160,42 +171,38 @@ fn put_lines(
     out: &mut Vec<u8>,
     bytes: &[u8],
     cuts: &[Cut],
-    refused: Option<u64>,
-    why: &[u8],
+    view: View<'_>,
 ) -> Result<(), NoMemory>
-    ensures { OnOk result (AreAllLines out.old.items out.new.items bytes.now refused why.now) }
+    ensures { OnOk result
+        (AreAllLines (look_of view.entry) out.old.items out.new.items bytes.now) }
 {
     let mut rest = bytes;
     let mut at = 0;
     for cut in cuts {
         let (front, back) = rest.split_at(cut.size().min(rest.len()));
-        put_cut(alloc, out, at, front, *cut, refused, why)?;
+        put_cut(alloc, out, Span { at, bytes: front }, *cut, view)?;
         at += front.len();
         rest = back;
     }
-    put_line(alloc, out, at, rest, Note::Unread, refused, why)?;
+    put_line(alloc, out, Span { at, bytes: rest }, Note::Unread, view)?;
     Ok(())
 }
 
-/// Any bytes as lines of text: on each line some of them in hexadecimal, a `#`, their offset and what they are, if they are a
-/// job file. All bytes stand on the lines, in order and each once, so that `make` gives them back. Where they are refused at an
-/// offset, its line is marked and the reason follows, up to its first line feed, on a line of its own; or it stands at the end,
-/// where the offset is no byte's. Which lines a file has isn't pinned: the clauses hold for any cut into pieces. Want of memory
-/// is the only error.
-#[tactic(auto, unfolding(crate::specs::Shown::text_shown), using(crate::proofs::Again::shown_again))]
-pub fn show(
-    alloc: Global,
-    bytes: &[u8],
-    refused: Option<u64>,
-    why: &[u8],
-) -> Result<Vec<u8>, NoMemory>
+/// Any bytes as lines of text: on each line some of them in hexadecimal, a `#`, their offset and what they are, as far as they
+/// are a job file. All bytes stand on the lines, in order and each once, so that `make` gives them back; unless contents are left out.
+/// Where they are refused at an offset, its line is marked and the reason follows, up to its first line feed, on a line of its own; or
+/// it stands at the end, where the offset is no byte's. Which lines a file has isn't pinned: the clauses hold for any cut into pieces.
+/// Want of memory is the only error.
+#[tactic(auto, unfolding(crate::specs::Shown::text_shown))]
+pub fn show(alloc: Global, bytes: &[u8], view: View<'_>) -> Result<Vec<u8>, NoMemory>
     ensures text { IfOk result (λ text. (pieces : List PieceModel)
-        × (text.items ≡ text_shown bytes.now pieces refused why.now)) }
-    ensures again { IfOk result (λ text. text_bytes text.items ≡ Ok bytes.now) }
+        × (text.items ≡ text_shown (look_of view.entry) bytes.now pieces)) }
+    ensures again { IfOk result (λ text. view.entry.omitted.contents ≡ false
+        → text_bytes text.items ≡ Ok bytes.now) }
 {
     let cuts = cuts_of(alloc, bytes)?;
     let mut out = Vec::new(alloc);
-    put_lines(alloc, &mut out, bytes, &cuts, refused, why)?;
-    put_reason(&mut out, is_past(bytes.len(), refused), why)?;
+    put_lines(alloc, &mut out, bytes, &cuts, view)?;
+    put_reason(&mut out, view.is_refused_past(bytes.len()), view.why)?;
     Ok(out)
 }
