@@ -1,6 +1,6 @@
 -- The rules of a family, one by one.
 use Rattle.std.proofs.Common.{◌≡◌, ℕ, suc, ◌+◌, [], ◌++◌, refl, sym, subst, add-one}
-use Rattle.rule_words.specs.declared.name.{Family.Family, RuleName.RuleName}
+use Rattle.rule_words.specs.declared.name.{Family.Family}
 use Rattle.commands.specs.Topics.{rule_row, rows_upto}
 
 pub rows_none : (family : Family) → rows_upto family 0 ≡ []

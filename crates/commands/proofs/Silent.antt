@@ -1,5 +1,5 @@
 -- Where a run ends with such a status, a person reads nothing of the input.
-use Rattle.std.proofs.Common.{◌≡◌, ℕ, Bool, true, false, refl, sym, ap, ◌∙◌}
+use Rattle.std.proofs.Common.{◌≡◌, ℕ, true, false, refl, sym, ap, ◌∙◌}
 use Rattle.std.proofs.lemmas.{Bool.true≢false}
 use Rattle.commands.specs.{declared.command.Command.Command, Cause.is_reported}
 

@@ -1,5 +1,5 @@
 -- Why a command refuses, as a person reads it, or the notes of a shader that it accepts: a function of the refusal and of what was read.
-use Rattle.std.specs.Prelude.{◌≡◌, ℕ, ◌*◌, ◌%◌, ◌==◌, Bool, true, false, ◌&&◌, ◌||◌, List, ◌++◌, codes, length, nat_le, slice_index, option_map, Option, Some, None, Result, Ok, Err, if◌then◌else◌, decimal}
+use Rattle.std.specs.Prelude.{◌≡◌, ℕ, ◌%◌, ◌==◌, Bool, true, false, ◌&&◌, ◌||◌, List, [], ◌++◌, codes, length, nat_le, slice_index, option_map, Option, Some, None, Result, Ok, Err, if◌then◌else◌, decimal}
 use Rattle.field_words.specs.{Questions.first_of, Sizes.most_words}
 use Rattle.job_format.specs.{declared.rule.Refusal.Refusal, declared.rule.Stage.TheVariants.S, declared.rule.Stage.TheVariants.U, declared.rule.Stage.TheVariants.E}
 use Rattle.job_check.specs.{Shaders.code_questions, Shaders.words_of, Whole.refusal_of}
@@ -7,12 +7,14 @@ use Rattle.job_text.specs.{declared.fault.MakeFault.MakeFault, Made.text_bytes, 
 use Rattle.qpu_asm.specs.{declared.fault.AsmFault.AsmFault, Assembly.Assembled, Place.fault_place, Place.wanted_text}
 use Rattle.qpu_asm.specs.{declared.place.FaultPlace.FaultPlace, declared.place.Opcode.TheVariants.Nop, declared.place.Wanted.Wanted}
 use Rattle.qpu_asm.specs.declared.place.Wanted.TheVariants.{Item}
+use Rattle.rule_words.specs.declared.name.Family.{Family}
 use Rattle.rule_words.specs.declared.name.Family.TheVariants.{Kind as KindFamily, Check as StageFamily, V as LevelFamily}
-use Rattle.rule_words.specs.{declared.line.Line.Line, declared.name.RuleName.RuleName, Line.line_text, Line.IsLineOf}
+use Rattle.refusal_facts.specs.Line.{line_text, line_of}
+use Rattle.rule_words.specs.declared.name.RuleName.{RuleName}
 use Rattle.rule_words.specs.Names.{name_text, sentence_of}
 use Rattle.commands.specs.declared.answer.Answer.{Answer}
 use Rattle.commands.specs.declared.cause.Cause.TheVariants.{Rule, Kind, Mistake, Shader as ShaderCause, Long, Call, Part, Size, Level as LevelCause, Notes, Words}
-use Rattle.commands.specs.declared.command.Command.TheVariants.{StrictCheck, Upgrade, Show, StrictShow, FromText, Asm, Disasm, Shader, ShaderText, StrictShader, StrictShaderText, Slots, Queue, Session, Untile, Tile, Level}
+use Rattle.commands.specs.declared.command.Command.TheVariants.{StrictCheck, Verdict, StrictVerdict, Upgrade, Show, FromText, Asm, Disasm, NotedDisasm, Shader, ShaderText, StrictShader, StrictShaderText, Slots, Queue, Session, Untile, Tile, Level}
 use Rattle.commands.specs.{declared.cause.Cause.Cause, declared.command.Command.Command, declared.surfaces.TexturePart.TexturePart}
 use Rattle.commands.specs.declared.scripts.Script.TheVariants.{Slots as OfSlots, Queue as OfQueue, Session as OfSession}
 use Rattle.commands.specs.{declared.scripts.Script.Script, Scripts.calls_text, Upgrade.format_rules, WordFault.word_fault_text}
@@ -23,7 +25,7 @@ use Rattle.strict_check.specs.Whole.{strict_refusal_of}
 use Rattle.job_queue.specs.Calls.{fault_line as queue_fault}
 use Rattle.job_session.specs.Calls.{fault_line as session_fault}
 use Rattle.overflow_slots.specs.Calls.{fault_line as slots_fault}
-use Rattle.texture_layouts.specs.Surface.{size_for}
+use Rattle.tile_convert.specs.Picture.{surface_bytes, pixel_bytes}
 use Rattle.tile_convert.specs.declared.level.LevelFault.TheVariants.{Texture, Face, Level as NoLevel}
 use Rattle.tile_convert.specs.{Level.level_questions, declared.level.LevelFault.LevelFault}
 
@@ -59,11 +61,19 @@ shader_rule fault = record { family = StageFamily S; number = fault.number }
 abbrev pub strict_rule : StrictFault → RuleName
 strict_rule fault = record { family = StageFamily E; number = number_of fault.rule }
 
+-- how text is read, where bytes are no whole words
+abbrev pub hint_by : Family → ℕ → List ℕ
+hint_by (StageFamily S) number = if number == 1 then codes "; shader text is read with --asm" else []
+hint_by family number = []
+
+unfoldable pub text_hint : RuleName → List ℕ
+text_hint name = hint_by name.family name.number
+
 -- "vc4check: S24: SENTENCE (instruction 12); see vc4check explain S24"
 unfoldable pub shader_line : RuleName → ℕ → List ℕ
 shader_line name index =
     codes "vc4check: " ++ (name_text name ++ (codes ": " ++ (sentence_of name ++ (codes " (instruction "
-    ++ (decimal index ++ (codes "); see vc4check explain " ++ name_text name))))))
+    ++ (decimal index ++ (codes "); see vc4check explain " ++ (name_text name ++ text_hint name)))))))
 
 unfoldable pub long_line : ℕ → List ℕ
 long_line count = codes "vc4check: the shader has " ++ (decimal count ++ codes " instructions, of which it may have 8192")
@@ -110,10 +120,9 @@ cause_text (Words fault) = word_fault_text fault
 abbrev pub IsRefusal : List ℕ → Option Cause → Answer → Type 0
 IsRefusal text cause answer = (answer.status ≡ 1) × (answer.text.items ≡ text) × (answer.cause ≡ cause)
 
--- A file that a rule refuses is reported by a line of that refusal, and an accepted one by none.
-abbrev pub IsRuleCause : List ℕ → Option Refusal → Option Cause → Type 0
-IsRuleCause bytes None cause = cause ≡ None
-IsRuleCause bytes (Some refusal) cause = (line : Line) × (cause ≡ Some (Rule line)) × IsLineOf bytes refusal line
+-- the line of the first broken rule of these bytes, if any
+abbrev pub rule_cause : List ℕ → Option Refusal → Option Cause
+rule_cause bytes = option_map (λ refusal. Rule (line_of bytes refusal))
 
 -- the first fault of an assembler's text, and where on its line it stands
 abbrev pub kind_cause : List ℕ → Result (List ℕ) AsmFault → Option Cause
@@ -182,13 +191,15 @@ level_fault part bytes = first_of (level_questions (slice_index part.setup 0) (s
 
 -- Why each command refuses its input, or the notes of a shader; None where there are neither.
 abbrev pub IsCause : Command → List ℕ → Option Cause → Type 0
-IsCause StrictCheck bytes cause = IsRuleCause bytes (strict_refusal_of bytes) cause
-IsCause Upgrade bytes cause = IsRuleCause bytes (first_of (format_rules bytes)) cause
-IsCause Show bytes cause = cause ≡ None
-IsCause StrictShow bytes cause = cause ≡ None
+IsCause StrictCheck bytes cause = cause ≡ rule_cause bytes (strict_refusal_of bytes)
+IsCause Upgrade bytes cause = cause ≡ rule_cause bytes (first_of (format_rules bytes))
+IsCause (Verdict form) bytes cause = cause ≡ None
+IsCause (StrictVerdict form) bytes cause = cause ≡ None
+IsCause (Show showing) bytes cause = cause ≡ None
 IsCause FromText bytes cause = cause ≡ mistake_cause (text_bytes bytes)
 IsCause Asm bytes cause = cause ≡ kind_cause bytes (Assembled bytes)
 IsCause Disasm bytes cause = cause ≡ part_cause (length bytes)
+IsCause NotedDisasm bytes cause = cause ≡ part_cause (length bytes)
 IsCause Shader bytes cause = cause ≡ shader_cause_of (words_of bytes) (first_of (code_questions bytes))
 IsCause ShaderText bytes cause = cause ≡ text_cause bytes (Assembled bytes)
 IsCause StrictShader bytes cause = cause ≡ strict_cause_of (words_of bytes) (first_of (code_questions bytes))
@@ -196,10 +207,10 @@ IsCause StrictShaderText bytes cause = cause ≡ strict_text_cause bytes (Assemb
 IsCause (Slots slots) bytes cause = cause ≡ option_map (Call OfSlots) (slots_fault bytes)
 IsCause (Queue buffers) bytes cause = cause ≡ option_map (Call OfQueue) (queue_fault bytes)
 IsCause Session bytes cause = cause ≡ option_map (Call OfSession) (session_fault bytes)
-IsCause (Untile p) bytes cause = cause ≡ size_cause (length bytes) (size_for p.tiling p.width p.height p.cpp)
-IsCause (Tile p) bytes cause = cause ≡ size_cause (length bytes) (p.width * p.height * p.cpp)
+IsCause (Untile p) bytes cause = cause ≡ size_cause (length bytes) (surface_bytes p)
+IsCause (Tile p) bytes cause = cause ≡ size_cause (length bytes) (pixel_bytes p)
 IsCause (Level part) bytes cause = cause ≡ option_map (λ fault. LevelCause (level_rule fault)) (level_fault part bytes)
-IsCause command bytes cause = IsRuleCause bytes (refusal_of bytes) cause
+IsCause command bytes cause = cause ≡ rule_cause bytes (refusal_of bytes)
 
 -- A person learns something of a refusal, and of a shader that is accepted.
 abbrev pub gives_notes : Command → Bool

@@ -1,6 +1,6 @@
 -- Options: words that begin with a dash, and which of them a wrong one is near to.
 use Rattle.std.specs.Prelude.{ℕ, ◌==◌, ◌&&◌, nat_le, Bool, List, [], ◌∷◌, codes, Option, Some, None, if◌then◌else◌}
-use Rattle.commands.specs.declared.choice.Choice.TheVariants.{Help, Version, Output, Strict, Asm, Favour, Accesses, Seeds, Run, List as ListOption}
+use Rattle.commands.specs.declared.choice.Choice.TheVariants.{Help, Version, Output, Strict, Quiet, Json, NoContent, Asm, Notes, Favour, Accesses, Seeds, Run, List as ListOption}
 use Rattle.commands.specs.declared.help.Verb.TheVariants as verb
 use Rattle.commands.specs.{declared.choice.Choice.Choice, declared.help.Verb.Verb}
 
@@ -10,7 +10,11 @@ choice_text Help = codes "--help"
 choice_text Version = codes "--version"
 choice_text Output = codes "-o"
 choice_text Strict = codes "--strict"
+choice_text Quiet = codes "--quiet"
+choice_text Json = codes "--json"
+choice_text NoContent = codes "--no-content"
 choice_text Asm = codes "--asm"
+choice_text Notes = codes "--notes"
 choice_text Favour = codes "--favour"
 choice_text Accesses = codes "--accesses"
 choice_text Seeds = codes "--seeds"
@@ -43,7 +47,10 @@ common letter = if letter == 111 then Output else Help
 
 -- the command's option that begins with this letter
 unfoldable pub nearest : Verb → ℕ → Choice
-nearest verb.Check letter = if letter == 115 then Strict else common letter
+nearest verb.Check letter =
+    if letter == 115 then Strict else (if letter == 113 then Quiet else (if letter == 106 then Json else common letter))
+nearest verb.Show letter = if letter == 115 then Strict else (if letter == 110 then NoContent else common letter)
+nearest verb.Disasm letter = if letter == 110 then Notes else common letter
 nearest verb.Shader letter = if letter == 115 then Strict else (if letter == 97 then Asm else common letter)
 nearest verb.Replay letter =
     if letter == 102 then Favour else (if letter == 97 then Accesses else (if letter == 115 then Seeds else common letter))

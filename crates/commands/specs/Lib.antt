@@ -3,8 +3,10 @@ pub mod Cause
 pub mod Choice
 pub mod Headline
 pub mod Image
+pub mod Json
 pub mod Line
 pub mod LoneShader
+pub mod Names
 pub mod Notice
 pub mod Pictures
 pub mod Reply

@@ -112,6 +112,10 @@ module _ {R : Type 0} where
   abbrev pub option : List ℕ → (Line → Result R WordFault) → (Line → Result R WordFault) → Line → Result R WordFault
   option word with without line = if begins word line then with (behind line) else without line
 
+  -- whether the next word is this one, and what is read behind it
+  abbrev pub flag : List ℕ → (Bool → Line → Result R WordFault) → Line → Result R WordFault
+  flag word next line = next (begins word line) (if begins word line then behind line else line)
+
   -- what the words ask for, where no word is left
   abbrev pub ended_by : R → Verb → ℕ → List (List ℕ) → Result R WordFault
   ended_by asked verb count [] = Ok asked

@@ -1,12 +1,12 @@
 -- Pictures: the words that name one, and what commands on them answer.
-use Rattle.std.specs.Prelude.{◌≡◌, ◌≢◌, ◌⊎◌, ℕ, ◌≤◌, ◌*◌, ◌==◌, ◌||◌, List, ◌++◌, codes, length, slice_index, bytes_eq, Option, Some, None, if◌then◌else◌, decimal}
+use Rattle.std.specs.Prelude.{◌≡◌, ◌≢◌, ◌⊎◌, ℕ, ◌==◌, ◌||◌, List, ◌++◌, codes, length, slice_index, bytes_eq, Option, Some, None, if◌then◌else◌, decimal}
 use Rattle.field_words.specs.Questions.{first_of}
-use Rattle.texture_layouts.specs.{declared.surface.Tiling.Tiling, Surface.IsPixelSize, Surface.size_for, Setup.texture_of}
+use Rattle.texture_layouts.specs.{declared.surface.Tiling.Tiling, Setup.texture_of}
 use Rattle.texture_layouts.specs.declared.surface.Tiling.TheVariants.{T, Lt}
 use Rattle.tile_convert.specs.declared.level.LevelFault.TheVariants.{Texture, Face, Level}
 use Rattle.tile_convert.specs.{declared.level.LevelFault.LevelFault, Level.level_questions, Level.IsLevelPicture}
-use Rattle.tile_convert.specs.Picture.{IsPicture, IsSurface}
-use Rattle.commands.specs.{declared.surfaces.Picture.Picture, declared.surfaces.TexturePart.TexturePart}
+use Rattle.tile_convert.specs.{declared.order.Picture.Picture, Picture.surface_bytes, Picture.pixel_bytes, Picture.IsPicture, Picture.IsSurface}
+use Rattle.commands.specs.declared.surfaces.TexturePart.{TexturePart}
 
 abbrev pub tiling_named : List ℕ → Option Tiling
 tiling_named word = if bytes_eq word (codes "t") then Some T else (if bytes_eq word (codes "lt") then Some Lt else None)
@@ -18,13 +18,6 @@ pixel_of cpp = if (cpp == 1) || ((cpp == 2) || ((cpp == 4) || (cpp == 8))) then 
 abbrev pub pixel_by : Option ℕ → Option ℕ
 pixel_by None = None
 pixel_by (Some cpp) = pixel_of cpp
-
--- a side has 1 to so many pixels
-abbrev pub most_side : ℕ
-most_side = 4096
-
-abbrev pub IsPictureWithin : Picture → Type 0
-IsPictureWithin p = IsPixelSize p.cpp × (p.width ≤ most_side) × (p.height ≤ most_side)
 
 -- a line for a length that isn't the wanted one
 unfoldable pub length_wanted_text : ℕ → ℕ → List ℕ
@@ -39,11 +32,11 @@ IsSizedAnswer bytes wanted IsOut status out =
 -- A surface is answered with its pixels by rows, and rows of pixels with their surface, which is zero where no pixel lies.
 abbrev pub IsUntileAnswer : Picture → List ℕ → ℕ → List ℕ → Type 0
 IsUntileAnswer p bytes status out =
-    IsSizedAnswer bytes (size_for p.tiling p.width p.height p.cpp) (IsPicture p.tiling p.width p.height p.cpp bytes) status out
+    IsSizedAnswer bytes (surface_bytes p) (IsPicture p bytes) status out
 
 abbrev pub IsTileAnswer : Picture → List ℕ → ℕ → List ℕ → Type 0
 IsTileAnswer p bytes status out =
-    IsSizedAnswer bytes (p.width * p.height * p.cpp) (IsSurface p.tiling p.width p.height p.cpp bytes) status out
+    IsSizedAnswer bytes (pixel_bytes p) (IsSurface p bytes) status out
 
 -- a line for the rule that refuses a level
 unfoldable pub level_refusal : LevelFault → List ℕ

@@ -85,7 +85,7 @@ pub record Promises : Type 0 where
   pub ends : AcceptedEnd
   -- The file that `upgrade` writes is refused, or accepted and run, as the one that it read.
   pub upgrade : UpgradeKeepsAll
-  -- What `make` answers to a text that `show` wrote is the bytes that `show` read.
+  -- What `make` answers to a text that `show` wrote, contents and all, is the bytes that `show` read.
   pub makes_again : MakesAgain
   -- What `session` answers to a script is the replies to its calls, one by one.
   pub scripts : ScriptsAreOfCalls

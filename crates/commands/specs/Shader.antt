@@ -2,7 +2,7 @@
 use Rattle.std.specs.Prelude.{◌≡◌, ◌≢◌, ◌⊎◌, ℕ, ◌%◌, List, ◌++◌, Ok, Err, codes, length}
 use Rattle.std.specs.{List.flat_map, Fmt.decimal, Int.to_le_bytes, Int.w64}
 use Rattle.job_check.specs.Shaders.{words_of}
-use Rattle.qpu_asm.specs.{declared.fault.AsmFault.AsmFault, Assembly.Assembled, Printed.AsmText}
+use Rattle.qpu_asm.specs.{declared.fault.AsmFault.AsmFault, Assembly.Assembled}
 
 -- words as bytes, 8 each, the lowest first
 unfoldable pub bytes_of : List ℕ → List ℕ
@@ -22,8 +22,8 @@ IsAsmAnswer text status out =
     ((words : List ℕ) × (Assembled text ≡ Ok words) × (status ≡ 0) × (out ≡ bytes_of words))
     ⊎ ((fault : AsmFault) × (Assembled text ≡ Err fault) × (status ≡ 1) × (out ≡ fault_text fault))
 
--- Whole words are answered with their text, any other length by naming it.
-abbrev pub IsDisasmAnswer : List ℕ → ℕ → List ℕ → Type 0
-IsDisasmAnswer bytes status out =
-    ((length bytes % 8 ≡ 0) × (status ≡ 0) × (out ≡ AsmText (words_of bytes)))
+-- Whole words are answered with their text, by what that is of words, any other length by naming it.
+abbrev pub IsDisasmAnswer : (List ℕ → List ℕ) → List ℕ → ℕ → List ℕ → Type 0
+IsDisasmAnswer text_of bytes status out =
+    ((length bytes % 8 ≡ 0) × (status ≡ 0) × (out ≡ text_of (words_of bytes)))
     ⊎ ((length bytes % 8 ≢ 0) × (status ≡ 1) × (out ≡ length_text (length bytes)))

@@ -1,10 +1,11 @@
 -- Why words ask for nothing that the program does, as a person reads it: which word is wrong, and what it may be.
 use Rattle.std.specs.Prelude.{ℕ, List, ◌++◌, codes, decimal}
+use Rattle.tile_convert.specs.Picture.{most_side}
 use Rattle.commands.specs.declared.word_fault.TheConstants.{COMMANDS}
 use Rattle.commands.specs.declared.word_fault.Argument.TheVariants.{Steps, Seed, Example, SlotCount, Buffers, PictureTiling, Cpp, Width, Height, P0, P1, P2, P3, Face, LevelNumber, Rule, Kind, Favoured, SeedNumbers, Output}
 use Rattle.commands.specs.declared.word_fault.Values.TheVariants.{Number, SeedNumber, Tiling, Pixel, RuleName, KindNumber, UnitName, Seeds, FileName}
 use Rattle.commands.specs.declared.word_fault.WordFault.TheVariants.{Nothing, Unknown, Alone, NoTopic, NoOption, Wrong, Missing, Surplus}
-use Rattle.commands.specs.{declared.choice.Choice.Choice, Choice.choice_text, Pictures.most_side, Topics.usage_of, declared.word_fault.Argument.Argument}
+use Rattle.commands.specs.{declared.choice.Choice.Choice, Choice.choice_text, Topics.usage_of, declared.word_fault.Argument.Argument}
 use Rattle.commands.specs.{declared.word_fault.Values.Values, declared.word_fault.WordFault.WordFault}
 
 -- the most steps of a run, slots of a pool of tile memory, and buffers that jobs of a queue name

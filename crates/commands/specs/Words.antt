@@ -8,16 +8,18 @@ use Rattle.seeded_runs.specs.declared.report.Look.{Look}
 use Rattle.seeded_runs.specs.declared.report.Look.TheVariants as look
 use Rattle.seeded_runs.specs.Report.{IsTrialWithin}
 use Rattle.rule_words.specs.declared.name.RuleName.{RuleName}
-use Rattle.commands.specs.declared.command.Command.TheVariants.{Check, StrictCheck, Runs, Drawn, Upgrade, Bound, Show, StrictShow, FromText, Asm, Disasm, Shader, ShaderText, StrictShader, StrictShaderText, Slots, Queue, Session, Untile, Tile, Level}
+use Rattle.commands.specs.declared.command.Command.TheVariants.{Check, StrictCheck, Verdict, StrictVerdict, Runs, HeadedRuns, Drawn, Upgrade, Bound, Show, FromText, Asm, Disasm, NotedDisasm, Shader, ShaderText, StrictShader, StrictShaderText, Slots, Queue, Session, Untile, Tile, Level}
 use Rattle.commands.specs.declared.command.Task.TheVariants.{Read, Make, Tell}
 use Rattle.commands.specs.declared.help.Topic.TheVariants.{Program, Command as CommandTopic, Version, Rule as RuleTopic, Rules}
 use Rattle.commands.specs.declared.help.Verb.TheVariants as verb
-use Rattle.commands.specs.declared.surfaces.Picture.{Picture}
+use Rattle.tile_convert.specs.{declared.order.Picture.Picture, Picture.IsPictureWithin}
+use Rattle.commands.specs.declared.verdict.Form.{Form}
+use Rattle.commands.specs.declared.verdict.Form.TheVariants.{Quiet, Json}
 use Rattle.commands.specs.declared.word_fault.Argument.TheVariants.{Steps, Example, SlotCount, Buffers, Width, Height, P0, P1, P2, P3, Face, LevelNumber}
 use Rattle.commands.specs.declared.word_fault.WordFault.TheVariants.{Nothing, Unknown, Alone, NoTopic}
-use Rattle.commands.specs.{declared.command.Command.Command, declared.command.Task.Task, declared.help.Topic.Topic, declared.help.Verb.Verb, declared.word_fault.WordFault.WordFault}
-use Rattle.commands.specs.Line.{Line, texts, number, given_seed, given_unit, given_seeds, given_tiling, given_cpp, given_rule, given_kind, given_output, read, option, ended}
-use Rattle.commands.specs.{Choice.option_letter, Choice.nearest_topic, Pictures.IsPictureWithin, Topics.verb_named, WordFault.most_slots, WordFault.most_queued}
+use Rattle.commands.specs.{declared.command.Command.Command, declared.command.Task.Task, declared.help.Verb.Verb, declared.word_fault.WordFault.WordFault}
+use Rattle.commands.specs.Line.{Line, texts, number, given_seed, given_unit, given_seeds, given_tiling, given_cpp, given_rule, given_kind, given_output, read, option, flag, ended}
+use Rattle.commands.specs.{Choice.option_letter, Choice.nearest_topic, Topics.verb_named, WordFault.most_slots, WordFault.most_queued}
 
 -- STEPS SEED: a run that is shown in this way, where a kind of unit is favoured or none
 abbrev pub run_asked : Look → Option UnitKind → Line → Result Task WordFault
@@ -34,9 +36,22 @@ abbrev pub runs : Option UnitKind → Line → Result Task WordFault
 runs favoured =
     option (codes "--accesses") (run_asked look.Accesses favoured) (option (codes "--seeds") (many_runs favoured) (run_asked look.Steps favoured))
 
--- replay [--favour KIND] [--accesses | --seeds A..B] STEPS [SEED]
+-- [--favour KIND] [--accesses | --seeds A..B] STEPS [SEED]
+abbrev pub favoured_runs : Line → Result Task WordFault
+favoured_runs = option (codes "--favour") (read given_unit (λ kind. runs (Some kind))) (runs None)
+
+-- runs behind a line with names of columns
+abbrev pub headed_task : Task → Task
+headed_task (Read (Runs trial)) = Read (HeadedRuns trial)
+headed_task task = task
+
+abbrev pub headed_by : Result Task WordFault → Result Task WordFault
+headed_by (Ok task) = Ok (headed_task task)
+headed_by (Err fault) = Err fault
+
+-- replay [--header] [--favour KIND] [--accesses | --seeds A..B] STEPS [SEED]
 abbrev pub replay : Line → Result Task WordFault
-replay = option (codes "--favour") (read given_unit (λ kind. runs (Some kind))) (runs None)
+replay = option (codes "--header") (λ line. headed_by (favoured_runs line)) favoured_runs
 
 -- picture [--run [--favour KIND] STEPS SEED]
 abbrev pub picture : Line → Result Task WordFault
@@ -67,13 +82,22 @@ slots = number SlotCount (λ slots. ended (Read (Slots slots)))
 abbrev pub queue : Line → Result Task WordFault
 queue = number Buffers (λ buffers. ended (Read (Queue buffers)))
 
--- check [--strict]
-abbrev pub check : Line → Result Task WordFault
-check = option (codes "--strict") (ended (Read StrictCheck)) (ended (Read Check))
+-- check [--strict] [--quiet | --json]
+abbrev pub verdict : (Form → Command) → Command → Line → Result Task WordFault
+verdict reported whole =
+    option (codes "--quiet") (ended (Read (reported Quiet))) (option (codes "--json") (ended (Read (reported Json))) (ended (Read whole)))
 
--- show [--strict]
+abbrev pub check : Line → Result Task WordFault
+check = option (codes "--strict") (verdict StrictVerdict StrictCheck) (verdict Verdict Check)
+
+-- show [--strict] [--no-content] [--no-offsets]
 abbrev pub show : Line → Result Task WordFault
-show = option (codes "--strict") (ended (Read StrictShow)) (ended (Read Show))
+show = flag (codes "--strict") (λ strict. flag (codes "--no-content") (λ contents. flag (codes "--no-offsets") (λ offsets.
+    ended (Read (Show (record { strict = strict; omitted = record { contents = contents; offsets = offsets } }))))))
+
+-- disasm [--notes]
+abbrev pub disasm : Line → Result Task WordFault
+disasm = option (codes "--notes") (ended (Read NotedDisasm)) (ended (Read Disasm))
 
 -- shader [--strict] [--asm]
 abbrev pub strict_shader : Line → Result Task WordFault
@@ -107,7 +131,7 @@ task_asked verb.Untile = λ line. of_picture Untile (picture_asked line)
 task_asked verb.Tile = λ line. of_picture Tile (picture_asked line)
 task_asked verb.Level = level
 task_asked verb.Asm = ended (Read Asm)
-task_asked verb.Disasm = ended (Read Disasm)
+task_asked verb.Disasm = disasm
 task_asked verb.Shader = shader
 task_asked verb.Explain = explain
 
@@ -187,6 +211,7 @@ names_output words = false
 -- a command whose numbers are within these
 abbrev pub IsWithin : Command → Type 0
 IsWithin (Runs trial) = IsTrialWithin trial
+IsWithin (HeadedRuns trial) = IsTrialWithin trial
 IsWithin (Slots slots) = (1 ≤ slots) × (slots ≤ most_slots)
 IsWithin (Queue buffers) = buffers ≤ most_queued
 IsWithin (Untile picture) = IsPictureWithin picture
@@ -209,6 +234,7 @@ most_picture = 25165824
 abbrev pub limit_of : Command → ℕ
 limit_of Asm = most_list
 limit_of Disasm = most_list
+limit_of NotedDisasm = most_list
 limit_of Shader = most_code
 limit_of ShaderText = most_list
 limit_of StrictShader = most_code

@@ -1,7 +1,7 @@
 //! The command `bound`.
 ghost use Rattle.std.specs.Prelude.{◌≡◌, ◌<◌, IfOk};
 ghost use Rattle.job_check.specs.Whole.{refusal_of};
-ghost use Rattle.commands.specs.{Cause.IsRuleCause, Verdict.IsBoundAnswer};
+ghost use Rattle.commands.specs.{Cause.rule_cause, Verdict.IsBoundAnswer};
 
 use super::answer::Answer;
 use super::check::refused;
@@ -15,7 +15,7 @@ use std::alloc::Global;
 pub fn bound_answer(alloc: Global, bytes: &[u8]) -> Result<Answer, NoMemory>
     ensures answers { IfOk result (λ a. IsBoundAnswer bytes.now a.status a.text.items) }
     ensures status { IfOk result (λ a. a.status < 2) }
-    ensures cause { IfOk result (λ a. IsRuleCause bytes.now (refusal_of bytes.now) a.cause) }
+    ensures cause { IfOk result (λ a. a.cause ≡ rule_cause bytes.now (refusal_of bytes.now)) }
 {
     match bound_text(alloc, bytes) {
         Ok(text) => Ok(Answer::done(text)),

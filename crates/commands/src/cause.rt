@@ -1,13 +1,14 @@
 //! Why a command refuses, as a line for a person; and the notes of a shader.
 ghost use Rattle.std.specs.Prelude.{◌≡◌, Some};
-ghost use Rattle.commands.specs.Cause.{cause_text, is_bare, report_text, kind_of, shader_rule, strict_rule, level_rule, size_line, named_text};
+ghost use Rattle.commands.specs.Cause.{cause_text, is_bare, report_text, text_hint, kind_of, shader_rule, strict_rule, level_rule, size_line, named_text};
 
 use super::scripts::Script;
 use super::word_fault::WordFault;
 use job_format::Stage;
 use job_text::MakeFault;
 use qpu_asm::{AsmFault, FaultPlace, Opcode, Wanted};
-use rule_words::{Family, Line, RuleName};
+use refusal_facts::Line;
+use rule_words::{Family, RuleName};
 use shader_check::ShaderFault;
 use shader_notes::Notes;
 use std::fmt;
@@ -61,6 +62,17 @@ pub(crate) fn strict_rule(fault: &StrictFault) -> RuleName
     ensures { result ≡ strict_rule fault.now }
 {
     RuleName::new(Family::Check(Stage::E), fault.rule.number())
+}
+
+// How text is read, where bytes are no whole words.
+#[tactic(auto, unfolding(crate::specs::Cause::text_hint))]
+fn text_hint(name: RuleName) -> &'static str
+    ensures { result.now ≡ text_hint name }
+{
+    match (name.family, name.number) {
+        (Family::Check(Stage::S), 1) => "; shader text is read with --asm",
+        _ => "",
+    }
 }
 
 /// The name of the rule that refuses a level, as `U7` or `V2`.
@@ -169,10 +181,11 @@ impl fmt::Display for Cause {
             }
             Cause::Shader(name, index) => {
                 let sentence = name.sentence();
+                let hint = text_hint(*name);
                 write!(
                     f,
-                    "vc4check: {}: {} (instruction {}); see vc4check explain {}",
-                    name, sentence, index, name
+                    "vc4check: {}: {} (instruction {}); see vc4check explain {}{}",
+                    name, sentence, index, name, hint
                 )
             }
             Cause::Long(count) => write!(

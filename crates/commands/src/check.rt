@@ -13,7 +13,7 @@ ghost use Rattle.dumper.specs.{Spans.parts_of, Text.refused_text};
 ghost use Rattle.strict_check.specs.Whole.{strict_questions, strict_refusal_of};
 ghost use Rattle.commands.specs.Verdict.{image_of, IsCheckAnswer, IsStrictCheckAnswer, IsVerdict};
 ghost use Rattle.commands.specs.Image.{IsAccepted};
-ghost use Rattle.commands.specs.Cause.{IsRuleCause};
+ghost use Rattle.commands.specs.Cause.{rule_cause, IsRefusal};
 ghost use Rattle.commands.specs.Reply.{image_text, reply_status, reply_cause, IsReplyOf, IsReplyReady};
 
 use super::answer::Answer;
@@ -24,7 +24,7 @@ use dumper::{Span, image_head, insert_span, refusal_text};
 use field_words::{MOST_MEMORY, NoMemory, Stop};
 use job_check::{Region, check_parts, format_refusal};
 use job_format::{FileParts, Refusal, read_parts};
-use rule_words::line_of;
+use refusal_facts::line_of;
 use std::alloc::Global;
 use std::borrow::CowSlice;
 use strict_check::check_strict_parts;
@@ -146,12 +146,24 @@ fn image_of<'a>(alloc: Global, accepted: Accepted<'a>) -> Result<Image<'a>, NoMe
 
 /// The answer to these bytes where this rule is the first that is broken.
 pub(crate) fn refused(alloc: Global, bytes: &[u8], refusal: Refusal) -> Result<Answer, NoMemory>
-    ensures { IfOk result (λ a. (a.status ≡ 1) × (a.text.items ≡ refused_text refusal)
-        × IsRuleCause bytes.now (Some refusal) a.cause) }
+    ensures { IfOk result (IsRefusal (refused_text bytes.now refusal)
+        (rule_cause bytes.now (Some refusal))) }
 {
-    let text = refusal_text(alloc, &refusal)?;
-    let line = line_of(bytes, refusal);
+    let text = refusal_text(alloc, bytes, &refusal)?;
+    let line = line_of(alloc, bytes, refusal)?;
     Ok(Answer::refused(text, Some(Cause::Rule(line))))
+}
+
+/// The answer to these bytes where this rule is the first that is broken and a picture is expected: nothing is written.
+pub(crate) fn refused_picture(
+    alloc: Global,
+    bytes: &[u8],
+    refusal: Refusal,
+) -> Result<Answer, NoMemory>
+    ensures { IfOk result (IsRefusal [] (rule_cause bytes.now (Some refusal))) }
+{
+    let line = line_of(alloc, bytes, refusal)?;
+    Ok(Answer::refused(Vec::new(alloc), Some(Cause::Rule(line))))
 }
 
 /// What `check` answers to these bytes: the memory of an accepted file, or a refusal.
@@ -160,8 +172,7 @@ pub fn check_answer(alloc: Global, bytes: &[u8]) -> Result<Reply<'_>, NoMemory>
     ensures answers { IfOk result (IsReplyOf (IsCheckAnswer bytes.now)) }
     ensures status { IfOk result (λ a. reply_status a < 2) }
     ensures ready { IfOk result IsReplyReady }
-    ensures cause { IfOk result (λ a. IsRuleCause bytes.now (refusal_of bytes.now)
-        (reply_cause a)) }
+    ensures cause { IfOk result (λ a. reply_cause a ≡ rule_cause bytes.now (refusal_of bytes.now)) }
 {
     match accept(alloc, bytes) {
         Ok(accepted) => Ok(Reply::Image(image_of(alloc, accepted)?)),
@@ -176,8 +187,8 @@ pub fn strict_check_answer(alloc: Global, bytes: &[u8]) -> Result<Reply<'_>, NoM
     ensures answers { IfOk result (IsReplyOf (IsStrictCheckAnswer bytes.now)) }
     ensures status { IfOk result (λ a. reply_status a < 2) }
     ensures ready { IfOk result IsReplyReady }
-    ensures cause { IfOk result (λ a. IsRuleCause bytes.now (strict_refusal_of bytes.now)
-        (reply_cause a)) }
+    ensures cause { IfOk result (λ a. reply_cause a
+        ≡ rule_cause bytes.now (strict_refusal_of bytes.now)) }
 {
     match accept_strict(alloc, bytes) {
         Ok(accepted) => Ok(Reply::Image(image_of(alloc, accepted)?)),

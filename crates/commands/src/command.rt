@@ -4,9 +4,12 @@ ghost use Rattle.commands.specs.Cause.{is_reported};
 ghost use Rattle.commands.specs.Words.{most_file, limit_of, excess_at};
 
 use super::help::Topic;
-use super::surfaces::{Picture, TexturePart};
+use super::shown::Showing;
+use super::surfaces::TexturePart;
+use super::verdict::Form;
 use field_words::{MOST_CODE, MOST_LIST};
 use seeded_runs::Trial;
+use tile_convert::Picture;
 
 /// The most bytes of a job file: 48 MiB.
 const MOST_FILE: usize = 50_331_648;
@@ -21,8 +24,14 @@ pub enum Command {
     Check,
     /// `check --strict`: the same, and asks the strict rules too.
     StrictCheck,
+    /// `check --quiet` and `check --json`: reads a job file and reports in this form whether it is accepted.
+    Verdict(Form),
+    /// `check --strict --quiet` and so on: as these, and asks the strict rules too.
+    StrictVerdict(Form),
     /// `replay`, and `picture --run`: reads a job file and prints what runs of it do; or why it is refused.
     Runs(Trial),
+    /// `replay --header`: the same, behind a line with names of columns.
+    HeadedRuns(Trial),
     /// `picture`: reads a job file and writes a picture of its memory, as SVG; or why it is refused.
     Drawn,
     /// `upgrade`: reads a job file and writes it with version 2, or prints which rule of the format it breaks.
@@ -30,16 +39,16 @@ pub enum Command {
     /// `bound`: reads a job file and prints how many steps its jobs take at most and whether they may wait for a request that isn't there,
     /// or where a shader branches back; or why it is refused.
     Bound,
-    /// `show`: reads any bytes and writes them as lines of text that say what they are, if they are a job file.
-    Show,
-    /// `show --strict`: as `show`, and marks a strict rule where no other is broken.
-    StrictShow,
+    /// `show`: reads any bytes and writes them as lines of text that say what they are, as far as they are a job file.
+    Show(Showing),
     /// `make`: reads such a text and writes its bytes, or its first fault.
     FromText,
     /// `asm`: reads shader text and writes the instruction words, 8 bytes each, little endian.
     Asm,
     /// `disasm`: reads such words and writes shader text that assembles to them.
     Disasm,
+    /// `disasm --notes`: the same, with a note above each line.
+    NotedDisasm,
     /// `shader`: reads the words of one shader and prints what it takes and reads, or the rule that refuses it.
     Shader,
     /// `shader --asm`: reads shader text and prints the same of its words, or its first fault.
@@ -100,6 +109,7 @@ impl Command {
             | Command::ShaderText
             | Command::StrictShaderText
             | Command::Disasm
+            | Command::NotedDisasm
             | Command::Slots(_)
             | Command::Queue(_)
             | Command::Session => MOST_LIST as usize,

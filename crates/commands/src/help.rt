@@ -53,23 +53,26 @@ pub enum Topic {
 type Usage = (&'static str, &'static str);
 
 const CHECK: Usage = (
-    "check [--strict] [FILE]",
+    "check [--strict] [--quiet | --json] [FILE..]",
     "Reads a job file of at most 48 MiB and writes the memory of the accepted jobs, or the first rule that it breaks.
-With --strict it asks the strict rules (E) too, last of all.",
+With --strict it asks the strict rules (E) too, last of all. With --quiet it writes nothing, so that the exit status says all, and with
+--json a line of JSON: the file's name, whether it is accepted or refused, and the rule, its place, the offset in the file and its sentence.
+Of several files each has its name on a line before what is written of it. A folder stands for its files in order of their names. The exit
+status is the greatest of all files.",
 );
 
 const REPLAY: Usage = (
-    "replay [--favour KIND] [--accesses | --seeds A..B] STEPS [SEED] [FILE]",
+    "replay [--header] [--favour KIND] [--accesses | --seeds A..B] STEPS [SEED] [FILE]",
     "Reads a job file of at most 48 MiB and writes a run of the jobs' machine, a line for each step, or the first rule that it breaks.
 STEPS is the most steps of the run, from 0 to 1000000. SEED is a number below 2^64, which says which unit steps next.
 With --accesses it writes a line for each access, which says what lies there. With --seeds A..B, in place of SEED, it writes how the run of
-each seed from A to before B ended, of at most 1000. With --favour KIND a unit of this kind steps whenever one may: qpu, texture, binner or
+each seed from A to before B ended, of at most 1000. With --header a line with names of columns comes first. With --favour KIND a unit of this kind steps whenever one may: qpu, texture, binner or
 renderer.",
 );
 
 const PICTURE: Usage = (
     "picture [--run [--favour KIND] STEPS SEED] [FILE]",
-    "Reads a job file of at most 48 MiB and writes a picture of the jobs' memory, as SVG, or the first rule that it breaks.
+    "Reads a job file of at most 48 MiB and writes a picture of the jobs' memory, as SVG, or nothing where it breaks a rule.
 With --run the picture shows a run too: how many of its accesses touch each box, and how many each kind of unit makes. STEPS, SEED and KIND
 are as for replay.",
 );
@@ -87,10 +90,11 @@ where a shader branches back; or the first rule that it breaks.",
 );
 
 const SHOW: Usage = (
-    "show [--strict] [FILE]",
-    "Reads any bytes, at most 48 MiB, and writes them as text that says what each byte of a job file is, and marks the first rule that they
-break. With --strict it asks the strict rules (E) too, last of all. The text is some three times as long, and make reads at most 48 MiB of it
-again.",
+    "show [--strict] [--no-content] [--no-offsets] [FILE]",
+    "Reads any bytes, at most 48 MiB, and writes them as text that says what each byte of a job file is, as far as they go, and marks the first
+rule that they break. With --strict it asks the strict rules (E) too, last of all. With --no-content it leaves out the contents of buffers, but
+for a line that is marked, and make can't read the text again; with --no-offsets the offset on each line: so two jobs can be compared by diff.
+The text is some three times as long, and make reads at most 48 MiB of it again.",
 );
 
 const MAKE: Usage = (
@@ -144,8 +148,9 @@ const ASM: Usage = (
 );
 
 const DISASM: Usage = (
-    "disasm [FILE]",
-    "Reads shader words of 8 bytes each, at most 1 MiB, and writes the text that assembles to them.",
+    "disasm [--notes] [FILE]",
+    "Reads shader words of 8 bytes each, at most 1 MiB, and writes the text that assembles to them. With --notes a comment stands above each
+instruction: its number, its text as Mesa's driver prints it, nearly, and the uniform that it takes.",
 );
 
 const SHADER: Usage = (

@@ -10,7 +10,9 @@ mod command;
 mod drawn;
 mod example;
 mod help;
+mod json;
 mod lone_shader;
+mod names;
 mod notice;
 mod program;
 mod replayed;
@@ -24,6 +26,7 @@ mod strict_shader;
 mod surfaces;
 mod trial;
 mod upgrading;
+mod verdict;
 mod word_fault;
 mod words;
 

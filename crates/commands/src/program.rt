@@ -2,12 +2,13 @@
 ghost use Rattle.commands.specs.Run.{IsRunWithCause, Promises};
 
 use super::cause::Cause;
+use super::names::{heading, name_count, takes_several};
 use super::notice::notice_of;
 use super::runs::run_with_cause;
-use super::words::{excess_of, names_file, names_output};
+use super::words::{excess_of, names_output};
 use entry::{Ended, Program};
 use job_io::{Sink, Source};
-use std::alloc::Global;
+use std::alloc::{AllocError, Global};
 
 /// The program that `main` runs.
 pub struct Checker;
@@ -23,8 +24,22 @@ impl Program for Checker {
         "vc4check"
     }
 
-    fn names_file(&self, words: &Vec<String>) -> bool {
-        names_file(words)
+    fn name_count(&self, words: &Vec<String>) -> usize {
+        name_count(words)
+    }
+
+    fn takes_several(&self, words: &Vec<String>) -> bool {
+        takes_several(words)
+    }
+
+    fn heading(
+        &self,
+        alloc: Global,
+        words: &Vec<String>,
+        name: &str,
+        count: usize,
+    ) -> Result<Vec<u8>, AllocError> {
+        heading(alloc, words, name, count)
     }
 
     fn names_output(&self, words: &Vec<String>) -> bool {

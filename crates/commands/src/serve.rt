@@ -15,14 +15,15 @@ use super::check::{check_answer, strict_check_answer};
 use super::command::Command;
 use super::drawn::drawn_answer;
 use super::lone_shader::{shader_answer, shader_text_answer};
-use super::replayed::trial_answer;
+use super::replayed::{headed_answer, trial_answer};
 use super::reply::{Reply, print};
 use super::scripts::{queue_answer, session_answer, slots_answer};
-use super::shader_text::{asm_answer, disasm_answer};
-use super::shown::{make_answer, show_answer, strict_show_answer};
+use super::shader_text::{asm_answer, disasm_answer, noted_disasm_answer};
+use super::shown::{make_answer, show_answer};
 use super::strict_shader::{strict_shader_answer, strict_text_answer};
 use super::surfaces::{level_answer, tile_answer, untile_answer};
 use super::upgrading::upgrade_answer;
+use super::verdict::{strict_verdict_answer, verdict_answer};
 use entry::Ended;
 use field_words::NoMemory;
 use job_io::{ReadEnd, Sink, Source, read_all};
@@ -40,15 +41,18 @@ fn answer_to(alloc: Global, command: Command, bytes: &[u8]) -> Result<Reply<'_>,
     let answer = match command {
         Command::Check => return check_answer(alloc, bytes),
         Command::StrictCheck => return strict_check_answer(alloc, bytes),
+        Command::Verdict(form) => verdict_answer(alloc, form, bytes),
+        Command::StrictVerdict(form) => strict_verdict_answer(alloc, form, bytes),
         Command::Runs(trial) => trial_answer(alloc, trial, bytes),
+        Command::HeadedRuns(trial) => headed_answer(alloc, trial, bytes),
         Command::Drawn => drawn_answer(alloc, bytes),
         Command::Upgrade => upgrade_answer(alloc, bytes),
         Command::Bound => bound_answer(alloc, bytes),
-        Command::Show => show_answer(alloc, bytes),
-        Command::StrictShow => strict_show_answer(alloc, bytes),
+        Command::Show(showing) => show_answer(alloc, showing, bytes),
         Command::FromText => make_answer(alloc, bytes),
         Command::Asm => asm_answer(alloc, bytes),
         Command::Disasm => disasm_answer(alloc, bytes),
+        Command::NotedDisasm => noted_disasm_answer(alloc, bytes),
         Command::Shader => shader_answer(alloc, bytes),
         Command::ShaderText => shader_text_answer(alloc, bytes),
         Command::StrictShader => strict_shader_answer(alloc, bytes),
@@ -124,7 +128,8 @@ pub fn serve<S: Source, K: Sink>(
         IsAnswered (IsAnswer command bytes) result.status (K.held sink.old) (K.held sink.new)) }
     ensures cut { result.status ≡ 4 → IfSome (S.left source.old) (λ bytes.
         IsCut (IsAnswer command bytes) (K.held sink.old) (K.held sink.new)) }
-    ensures complete { (Rose (S.faults source.old) (S.faults source.new) → ⊥) → (Rose (K.faults sink.old) (K.faults sink.new) → ⊥)
+    ensures complete { (Rose (S.faults source.old) (S.faults source.new) → ⊥)
+        → (Rose (K.faults sink.old) (K.faults sink.new) → ⊥)
         → result.status ≢ 6 → ((result.status < 2) ⊎ (result.status ≡ 5)) }
     ensures nothing { 1 < result.status → result.status ≢ 4 → sink.new ≡ sink.old }
     ensures cause { is_reported command result.status ≡ true

@@ -1,8 +1,9 @@
 //! The commands `asm` and `disasm`.
 ghost use Rattle.std.specs.Prelude.{◌≡◌, ◌≤◌, ◌<◌, length, Some, IfOk};
 ghost use Rattle.field_words.specs.Sizes.{most_list};
-ghost use Rattle.qpu_asm.specs.{Assembly.Assembled, Place.fault_place};
-ghost use Rattle.commands.specs.declared.cause.Cause.TheVariants.{Kind};
+ghost use Rattle.job_text.specs.Noted.{noted_text};
+ghost use Rattle.qpu_asm.specs.{Assembly.Assembled, Place.fault_place, Printed.AsmText};
+ghost use Rattle.commands.specs.declared.cause.Cause.TheVariants.{Kind, Part};
 ghost use Rattle.commands.specs.Cause.{kind_cause, part_cause, IsRefusal};
 ghost use Rattle.commands.specs.Shader.{fault_text, length_text, bytes_of, IsAsmAnswer, IsDisasmAnswer};
 
@@ -11,6 +12,7 @@ use super::cause::Cause;
 use byteorder::{ByteOrder, LittleEndian};
 use field_words::{NoMemory, Stop};
 use job_check::words_of;
+use job_text::disassemble_noted;
 use qpu_asm::{AsmFault, assemble, disassemble, fault_place};
 use std::alloc::{AllocError, Global};
 
@@ -58,18 +60,39 @@ pub fn asm_answer(alloc: Global, text: &[u8]) -> Result<Answer, NoMemory>
     }
 }
 
+/// The answer to so many bytes, which are no whole words.
+fn part_refused(alloc: Global, length: usize) -> Result<Answer, NoMemory>
+    ensures { IfOk result (IsRefusal (length_text length) (Some (Part length))) }
+{
+    let text = length_text(alloc, length)?;
+    Ok(Answer::refused(text, Some(Cause::Part(length as u64))))
+}
+
 /// What `disasm` answers to bytes: the text of their words, or their length where it is no multiple of 8.
 pub fn disasm_answer(alloc: Global, bytes: &[u8]) -> Result<Answer, NoMemory>
     requires { length bytes.now ≤ most_list }
-    ensures answers { IfOk result (λ a. IsDisasmAnswer bytes.now a.status a.text.items) }
+    ensures answers { IfOk result (λ a. IsDisasmAnswer AsmText bytes.now a.status a.text.items) }
     ensures status { IfOk result (λ a. a.status < 2) }
     ensures cause { IfOk result (λ a. a.cause ≡ part_cause (length bytes.now)) }
 {
     if bytes.len() % 8 != 0 {
-        let text = length_text(alloc, bytes.len())?;
-        let cause = Cause::Part(bytes.len() as u64);
-        return Ok(Answer::refused(text, Some(cause)));
+        return part_refused(alloc, bytes.len());
     }
     let words = words_of(alloc, bytes)?;
     Ok(Answer::done(disassemble(alloc, &words)?))
+}
+
+/// What `disasm --notes` answers to bytes: the same, with a note above each line.
+pub fn noted_disasm_answer(alloc: Global, bytes: &[u8]) -> Result<Answer, NoMemory>
+    requires { length bytes.now ≤ most_list }
+    ensures answers { IfOk result (λ a. IsDisasmAnswer noted_text bytes.now a.status
+        a.text.items) }
+    ensures status { IfOk result (λ a. a.status < 2) }
+    ensures cause { IfOk result (λ a. a.cause ≡ part_cause (length bytes.now)) }
+{
+    if bytes.len() % 8 != 0 {
+        return part_refused(alloc, bytes.len());
+    }
+    let words = words_of(alloc, bytes)?;
+    Ok(Answer::done(disassemble_noted(alloc, &words)?))
 }

@@ -1,8 +1,9 @@
 //! Commands on pictures: `untile`, `tile` and `level`.
-ghost use Rattle.std.specs.Prelude.{◌≡◌, ◌≤◌, ◌<◌, ◌^◌, ◌*◌, length, option_map, Some, None, IfOk, IfSome};
+ghost use Rattle.std.specs.Prelude.{◌≡◌, ◌≤◌, ◌<◌, ◌^◌, length, option_map, Some, None, IfOk, IfSome};
 ghost use Rattle.script.specs.Number.{number_within};
-ghost use Rattle.texture_layouts.specs.Surface.{IsPixelSize, size_for};
-ghost use Rattle.commands.specs.Pictures.{tiling_named, pixel_by, IsPictureWithin};
+ghost use Rattle.texture_layouts.specs.Surface.{IsPixelSize};
+ghost use Rattle.tile_convert.specs.Picture.{surface_bytes, pixel_bytes, IsPictureWithin};
+ghost use Rattle.commands.specs.Pictures.{tiling_named, pixel_by};
 ghost use Rattle.commands.specs.Pictures.{length_wanted_text, level_refusal, IsUntileAnswer, IsTileAnswer, IsLevelAnswer};
 ghost use Rattle.commands.specs.Cause.{size_cause, level_rule, level_fault, IsRefusal};
 ghost use Rattle.commands.specs.declared.cause.Cause.TheVariants.{Level, Size};
@@ -13,16 +14,7 @@ use field_words::{NoMemory, Stop};
 use script::read_number;
 use std::alloc::{AllocError, Global};
 use texture_layouts::Tiling;
-use tile_convert::{LevelFault, extract, tile, untile};
-
-/// A picture in a tiling: how many pixels it is wide and high, and how many bytes each has.
-#[derive(Clone, Copy, Debug, PartialEq, Eq)]
-pub struct Picture {
-    pub tiling: Tiling,
-    pub cpp: u32,
-    pub width: u32,
-    pub height: u32,
-}
+use tile_convert::{LevelFault, Picture, extract, tile, untile};
 
 /// A level of a face of the texture with these set-up words.
 #[derive(Clone, Copy, Debug, PartialEq, Eq)]
@@ -92,11 +84,9 @@ pub fn untile_answer(alloc: Global, picture: Picture, bytes: &[u8]) -> Result<An
     ensures answers { IfOk result (λ a. IsUntileAnswer picture bytes.now a.status a.text.items) }
     ensures status { IfOk result (λ a. a.status < 2) }
     ensures cause { IfOk result (λ a. a.cause
-        ≡ size_cause (length bytes.now)
-        (size_for picture.tiling picture.width picture.height picture.cpp)) }
+        ≡ size_cause (length bytes.now) (surface_bytes picture)) }
 {
-    let p = picture;
-    match untile(alloc, p.tiling, p.width, p.height, p.cpp, bytes) {
+    match untile(alloc, picture, bytes) {
         Ok(pixels) => Ok(Answer::done(pixels)),
         Err(Stop::Fault(wanted)) => size_refusal(alloc, bytes.len(), wanted),
         Err(Stop::NoMemory) => Err(NoMemory),
@@ -109,10 +99,9 @@ pub fn tile_answer(alloc: Global, picture: Picture, bytes: &[u8]) -> Result<Answ
     ensures answers { IfOk result (λ a. IsTileAnswer picture bytes.now a.status a.text.items) }
     ensures status { IfOk result (λ a. a.status < 2) }
     ensures cause { IfOk result (λ a. a.cause
-        ≡ size_cause (length bytes.now) (picture.width * picture.height * picture.cpp)) }
+        ≡ size_cause (length bytes.now) (pixel_bytes picture)) }
 {
-    let p = picture;
-    match tile(alloc, p.tiling, p.width, p.height, p.cpp, bytes) {
+    match tile(alloc, picture, bytes) {
         Ok(surface) => Ok(Answer::done(surface)),
         Err(Stop::Fault(wanted)) => size_refusal(alloc, bytes.len(), wanted),
         Err(Stop::NoMemory) => Err(NoMemory),

@@ -4,7 +4,7 @@ ghost use Rattle.field_words.specs.Questions.{Answers, first_of};
 ghost use Rattle.job_format.specs.File.{IsFileOf, file_upgraded};
 ghost use Rattle.job_format.specs.Reading.{file_at};
 ghost use Rattle.job_format.specs.Text.{file_text};
-ghost use Rattle.commands.specs.{Cause.IsRuleCause, Upgrade.format_rules, Verdict.IsUpgradeAnswer};
+ghost use Rattle.commands.specs.{Cause.rule_cause, Upgrade.format_rules, Verdict.IsUpgradeAnswer};
 
 use super::answer::Answer;
 use super::check::refused;
@@ -30,8 +30,8 @@ fn upgraded(alloc: Global, bytes: &[u8]) -> Result<Vec<u8>, Stop<Refusal>>
 pub fn upgrade_answer(alloc: Global, bytes: &[u8]) -> Result<Answer, NoMemory>
     ensures answers { IfOk result (λ a. IsUpgradeAnswer bytes.now a.status a.text.items) }
     ensures status { IfOk result (λ a. a.status < 2) }
-    ensures cause { IfOk result (λ a. IsRuleCause bytes.now
-        (first_of (format_rules bytes.now)) a.cause) }
+    ensures cause { IfOk result (λ a. a.cause
+        ≡ rule_cause bytes.now (first_of (format_rules bytes.now))) }
 {
     match upgraded(alloc, bytes) {
         Ok(text) => Ok(Answer::done(text)),

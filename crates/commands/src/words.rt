@@ -2,25 +2,30 @@
 ghost use Rattle.seeded_runs.specs.Report.{IsLookWithin};
 ghost use Rattle.std.specs.Prelude.{ℕ, ◌≡◌, ◌≤◌, ◌<◌, ◌∷◌, ◌-◌, [], length, codes, drop, is_some, not, if◌then◌else◌, IfOk, IfSome, MatchResult, OnOk};
 ghost use Rattle.commands.specs.Choice.{option_letter};
+ghost use Rattle.commands.specs.declared.command.Command.TheVariants.{StrictCheck, StrictVerdict};
 ghost use Rattle.commands.specs.declared.word_fault.WordFault.TheVariants.{Missing, Wrong};
 ghost use Rattle.commands.specs.Line.{line_of, texts, number_by, given_number, given_seed, given_unit, given_seeds, given_tiling, given_cpp, given_rule, given_kind, given_output, behind, begins, ended, unfit, IsNumberOf};
-ghost use Rattle.commands.specs.Pictures.{IsPictureWithin};
 ghost use Rattle.commands.specs.Trials.{IsRangeWithin};
 ghost use Rattle.commands.specs.WordFault.{values_of};
-ghost use Rattle.commands.specs.Words.{run_asked, runs, replay, picture, picture_asked, level, example, slots, queue, check, show, shader, strict_shader, explain, task_asked, put_out, task_behind, help_of, version_alone, strange_by, topic_named, task_or_fault, is_name, names_file, is_command, names_output, excess_of, is_read, ReadsWithin};
+ghost use Rattle.commands.specs.Words.{run_asked, runs, favoured_runs, headed_task, replay, picture, picture_asked, level, example, slots, queue, verdict, check, show, disasm, shader, strict_shader, explain, task_asked, put_out, task_behind, help_of, version_alone, strange_by, topic_named, task_or_fault, is_name, names_file, is_command, names_output, excess_of, is_read, ReadsWithin};
 ghost use Rattle.texture_layouts.specs.Surface.{IsPixelSize};
+ghost use Rattle.tile_convert.specs.Picture.{IsPictureWithin};
 
 use super::choice::{nearest, nearest_topic, option_letter};
 use super::command::{Command, Task};
 use super::help::{Topic, Verb, verb_named};
-use super::surfaces::{Picture, TexturePart, pixel_named, tiling_named};
+use super::shown::Showing;
+use super::surfaces::{TexturePart, pixel_named, tiling_named};
 use super::trial::{SeedRange, seeds_named, unit_named};
+use super::verdict::Form;
 use super::word_fault::{Argument, Values, WordFault};
+use job_text::Omitted;
 use replay::UnitKind;
 use rule_words::{RuleName, kind_named, rule_named};
 use script::read_number;
 use seeded_runs::{Look, Trial};
 use texture_layouts::Tiling;
+use tile_convert::Picture;
 
 /// The number that the word is, where the argument may be this number.
 fn number_named(argument: Argument, word: &str) -> Option<u32>
@@ -232,8 +237,9 @@ fn runs(mut line: Line, favoured: Option<UnitKind>) -> Result<Task, WordFault>
     })))
 }
 
-fn replay(mut line: Line) -> Result<Task, WordFault>
-    ensures value { result ≡ replay (line_of line.entry) }
+/// `[--favour KIND] [--accesses | --seeds A..B] STEPS [SEED]`
+fn favoured_runs(mut line: Line) -> Result<Task, WordFault>
+    ensures value { result ≡ favoured_runs (line_of line.entry) }
     ensures within { IfOk result ReadsWithin }
 {
     if line.begins("--favour") {
@@ -241,6 +247,27 @@ fn replay(mut line: Line) -> Result<Task, WordFault>
         return runs(line, Some(kind));
     }
     runs(line, None)
+}
+
+/// Runs that stand behind a line with names of columns.
+fn headed_task(task: Task) -> Task
+    ensures value { result ≡ headed_task task }
+    ensures within { ReadsWithin task → ReadsWithin result }
+{
+    match task {
+        Task::Read(Command::Runs(trial)) => Task::Read(Command::HeadedRuns(trial)),
+        _ => task,
+    }
+}
+
+fn replay(mut line: Line) -> Result<Task, WordFault>
+    ensures value { result ≡ replay (line_of line.entry) }
+    ensures within { IfOk result ReadsWithin }
+{
+    if line.begins("--header") {
+        return Ok(headed_task(favoured_runs(line)?));
+    }
+    favoured_runs(line)
 }
 
 fn picture(mut line: Line) -> Result<Task, WordFault>
@@ -306,12 +333,31 @@ fn explain(mut line: Line) -> Result<Task, WordFault>
     line.end(Task::Tell(Topic::Rule(name)))
 }
 
+fn strict_check(mut line: Line) -> Result<Task, WordFault>
+    ensures value { result ≡ verdict StrictVerdict StrictCheck (line_of line.entry) }
+    ensures within { IfOk result ReadsWithin }
+{
+    if line.begins("--quiet") {
+        return line.end(Task::Read(Command::StrictVerdict(Form::Quiet)));
+    }
+    if line.begins("--json") {
+        return line.end(Task::Read(Command::StrictVerdict(Form::Json)));
+    }
+    line.end(Task::Read(Command::StrictCheck))
+}
+
 fn check(mut line: Line) -> Result<Task, WordFault>
     ensures value { result ≡ check (line_of line.entry) }
     ensures within { IfOk result ReadsWithin }
 {
     if line.begins("--strict") {
-        return line.end(Task::Read(Command::StrictCheck));
+        return strict_check(line);
+    }
+    if line.begins("--quiet") {
+        return line.end(Task::Read(Command::Verdict(Form::Quiet)));
+    }
+    if line.begins("--json") {
+        return line.end(Task::Read(Command::Verdict(Form::Json)));
     }
     line.end(Task::Read(Command::Check))
 }
@@ -320,10 +366,23 @@ fn show(mut line: Line) -> Result<Task, WordFault>
     ensures value { result ≡ show (line_of line.entry) }
     ensures within { IfOk result ReadsWithin }
 {
-    if line.begins("--strict") {
-        return line.end(Task::Read(Command::StrictShow));
+    let strict = line.begins("--strict");
+    let contents = line.begins("--no-content");
+    let offsets = line.begins("--no-offsets");
+    line.end(Task::Read(Command::Show(Showing {
+        strict,
+        omitted: Omitted { contents, offsets },
+    })))
+}
+
+fn disasm(mut line: Line) -> Result<Task, WordFault>
+    ensures value { result ≡ disasm (line_of line.entry) }
+    ensures within { IfOk result ReadsWithin }
+{
+    if line.begins("--notes") {
+        return line.end(Task::Read(Command::NotedDisasm));
     }
-    line.end(Task::Read(Command::Show))
+    line.end(Task::Read(Command::Disasm))
 }
 
 fn strict_shader(mut line: Line) -> Result<Task, WordFault>
@@ -394,7 +453,7 @@ fn asked(line: Line) -> Result<Task, WordFault>
         Verb::Tile => Ok(Task::Read(Command::Tile(pictured(line)?))),
         Verb::Level => level(line),
         Verb::Asm => line.end(Task::Read(Command::Asm)),
-        Verb::Disasm => line.end(Task::Read(Command::Disasm)),
+        Verb::Disasm => disasm(line),
         Verb::Shader => shader(line),
         Verb::Explain => explain(line),
     }

@@ -1,15 +1,15 @@
-//! The way from a program's `main` to its end: the words after its name, standard input or a file as a source, standard output as a
-//! sink, a line on standard error where there is something to say, and the status.
+//! The way from a program's `main` to its end: the words after its name, standard input or files as sources, standard output as a sink,
+//! a line on standard error where there is something to say, and the status.
 #![tactic(auto)]
 
-ghost use Rattle.std.specs.Prelude.{◌≡◌, ◌≢◌, ℕ, List, String, Option, None, IfErr};
+ghost use Rattle.std.specs.Prelude.{◌≡◌, ◌≢◌, ◌≤◌, ℕ, length, List, String, Option, None, IfErr};
 ghost use Rattle.std.specs.declared.alloc.Global.{Global};
 ghost use Rattle.std.specs.IoError.{error_kind};
 ghost use Rattle.std.specs.Process.{exit_status};
 ghost use Rattle.std.specs.declared.io.ErrorKind.TheVariants.{OutOfMemory};
 
 use job_io::{ReaderSource, Sink, Source, WriterSink};
-use std::alloc::Global;
+use std::alloc::{AllocError, Global};
 use std::fs::File;
 use std::io::{Eprint, Read, Write};
 use std::process::{ExitCode, Termination};
@@ -57,8 +57,21 @@ pub trait Program {
     /// The program's name, with which its lines begin.
     fn name(&self) -> &'static str;
 
-    /// Whether the last of these words is the name of a file that is to be read in place of standard input.
-    fn names_file(&self, words: &Vec<String>) -> bool;
+    /// How many of the last of these words are names of files, which are to be read in place of standard input one after the other.
+    fn name_count(&self, words: &Vec<String>) -> usize
+        ensures { result ≤ length words.now.items };
+
+    /// Whether any number of names of files, and of folders, may stand behind these words.
+    fn takes_several(&self, words: &Vec<String>) -> bool;
+
+    /// What stands before the output for the file of this name, which is one of so many: it is written where there is an output.
+    fn heading(
+        &self,
+        alloc: Global,
+        words: &Vec<String>,
+        name: &str,
+        count: usize,
+    ) -> Result<Vec<u8>, AllocError>;
 
     /// Whether the third of these words is the name of a file that the output goes to, where the status is 0.
     fn names_output(&self, words: &Vec<String>) -> bool;
@@ -141,30 +154,6 @@ fn tell_notice<P: Program>(rt: &HostRuntime, program: &P, status: u8) {
     }
 }
 
-/// Says what is wrong with the file of this name, or with an end of the program.
-fn tell_of<P: Program, D: fmt::Display + Drop>(
-    rt: &HostRuntime,
-    program: &P,
-    name: &str,
-    reason: D,
-) {
-    let _ = eprintln!(rt; "{}: {name}: {reason}", program.name());
-}
-
-/// Says of the file of this name, or of an end of the program, how it failed; or where that isn't known what the status means.
-fn tell_failure<P: Program>(
-    rt: &HostRuntime,
-    program: &P,
-    name: &str,
-    failure: Option<io::Error>,
-    status: u8,
-) {
-    match failure {
-        Some(error) => tell_of(rt, program, name, error),
-        None => tell_notice(rt, program, status),
-    }
-}
-
 /// Whether the reader of standard output has gone, which is no news to anybody.
 fn is_gone(failure: Option<io::Error>) -> bool {
     match failure {
@@ -173,87 +162,203 @@ fn is_gone(failure: Option<io::Error>) -> bool {
     }
 }
 
-/// Runs the program over the input of this name and a writer, and says what there is to say. A reader of standard output that has enough
-/// learns nothing.
-fn run_between<P: Program, R: Read + Drop, W: Write + Drop>(
+/// A writer that writes these bytes before the first that it is given.
+#[derive(Drop)]
+struct Headed<W> {
+    inner: W,
+    heading: Vec<u8>,
+}
+
+impl<W: Write> Write for Headed<W> {
+    fn write(&mut self, bytes: &[u8]) -> io::Result<usize> {
+        self.inner.write_all(&self.heading)?;
+        self.heading.clear();
+        self.inner.write(bytes)
+    }
+
+    fn flush(&mut self) -> io::Result<()> {
+        self.inner.flush()
+    }
+}
+
+/// A program that is to be run on a file, which is one of so many: its words, and the file's name, or `-` for standard input.
+#[derive(Drop)]
+struct Turn<'a, P> {
+    program: &'a P,
+    words: &'a Vec<String>,
+    name: &'a str,
+    count: usize,
+}
+
+impl<'a, P: Program> Turn<'a, P> {
+    /// What the file is called in a line for a person.
+    fn input(&self) -> &'a str {
+        if self.name == "-" {
+            return STDIN;
+        }
+        self.name
+    }
+
+    /// Says on standard error what a status means. Where that fails there is nobody to tell.
+    fn tell_notice(&self, rt: &HostRuntime, status: u8) {
+        tell_notice(rt, self.program, status)
+    }
+
+    /// Says what is wrong with the file, or with an end of the program.
+    fn tell_of<D: fmt::Display + Drop>(&self, rt: &HostRuntime, name: &str, reason: D) {
+        let _ = eprintln!(rt; "{}: {name}: {reason}", self.program.name());
+    }
+
+    /// Says of the file, or of an end of the program, how it failed; or where that isn't known what the status means.
+    fn tell_failure(&self, rt: &HostRuntime, name: &str, failure: Option<io::Error>, status: u8) {
+        match failure {
+            Some(error) => self.tell_of(rt, name, error),
+            None => self.tell_notice(rt, status),
+        }
+    }
+
+    /// Says why the run ended as it did, of which of several files.
+    fn tell_cause(&self, rt: &HostRuntime, cause: P::Cause) {
+        let _ = if self.count > 1 {
+            eprintln!(rt; "{}: {cause}", self.input())
+        } else {
+            rt.eprintln(cause)
+        };
+    }
+
+    /// Runs the program over this reader and a writer, and says what there is to say. A reader of standard output that has enough learns
+    /// nothing.
+    fn run_between<R: Read + Drop, W: Write + Drop>(
+        &self,
+        rt: &HostRuntime,
+        reader: R,
+        writer: W,
+    ) -> u8 {
+        let named = self
+            .program
+            .heading(rt.alloc(), self.words, self.name, self.count);
+        let Ok(heading) = named else {
+            self.tell_notice(rt, 5);
+            return 5;
+        };
+        let mut input = Watched::new(reader);
+        let mut output = Watched::new(Headed {
+            inner: writer,
+            heading,
+        });
+        let mut source = ReaderSource::new(&mut input);
+        let mut sink = WriterSink::new(&mut output);
+        let ended = self
+            .program
+            .run(rt.alloc(), self.words, &mut source, &mut sink);
+        let Ended { status, cause } = ended;
+        match (cause, status) {
+            (Some(cause), _) => self.tell_cause(rt, cause),
+            (None, _) if is_gone(output.failure) => {}
+            (None, 3) => self.tell_failure(rt, self.input(), input.failure, status),
+            (None, 4) => self.tell_failure(rt, STDOUT, output.failure, status),
+            (None, 6) => self.tell_of(rt, self.input(), self.program.excess(self.words)),
+            (None, _) => self.tell_notice(rt, status),
+        }
+        status
+    }
+
+    /// Puts the output of a run into the file of this name where the status is 0, and else on standard output. It says the status, which
+    /// is 4 where that failed.
+    fn deliver(&self, rt: &HostRuntime, to: &str, output: &Vec<u8>, status: u8) -> u8 {
+        let (place, done) = if status == 0 {
+            (to, fs::write(rt, to, output.as_slice()))
+        } else {
+            (STDOUT, rt.stdout().write_all(output))
+        };
+        match done {
+            Ok(()) => status,
+            Err(error) => {
+                self.tell_of(rt, place, error);
+                4
+            }
+        }
+    }
+
+    /// Runs the program over this reader, with standard output as its sink, or the file that the words name.
+    fn run_on<R: Read + Drop>(&self, rt: &HostRuntime, reader: R) -> u8 {
+        match self.words.get(2) {
+            Some(to) if self.program.names_output(self.words) => {
+                let mut output = Vec::new(rt.alloc());
+                let status = self.run_between(rt, reader, &mut output);
+                self.deliver(rt, to, &output, status)
+            }
+            _ => self.run_between(rt, reader, rt.stdout()),
+        }
+    }
+
+    /// Runs the program on the file. One that can't be opened is status 3.
+    fn run(&self, rt: &HostRuntime) -> u8 {
+        if self.name == "-" {
+            return self.run_on(rt, rt.stdin());
+        }
+        match File::open(rt, self.name) {
+            Ok(file) => self.run_on(rt, file),
+            Err(error) => {
+                self.tell_of(rt, self.name, error);
+                3
+            }
+        }
+    }
+}
+
+/// Whether this is the name of a folder.
+fn is_folder(rt: &HostRuntime, name: &str) -> bool {
+    match fs::metadata(rt, name) {
+        Ok(metadata) => metadata.is_dir(),
+        Err(_) => false,
+    }
+}
+
+/// The files of a folder in order of their names, each with the folder before it, without those of folders in it.
+fn files_of(rt: &HostRuntime, folder: &str) -> io::Result<Vec<String>> {
+    let mut files = Vec::new(rt.alloc());
+    for entry in fs::read_dir(rt, folder)? {
+        let entry = entry?;
+        let path = entry.path().as_str();
+        if !is_folder(rt, path) {
+            files.push(String::from_str(rt.alloc(), path)?)?;
+        }
+    }
+    files.sort()?;
+    Ok(files)
+}
+
+/// The names of files in order, where a folder that can be listed stands for its files.
+fn files_named(rt: &HostRuntime, names: Vec<String>) -> io::Result<Vec<String>> {
+    let mut files = Vec::new(rt.alloc());
+    for name in names {
+        match files_of(rt, &name) {
+            Ok(mut found) if name.as_str() != "-" => files.append(&mut found)?,
+            _ => files.push(name)?,
+        }
+    }
+    Ok(files)
+}
+
+/// Runs the program on the file of each of these names, one after the other, and says the greatest status.
+fn run_on_each<P: Program>(
     rt: &HostRuntime,
     program: &P,
     words: &Vec<String>,
-    name: &str,
-    reader: R,
-    writer: W,
+    names: &Vec<String>,
 ) -> u8 {
-    let mut input = Watched::new(reader);
-    let mut output = Watched::new(writer);
-    let mut source = ReaderSource::new(&mut input);
-    let mut sink = WriterSink::new(&mut output);
-    let Ended { status, cause } = program.run(rt.alloc(), words, &mut source, &mut sink);
-    match (cause, status) {
-        (Some(cause), _) => {
-            let _ = rt.eprintln(cause);
-        }
-        (None, _) if is_gone(output.failure) => {}
-        (None, 3) => tell_failure(rt, program, name, input.failure, status),
-        (None, 4) => tell_failure(rt, program, STDOUT, output.failure, status),
-        (None, 6) => tell_of(rt, program, name, program.excess(words)),
-        (None, _) => tell_notice(rt, program, status),
+    let mut greatest = 0;
+    for name in names {
+        let turn = Turn {
+            program,
+            words,
+            name,
+            count: names.len(),
+        };
+        greatest = greatest.max(turn.run(rt));
     }
-    status
-}
-
-/// Puts the output of a run into the file of this name where the status is 0, and else on standard output. It says the status, which is 4
-/// where that failed.
-fn deliver<P: Program>(
-    rt: &HostRuntime,
-    program: &P,
-    name: &str,
-    output: &Vec<u8>,
-    status: u8,
-) -> u8 {
-    let (place, done) = if status == 0 {
-        (name, fs::write(rt, name, output.as_slice()))
-    } else {
-        (STDOUT, rt.stdout().write_all(output))
-    };
-    match done {
-        Ok(()) => status,
-        Err(error) => {
-            tell_of(rt, program, place, error);
-            4
-        }
-    }
-}
-
-/// Runs the program over the input of this name, with standard output as its sink, or the file that the words name.
-fn run_on<P: Program, R: Read + Drop>(
-    rt: &HostRuntime,
-    program: &P,
-    words: &Vec<String>,
-    name: &str,
-    reader: R,
-) -> u8 {
-    match words.get(2) {
-        Some(to) if program.names_output(words) => {
-            let mut output = Vec::new(rt.alloc());
-            let status = run_between(rt, program, words, name, reader, &mut output);
-            deliver(rt, program, to, &output, status)
-        }
-        _ => run_between(rt, program, words, name, reader, rt.stdout()),
-    }
-}
-
-/// Runs the program on the file of this name, or on standard input where it is `-`. A file that can't be opened is status 3.
-fn run_on_file<P: Program>(rt: &HostRuntime, program: &P, words: &Vec<String>, name: &str) -> u8 {
-    if name == "-" {
-        return run_on(rt, program, words, STDIN, rt.stdin());
-    }
-    match File::open(rt, name) {
-        Ok(file) => run_on(rt, program, words, name, file),
-        Err(error) => {
-            tell_of(rt, program, name, error);
-            3
-        }
-    }
+    greatest
 }
 
 /// The status of a program whose words can't be read: 5 where memory ran out before they were there, and 2 where they aren't text.
@@ -267,17 +372,40 @@ fn wordless(error: &io::Error) -> u8
     2
 }
 
-/// Runs the program, with these words, over standard input, or over the file that the last of them names, and standard output.
+/// Takes the names of files from the end of the words: `-` where there are none, and for a folder its files where the words take several.
+fn take_names<P: Program>(
+    rt: &HostRuntime,
+    program: &P,
+    words: &mut Vec<String>,
+) -> io::Result<Vec<String>> {
+    let start = words.len() - program.name_count(words);
+    let mut names = words.split_off(start)?;
+    if names.is_empty() {
+        names.push(String::from_str(rt.alloc(), "-")?)?;
+    } else if program.takes_several(words) {
+        return files_named(rt, names);
+    }
+    Ok(names)
+}
+
+/// Runs the program with these words over standard input, or over the files that the last of them name, and says the greatest status.
+fn run_on_words<P: Program>(rt: &HostRuntime, program: &P, mut words: Vec<String>) -> u8 {
+    match take_names(rt, program, &mut words) {
+        Ok(names) => run_on_each(rt, program, &words, &names),
+        Err(_) => {
+            tell_notice(rt, program, 5);
+            5
+        }
+    }
+}
+
+/// Runs the program, with these words, over standard input, or over the files that the last of them name, and standard output.
 fn run_with<P: Program>(rt: &HostRuntime, program: &P, words: io::Result<Vec<String>>) -> u8
     ensures starved { IfErr words (λ e. error_kind e ≡ OutOfMemory → result ≡ 5) }
     ensures garbled { IfErr words (λ e. error_kind e ≢ OutOfMemory → result ≡ 2) }
 {
     match words {
-        Ok(mut words) if program.names_file(&words) => match words.pop() {
-            Some(name) => run_on_file(rt, program, &words, &name),
-            None => 2,
-        },
-        Ok(words) => run_on(rt, program, &words, STDIN, rt.stdin()),
+        Ok(words) => run_on_words(rt, program, words),
         Err(error) => {
             let status = wordless(&error);
             tell_notice(rt, program, status);
@@ -302,7 +430,8 @@ impl Termination for Ran {
     }
 }
 
-/// Runs the program over standard input, or over the file that its last word names, and standard output. The status is 5 where memory
+/// Runs the program over standard input, or over the files that its last words name, one after the other, and standard output. The status
+/// is the greatest of these runs. It is 5 where memory
 /// ran out before the words were there, and 2 where they aren't text.
 pub fn run<P: Program>(rt: &HostRuntime, program: &P) -> Ran
     ensures { P.promises }

@@ -3,7 +3,7 @@
 
 use entry::{Ended, Program, Ran};
 use job_io::{Sink, Source, write_all};
-use std::alloc::Global;
+use std::alloc::{AllocError, Global};
 
 struct Line;
 
@@ -18,8 +18,22 @@ impl Program for Line {
         "entry_unread"
     }
 
-    fn names_file(&self, words: &Vec<String>) -> bool {
-        words.len() == 2
+    fn name_count(&self, words: &Vec<String>) -> usize {
+        usize::from(words.len() == 2)
+    }
+
+    fn takes_several(&self, _words: &Vec<String>) -> bool {
+        false
+    }
+
+    fn heading(
+        &self,
+        alloc: Global,
+        _words: &Vec<String>,
+        _name: &str,
+        _count: usize,
+    ) -> Result<Vec<u8>, AllocError> {
+        Ok(Vec::new(alloc))
     }
 
     fn names_output(&self, _words: &Vec<String>) -> bool {

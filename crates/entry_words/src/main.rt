@@ -4,7 +4,7 @@
 
 use entry::{Ended, Program, Ran};
 use job_io::{Failed, Sink, Source, read_all, write_all};
-use std::alloc::Global;
+use std::alloc::{AllocError, Global};
 
 /// The most bytes of input that are written again.
 const LIMIT: usize = 1024;
@@ -41,8 +41,22 @@ impl Program for Words {
         "entry_words"
     }
 
-    fn names_file(&self, _words: &Vec<String>) -> bool {
+    fn name_count(&self, _words: &Vec<String>) -> usize {
+        0
+    }
+
+    fn takes_several(&self, _words: &Vec<String>) -> bool {
         false
+    }
+
+    fn heading(
+        &self,
+        alloc: Global,
+        _words: &Vec<String>,
+        _name: &str,
+        _count: usize,
+    ) -> Result<Vec<u8>, AllocError> {
+        Ok(Vec::new(alloc))
     }
 
     fn names_output(&self, _words: &Vec<String>) -> bool {

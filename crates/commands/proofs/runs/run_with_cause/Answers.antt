@@ -1,8 +1,8 @@
 -- What `check` answers of an accepted file is safe to run.
-use Rattle.std.proofs.Common.{◌≡◌, Some, Ok, sym, ap, arith, rules, ◌∙◌}
+use Rattle.std.proofs.Common.{◌≡◌, true, Some, Ok, IfSome, sym, ap, subst, arith, rules, ◌∙◌}
 use Rattle.std.specs.Result.{result_ok}
 use Rattle.commands.specs.declared.command.{Command.Command, Command.TheVariants.Check, Command.TheVariants.StrictCheck, Task.TheVariants.Read}
-use Rattle.commands.specs.{Line.texts, Words.task_or_fault}
+use Rattle.commands.specs.{Cause.IsCause, Cause.is_reported, Line.texts, Run.IsServed, Words.task_or_fault}
 use Rattle.commands.proofs.{Headline.safely_accepted, Headline.strictly_accepted, Promised.promises}
 use Rattle.commands.proofs.runs.run_with_cause.Goals as goal
 
@@ -10,33 +10,44 @@ same_command : (one other : Command) → Some (Read one) ≡ Some (Read other) �
 same_command one other same = cc
 
 pub returns-in-Ok-Read : goal.returns-in-Ok-Read
-returns-in-Ok-Read g c = record {
-  run = record {
-    ends = search rules;
-    served = search rules;
-    made = search rules;
-    said = search rules;
-    safe = λ asked zero.
-        let same =
-        sym (c.in-Ok-Read.is ∙ ap Ok c.in-Ok-Read.field-0-is)
-        ∙ c.task_of.ensures.value
-        ∙ ap (λ words. task_or_fault (texts words)) c.deref.ensures.value in
-        let read : Some (Read c.in-Ok-Read.command) ≡ Some (Read Check) = ap result_ok same ∙ asked in
-        let is = same_command c.in-Ok-Read.command Check read in
-        safely_accepted (g.S.Source.left c.args.source.now) c.in-Ok-Read.command c.serve.result.status (g.K.Sink.held c.args.sink.now) (g.K.Sink.held c.serve.new.sink)
-        is zero (c.serve.ensures.answered (omega (arith, zero)));
-    strictly_safe = λ asked zero.
-        let same =
-        sym (c.in-Ok-Read.is ∙ ap Ok c.in-Ok-Read.field-0-is)
-        ∙ c.task_of.ensures.value
-        ∙ ap (λ words. task_or_fault (texts words)) c.deref.ensures.value in
-        let read : Some (Read c.in-Ok-Read.command) ≡ Some (Read StrictCheck) = ap result_ok same ∙ asked in
-        let is = same_command c.in-Ok-Read.command StrictCheck read in
-        strictly_accepted (g.S.Source.left c.args.source.now) c.in-Ok-Read.command c.serve.result.status (g.K.Sink.held c.args.sink.now) (g.K.Sink.held c.serve.new.sink)
-        is zero (c.serve.ensures.answered (omega (arith, zero)));
-    promises = promises;
-  };
-  cause = search rules;
-  wrong = search rules;
-  quiet = search rules;
-}
+returns-in-Ok-Read g c =
+    let left = g.S.Source.left c.args.source.now in
+    let rest = g.S.Source.left c.serve.new.source in
+    let before = g.K.Sink.held c.args.sink.now in
+    let now = g.K.Sink.held c.serve.new.sink in
+    let status = c.serve.result.status in
+    let own = c.in-Ok-Read.command in
+    let same =
+    sym (c.in-Ok-Read.is ∙ ap Ok c.in-Ok-Read.field-0-is)
+    ∙ c.task_of.ensures.value
+    ∙ ap (λ words. task_or_fault (texts words)) c.deref.ensures.value in
+    record {
+      run = record {
+        ends = search rules;
+        served = λ command asked.
+            let read : Some (Read own) ≡ Some (Read command) = ap result_ok same ∙ asked in
+            subst (λ k. IsServed k left rest before now status) (same_command own command read)
+            (record {
+              all = c.serve.ensures.all;
+              long = c.serve.ensures.long;
+              within = c.serve.ensures.within;
+              answered = c.serve.ensures.answered;
+              cut = c.serve.ensures.cut;
+            });
+        made = search rules;
+        said = search rules;
+        safe = λ asked zero.
+            let read : Some (Read own) ≡ Some (Read Check) = ap result_ok same ∙ asked in
+            safely_accepted left own status before now (same_command own Check read) zero (c.serve.ensures.answered (omega (arith, zero)));
+        strictly_safe = λ asked zero.
+            let read : Some (Read own) ≡ Some (Read StrictCheck) = ap result_ok same ∙ asked in
+            strictly_accepted left own status before now (same_command own StrictCheck read) zero (c.serve.ensures.answered (omega (arith, zero)));
+        promises = promises;
+      };
+      cause = λ command asked.
+          let read : Some (Read own) ≡ Some (Read command) = ap result_ok same ∙ asked in
+          subst (λ k. is_reported k status ≡ true → IfSome left (λ bytes. IsCause k bytes c.serve.result.cause)) (same_command own command read)
+          c.serve.ensures.cause;
+      wrong = search rules;
+      quiet = search rules;
+    }
