@@ -11,8 +11,10 @@ pub struct Tally {
     pub differ: u32,
 }
 
-/// Says of a case what was answered instead, with the first bytes of the output where they are text.
-fn tell(rt: &HostRuntime, name: &str, line: u32, got: &Outcome) -> io::Result<()> {
+/// Says of a case that ends at this line of the file of this name what was answered instead, with the first bytes of the output where they are
+/// text.
+fn tell(rt: &HostRuntime, end: (&str, u32), got: &Outcome) -> io::Result<()> {
+    let (name, line) = end;
     let front = got.output.get(..4096).unwrap_or(&got.output);
     let output = str::from_utf8(front).unwrap_or("(no text)");
     let status = got.status;
@@ -23,12 +25,11 @@ fn tell(rt: &HostRuntime, name: &str, line: u32, got: &Outcome) -> io::Result<()
     )
 }
 
-/// Tries a case that ends at this line of its file.
+/// Tries a case that ends at this line of the file of this name.
 fn judge<P: Program>(
     rt: &HostRuntime,
     program: &P,
-    name: &str,
-    line: u32,
+    end: (&str, u32),
     case: Case,
     tally: &mut Tally,
 ) -> io::Result<()> {
@@ -38,7 +39,7 @@ fn judge<P: Program>(
     tally.tried = tally.tried.saturating_add(1);
     if let Some(got) = case.difference(rt.alloc(), program)? {
         tally.differ = tally.differ.saturating_add(1);
-        tell(rt, name, line, &got)?;
+        tell(rt, end, &got)?;
     }
     Ok(())
 }
@@ -56,7 +57,7 @@ fn try_file<P: Program>(
     for line in text.lines() {
         number = number.saturating_add(1);
         if line.is_empty() {
-            judge(rt, program, name, number, case, tally)?;
+            judge(rt, program, (name, number), case, tally)?;
             case = Case::new(rt.alloc());
         } else if !line.starts_with('#') {
             let (key, rest) = line.split_once(':').unwrap_or((line, ""));
@@ -67,7 +68,7 @@ fn try_file<P: Program>(
             }
         }
     }
-    judge(rt, program, name, number, case, tally)
+    judge(rt, program, (name, number), case, tally)
 }
 
 /// Tries the cases of the files that the file `list` names, and says how many there are and how many of them differ.

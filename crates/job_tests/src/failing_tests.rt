@@ -65,11 +65,14 @@ fn failing_sinks_hold_a_front(rt: HostRuntime) -> Result<(), Fail> {
     Ok(())
 }
 
-// One word more than a command takes is the name of a file.
+// Words that a command doesn't take are names of files.
 #[test]
-fn a_last_word_names_a_file(rt: HostRuntime) -> Result<(), Fail> {
+fn last_words_name_files(rt: HostRuntime) -> Result<(), Fail> {
     let alloc = rt.alloc();
-    assert!(rt; Checker.names_file(&words(alloc, &["check", "job"])?));
-    assert!(rt; !Checker.names_file(&words(alloc, &["check"])?));
+    assert_eq!(rt;
+        Checker.name_count(&words(alloc, &["check", "one", "two"])?),
+        2
+    );
+    assert_eq!(rt; Checker.name_count(&words(alloc, &["check"])?), 0);
     Ok(())
 }

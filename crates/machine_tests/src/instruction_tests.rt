@@ -1,7 +1,7 @@
 //! Single instructions of a thread that has worked, as tables.
 use arrayvec::ArrayVec;
 use field_words::{Actor, NoMemory, Way};
-use machine_plan::{Launch, Who};
+use machine_plan::{Launch, Reader, Who};
 use phys_mem::PhysMem;
 use qpu_machine::{Ask, Fate, Leaves, Mark, Thread, is_ready, serve, start_thread, step_thread};
 use std::alloc::Global;
@@ -71,7 +71,7 @@ fn step(thread: &mut Thread, memory: &PhysMem, words: &[u32]) -> (Option<Leaves>
         return (None, reads);
     }
     let mut accesses = ArrayVec::new();
-    let left = step_thread(thread, &words, who, memory, &mut accesses);
+    let left = step_thread(thread, &words, &Reader { who, memory }, &mut accesses);
     for (read, access) in reads.iter_mut().zip(accesses.iter()) {
         if access.way == Way::Read {
             *read = (access.place, access.len);
@@ -409,6 +409,10 @@ fn textures(rt: HostRuntime) -> Result<(), NoMemory> {
         job: 0,
     };
     let memory = memory_with(rt.alloc(), NOTHING)?;
+    let reader = Reader {
+        who,
+        memory: &memory,
+    };
     for four in [
         [BASE + CUBE, SIDES, STRIDE, STRIDE],
         [BASE + CUBE, SIDES, 0, 0],
@@ -419,7 +423,7 @@ fn textures(rt: HostRuntime) -> Result<(), NoMemory> {
     ] {
         let mut accesses = ArrayVec::new();
         let none: &[u32] = &[];
-        assert!(rt; serve(&Ask::Texture(four), &none, who, &memory, &mut accesses).is_none());
+        assert!(rt; serve(&Ask::Texture(four), &none, &reader, &mut accesses).is_none());
         assert!(rt; accesses.len() == 1 && accesses[0].way == Way::Wild);
     }
     // A pixel of 8x8 in microtiles of 4x4; level 1, below the face's own pixels; face 9 modulo 6; a pixel in raster.
@@ -431,7 +435,7 @@ fn textures(rt: HostRuntime) -> Result<(), NoMemory> {
     ] {
         let mut accesses = ArrayVec::new();
         let words: &[u32] = &words;
-        let served = serve(&Ask::Texture(four), &words, who, &memory, &mut accesses);
+        let served = serve(&Ask::Texture(four), &words, &reader, &mut accesses);
         assert!(rt; served == Some(None) && accesses.len() == 128);
         assert!(rt; (accesses[0].place, accesses[0].len) == (place, len));
         assert!(rt; (accesses[1].place, accesses[1].len) == (4096, len));

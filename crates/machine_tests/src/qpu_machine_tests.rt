@@ -3,9 +3,9 @@ ghost use Rattle.std.specs.Prelude.{◌≡◌, []};
 
 use arrayvec::ArrayVec;
 use field_words::{Access, Actor, NoMemory, Way};
-use machine_plan::{Launch, Who};
+use machine_plan::{Launch, Reader, Who};
 use phys_mem::PhysMem;
-use qpu_machine::{Ask, Fate, Leaves, Thread, is_ready, serve, start_thread, step_thread};
+use qpu_machine::{Ask, Fate, Leaves, Thread, serve, start_thread, step_thread};
 use std::alloc::Global;
 
 const QPU: Who = Who {
@@ -41,7 +41,7 @@ fn step(thread: &mut Thread, memory: &PhysMem, words: &[u32]) -> (Option<Leaves>
         return (None, 0);
     }
     let mut accesses = ArrayVec::new();
-    let left = step_thread(thread, &words, QPU, memory, &mut accesses);
+    let left = step_thread(thread, &words, &Reader { who: QPU, memory }, &mut accesses);
     (left, accesses.len())
 }
 
@@ -58,57 +58,6 @@ fn goes_on(thread: &mut Thread, memory: &PhysMem, steps: usize) -> bool {
         }
     }
     true
-}
-
-// A load immediate of 5 by the unit's condition and write address.
-const LOAD_FIVE: u64 = (14 << 60) + 5;
-
-// Condition 2 of the add unit writes r0, of the multiply unit r1: element by element as choice word 0 says. A fresh thread
-// has its r0 to r5 from choice words 82 on.
-#[test]
-fn masks_writes(rt: HostRuntime) -> Result<(), NoMemory> {
-    let word = LOAD_FIVE + (2 << 49) + (2 << 46) + (32 << 38) + (33 << 32);
-    let memory = memory_with(rt.alloc(), &[word])?;
-    let mut thread = program(false);
-    let mut words = [0; 178];
-    words[0] = 0x8000_0003;
-    words[82 + 2] = 9;
-    words[98 + 14] = 8;
-    let (left, accesses) = step(&mut thread, &memory, &words);
-    assert!(rt; left.is_some() && accesses == 1);
-    assert!(rt; thread.acc[0] == [5, 5, 9, 0, 0, 0, 0, 0, 0, 0, 0, 0, 0, 0, 0, 0]);
-    assert!(rt; thread.acc[1] == [0, 0, 0, 0, 0, 0, 0, 0, 0, 0, 0, 0, 0, 0, 8, 5]);
-    Ok(())
-}
-
-// r0 is loaded with 5, and sent to TMU 0 as 16 addresses. A load waits for the result, and takes it into r4.
-#[test]
-fn asks_and_loads(rt: HostRuntime) -> Result<(), NoMemory> {
-    let load = LOAD_FIVE + (1 << 49) + (32 << 38) + (39 << 32);
-    let send = (1 << 60) + (1 << 49) + (56 << 38) + (39 << 32) + (21 << 24);
-    let take = (10 << 60) + (39 << 38) + (39 << 32);
-    let memory = memory_with(rt.alloc(), &[load, send, take])?;
-    let mut thread = program(false);
-    assert!(rt; goes_on(&mut thread, &memory, 1));
-    let (left, accesses) = step(&mut thread, &memory, &[]);
-    let asked = left.and_then(|left| left.asked);
-    assert!(rt;
-        accesses == 1
-            && asked.is_some_and(|asked| asked.tmu == 0 && asked.ask == Ask::Direct([5; 16]))
-    );
-    if thread.place < 1 << 62 {
-        assert!(rt; !is_ready(&thread, 1, 0, &memory));
-    }
-    if !thread.results0.is_full() {
-        thread.results0.push(Some([7; 16]));
-    }
-    if thread.place < 1 << 62 {
-        assert!(rt; is_ready(&thread, 0, 0, &memory));
-    }
-    assert!(rt;
-        goes_on(&mut thread, &memory, 1) && thread.acc[4] == [7; 16] && thread.results0.is_empty()
-    );
-    Ok(())
 }
 
 // A setup word for T of TMU 1 is the uniform; a send then asks for a texture.
@@ -183,7 +132,7 @@ fn served(
 ) -> Option<Option<[u32; 16]>>
     requires { accesses.old.items ≡ [] }
 {
-    serve(&ask, &words, QPU, memory, accesses)
+    serve(&ask, &words, &Reader { who: QPU, memory }, accesses)
 }
 
 // A direct request reads the word of each address, without its low two bits.
@@ -200,27 +149,6 @@ fn serves_direct(rt: HostRuntime) -> Result<(), NoMemory> {
     want[15] = 0;
     assert!(rt; result == Some(Some(want)) && accesses.len() == 16);
     assert!(rt; accesses[1].place == 4 && accesses[1].len == 4 && accesses[15].place == 0x10_0000);
-    Ok(())
-}
-
-// A cube map of 16x16 pixels of 4 bytes at 0x1000, whose faces are 0x1000 apart. Its level 1 has 8x8 pixels (0x100 bytes)
-// below each face. Read 0 chooses face 5 and pixel (8, 4) of level 0, read 1 face 1 and pixel (4, 4) of level 1, read 2 the
-// first pixel.
-#[test]
-fn serves_a_cube(rt: HostRuntime) -> Result<(), NoMemory> {
-    let memory = memory_with(rt.alloc(), &[])?;
-    let four = [
-        0x1000 + (1 << 9) + 1,
-        (16 << 20) + (16 << 8),
-        (1 << 30) + 0x1000,
-        0,
-    ];
-    let words = [2, 5, 8, 4, 1, 1, 4, 4];
-    let mut accesses = ArrayVec::new();
-    let result = served(Ask::Texture(four), &words, &memory, &mut accesses);
-    assert!(rt; result == Some(None) && accesses.len() == 128);
-    assert!(rt; accesses[0].place == 0x6000 + 64 * 6 && accesses[0].len == 64);
-    assert!(rt; accesses[1].place == 0x2000 - 0x100 + 64 * 3 && accesses[2].place == 0x1000);
     Ok(())
 }
 

@@ -1,4 +1,4 @@
-//! Tests of input and output, of scripts, and of the words of rules. A crate with tests is proved twice, so those of several crates stand in
+//! Tests of input and output, of instructions' familiar texts, and of the words of rules. A crate with tests is proved twice, so those of several crates stand in
 //! one, which has nothing else.
 #![tactic(auto)]
 
@@ -8,5 +8,3 @@ mod job_io_tests;
 mod qpu_text_tests;
 #[cfg(test)]
 mod rule_words_tests;
-#[cfg(test)]
-mod script_tests;
