@@ -1,11 +1,9 @@
 //! Cutting a binner list into packets, and reading a packet's fields.
-ghost use Rattle.std.specs.Prelude.{◌≡◌, ◌≤◌, ◌<◌, ◌+◌, length, slice_index, IfSome};
-ghost use Rattle.field_words.specs.Words.{u32_at};
+ghost use Rattle.std.specs.Prelude.{◌≡◌, ◌≤◌, ◌+◌, length, IfSome};
 ghost use Rattle.packets.specs.Length.{bin_taken};
 ghost use Rattle.bin_list.specs.Packets.{opcode, front_packet, behind};
 ghost use Rattle.bin_list.specs.Fine.{IsPlainFront};
 
-use byteorder::{ByteOrder, LittleEndian};
 use packets::bin_taken;
 use packets::opcode::HALT;
 
@@ -16,25 +14,6 @@ pub(crate) fn opcode(packet: &[u8]) -> u8
     ensures { result ≡ opcode packet.now }
 {
     packet[0]
-}
-
-/// The byte of a packet at this place.
-#[inline(always)]
-pub(crate) fn byte_at(packet: &[u8], at: usize) -> u8
-    requires { at < length packet.now }
-    ensures { result ≡ slice_index packet.now at }
-{
-    packet[at]
-}
-
-/// The number of four bytes of a packet at this place.
-#[inline(always)]
-#[tactic(auto, unfolding(field_words::specs::Words::u32_at))]
-pub(crate) fn word_at(packet: &[u8], at: usize) -> u32
-    requires { at + 4 ≤ length packet.now }
-    ensures { result ≡ u32_at packet.now at }
-{
-    LittleEndian::read_u32(&packet[at..])
 }
 
 /// The bytes of a plain packet by its opcode, from opcode 0 on. It is 0 where no packet has the opcode, and where one has rules

@@ -9,11 +9,11 @@ ghost use Rattle.bin_list.specs.Fine.{IsFine, IsLow};
 ghost use Rattle.bin_list.specs.Emitted.{index_text, state_text, config_text, packet_text};
 ghost use Rattle.field_words.specs.Writes.{with_bytes};
 
-use crate::cut::{byte_at, opcode, word_at};
+use crate::cut::opcode;
 use crate::given::Given;
 use crate::rules::index_buffer;
 use crate::seen::Seen;
-use field_words::{SLOT_SIZE, put_u32};
+use field_words::{SLOT_SIZE, byte_at, put_u32, word_at};
 use packets::opcode::{BUFFER_HANDLES, GL_SHADER_STATE, INDEXED_PRIMITIVE_LIST, TILE_BINNING_MODE};
 use relocation::Layout;
 use tile_memory::alloc_offset;

@@ -12,11 +12,12 @@ ghost use Rattle.bin_list.specs.Packets.{opcode};
 ghost use Rattle.bin_list.specs.Fine.{IsFine};
 ghost use Rattle.bin_list.specs.Rules.{cut_questions, flush_questions, start_questions, increment_questions, primitive_questions, index_buffer, index_size, indexes_end, index_questions, array_questions, state_questions, config_questions, kind_questions, packet_questions, end_questions};
 
-use crate::cut::{byte_at, opcode, word_at};
+use crate::cut::opcode;
 use crate::given::Given;
 use crate::rule::BinRule;
 use crate::seen::Seen;
 use buffer_table::{Buffer, use_data};
+use field_words::{byte_at, word_at};
 use packets::bin_length;
 use packets::opcode::{
     ARRAY_PRIMITIVE_LIST, FLUSH, GL_SHADER_STATE, INCREMENT_SEMAPHORE, INDEXED_PRIMITIVE_LIST,

@@ -6,7 +6,8 @@ ghost use Rattle.bin_list.specs.Packets.{opcode};
 ghost use Rattle.bin_list.specs.Fine.{IsBounded};
 ghost use Rattle.bin_list.specs.Seen.{seen_before, seen_after, seen_past};
 
-use crate::cut::{byte_at, opcode, word_at};
+use crate::cut::opcode;
+use field_words::{byte_at, word_at};
 use packets::opcode::{BUFFER_HANDLES, GL_SHADER_STATE, START_TILE_BINNING, TILE_BINNING_MODE};
 use packets::record_room;
 

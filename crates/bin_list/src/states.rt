@@ -8,8 +8,9 @@ ghost use Rattle.bin_list.specs.Packets.{opcode};
 ghost use Rattle.bin_list.specs.States.{state, last_index, draws_to};
 ghost use Rattle.bin_list.specs.Collected.{with_index, all_states};
 
-use crate::cut::{opcode, word_at};
+use crate::cut::opcode;
 use crate::state::State;
+use field_words::word_at;
 use packets::opcode::{ARRAY_PRIMITIVE_LIST, GL_SHADER_STATE, INDEXED_PRIMITIVE_LIST};
 use std::alloc::{AllocError, Global};
 

@@ -79,7 +79,7 @@ pub(crate) fn end_of(x: &Item) -> u128
 }
 
 /// Item `k` of a table: the lists' region, the tile region, and then the buffers. Past the end it has no bytes.
-pub(crate) fn item_at(regions: &Regions, buffers: &[Buffer], k: usize) -> Item
+pub fn item_at(regions: &Regions, buffers: &[Buffer], k: usize) -> Item
     ensures { result ≡ item_at (items_of regions.now buffers.now) k }
 {
     match k {

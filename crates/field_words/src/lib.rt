@@ -17,4 +17,4 @@ pub use access::{Access, Actor, Way};
 pub use sizes::{MOST_CODE, MOST_LIST, MOST_MEMORY, MOST_WORDS, PAGE_SIZE, SLOT_SIZE};
 pub use steps::Steps;
 pub use stop::{NoMemory, Stop};
-pub use words::{field, get_u16, get_u32, put_u32, round_up};
+pub use words::{byte_at, field, get_u16, get_u32, put_u32, round_up, word_at};

@@ -1,6 +1,7 @@
 //! Answers for want of memory.
 ghost use Rattle.std.specs.Prelude.{◌≡◌};
 ghost use Rattle.field_words.specs.declared.stop.Stop.TheVariants.{NoMemory as OutOfMemory};
+ghost use Rattle.field_words.specs.Stops.{IfFault, IsFaultAnd};
 
 use std::alloc::{AllocError, AllocFailed};
 use std::fmt::Display;
@@ -56,5 +57,19 @@ impl<F> From<NoMemory> for Stop<F> {
 
     fn from(_error: NoMemory) -> Stop<F> {
         Stop::NoMemory
+    }
+}
+
+impl<F> Stop<F> {
+    /// The same stop, with its fault changed.
+    pub fn map_fault<G, C: FnOnce(F) -> G>(self, change: C) -> Stop<G>
+        requires { IfFault self (C.pre change) }
+        ensures fault { IfFault self (λ fault. IsFaultAnd result (C.post change fault)) }
+        ensures memory { self ≡ OutOfMemory → result ≡ OutOfMemory }
+    {
+        match self {
+            Stop::Fault(fault) => Stop::Fault(change(fault)),
+            Stop::NoMemory => Stop::NoMemory,
+        }
     }
 }

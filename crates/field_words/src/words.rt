@@ -1,5 +1,5 @@
 //! Little-endian numbers at a place, bit fields, and rounding up.
-ghost use Rattle.std.specs.Prelude.{◌≡◌, ◌+◌, ◌-◌, ◌*◌, ◌%◌, ◌^◌, ◌<◌, ◌≤◌, length};
+ghost use Rattle.std.specs.Prelude.{◌≡◌, ◌+◌, ◌-◌, ◌*◌, ◌%◌, ◌^◌, ◌<◌, ◌≤◌, length, drop, slice_index};
 ghost use Rattle.std.specs.Option.{SomeIff};
 ghost use Rattle.std.specs.Int.{to_le_bytes, w32};
 ghost use Rattle.field_words.specs.Words.{u16_at, u32_at, bits_of, IsRoundedUp};
@@ -29,6 +29,40 @@ pub fn get_u32(bytes: &[u8], at: usize) -> Option<u32>
         return None;
     }
     Some(LittleEndian::read_u32(&bytes[at..]))
+}
+
+/// The byte at `at`; 0 past the end.
+pub fn byte_at(bytes: &[u8], at: usize) -> u8
+    ensures { result ≡ slice_index bytes.now at }
+{
+    match bytes.get(at) {
+        Some(byte) => *byte,
+        None => 0,
+    }
+}
+
+/// The bytes from `at` on, none past the end.
+fn bytes_from(bytes: &[u8], at: usize) -> &[u8]
+    ensures { result.now ≡ drop at bytes.now }
+{
+    &bytes[at.min(bytes.len())..]
+}
+
+/// The little-endian number of four bytes at `at`, of which those past the end count as 0.
+#[tactic(auto, unfolding(crate::specs::Words::u32_at))]
+pub fn word_at(bytes: &[u8], at: usize) -> u32
+    ensures { result ≡ u32_at bytes.now at }
+{
+    if let Some(word) = get_u32(bytes, at) {
+        return word;
+    }
+    let here = bytes_from(bytes, at);
+    u32::from_le_bytes([
+        byte_at(here, 0),
+        byte_at(here, 1),
+        byte_at(here, 2),
+        byte_at(here, 3),
+    ])
 }
 
 /// Writes `word`, little endian, at `at`. Only these four bytes change.

@@ -11,8 +11,7 @@ use crate::sizes::{
     ENTRY_SIZE, HEADER_SIZE, JOB_SIZE, MAGIC, MOST_JOBS, MOST_STATES, buffer_limit, entry_offset,
     handle_limit, job_offset,
 };
-use crate::words::word;
-use field_words::{MOST_CODE, MOST_LIST};
+use field_words::{MOST_CODE, MOST_LIST, word_at};
 
 fn fault_of(rule: FormatRule, part: Part, index: usize, at: usize) -> FormatFault
     requires { index < 2 ^ 32 }
@@ -73,21 +72,21 @@ fn header_fault(bytes: &[u8]) -> Option<FormatFault>
     if bytes.len() < HEADER_SIZE {
         return fault(FormatRule::EndsEarly, Part::Header, 0, 0);
     }
-    if word(bytes, 0) != MAGIC {
+    if word_at(bytes, 0) != MAGIC {
         return fault(FormatRule::NotAJobFile, Part::Header, 0, 0);
     }
-    let version = word(bytes, 4);
+    let version = word_at(bytes, 4);
     if !is_version(version) {
         return fault(FormatRule::NotAJobFile, Part::Header, 0, 4);
     }
-    if word(bytes, 28) > buffer_limit(version) {
+    if word_at(bytes, 28) > buffer_limit(version) {
         return fault(FormatRule::OverLimit, Part::Header, 0, 28);
     }
-    let jobs = word(bytes, 32);
+    let jobs = word_at(bytes, 32);
     if is_miscounted(version, jobs) {
         return fault(FormatRule::OverLimit, Part::Header, 0, 32);
     }
-    if lacks_slots(version, word(bytes, 24), jobs) {
+    if lacks_slots(version, word_at(bytes, 24), jobs) {
         return fault(FormatRule::LacksSlots, Part::Header, 0, 24);
     }
     None
@@ -104,11 +103,11 @@ fn entry_fault(bytes: &[u8], b: usize, at: usize) -> Option<FormatFault>
     if bytes.len() - at < ENTRY_SIZE {
         return fault(FormatRule::EndsEarly, Part::Entry, b, 0);
     }
-    let kind = word(bytes, at + 12);
+    let kind = word_at(bytes, at + 12);
     if kind > 1 {
         return fault(FormatRule::WithoutMeaning, Part::Entry, b, 12);
     }
-    if kind == 1 && word(bytes, at + 16) > MOST_CODE {
+    if kind == 1 && word_at(bytes, at + 16) > MOST_CODE {
         return fault(FormatRule::OverLimit, Part::Entry, b, 16);
     }
     None
@@ -126,25 +125,25 @@ fn job_entry_fault(bytes: &[u8], j: usize, at: usize) -> Option<FormatFault>
     if bytes.len() - at < JOB_SIZE {
         return fault(FormatRule::EndsEarly, Part::JobEntry, j, 0);
     }
-    if word(bytes, at + 4) > 1 {
+    if word_at(bytes, at + 4) > 1 {
         return fault(FormatRule::WithoutMeaning, Part::JobEntry, j, 4);
     }
-    if word(bytes, at + 8) > handle_limit(word(bytes, 4)) {
+    if word_at(bytes, at + 8) > handle_limit(word_at(bytes, 4)) {
         return fault(FormatRule::OverLimit, Part::JobEntry, j, 8);
     }
-    if word(bytes, at + 12) > MOST_LIST {
+    if word_at(bytes, at + 12) > MOST_LIST {
         return fault(FormatRule::OverLimit, Part::JobEntry, j, 12);
     }
-    if word(bytes, at + 16) > MOST_LIST {
+    if word_at(bytes, at + 16) > MOST_LIST {
         return fault(FormatRule::OverLimit, Part::JobEntry, j, 16);
     }
-    if word(bytes, at + 20) > MOST_STATES {
+    if word_at(bytes, at + 20) > MOST_STATES {
         return fault(FormatRule::OverLimit, Part::JobEntry, j, 20);
     }
-    if word(bytes, at + 24) > MOST_LIST {
+    if word_at(bytes, at + 24) > MOST_LIST {
         return fault(FormatRule::OverLimit, Part::JobEntry, j, 24);
     }
-    if word(bytes, at + 24) % 4 != 0 {
+    if word_at(bytes, at + 24) % 4 != 0 {
         return fault(FormatRule::WithoutMeaning, Part::JobEntry, j, 24);
     }
     if bytes[at + 121] != 0 {
@@ -219,7 +218,7 @@ pub(crate) fn content_size(bytes: &[u8], b: usize) -> usize
     requires entry { entry_offset b + entry_size ≤ length bytes.now }
     ensures { result ≡ content_size bytes.now b }
 {
-    word(bytes, entry_offset(b) + 16) as usize
+    word_at(bytes, entry_offset(b) + 16) as usize
 }
 
 /// The contents of buffer `b`, which begin at `at`, and the offset where they end.
@@ -270,22 +269,22 @@ fn parts_fault(bytes: &[u8], buffers: usize, j: usize, at: usize) -> Result<usiz
         (λ end. (end ≡ handles_offset bytes.now (j + 1)) × (end ≤ length bytes.now)) result }
 {
     let job = job_offset(buffers, j);
-    let handles = 4 * word(bytes, job + 8) as usize;
+    let handles = 4 * word_at(bytes, job + 8) as usize;
     if bytes.len() - at < handles {
         return Err(fault_of(FormatRule::EndsEarly, Part::Handles, j, 0));
     }
     let at = at + handles;
-    let bin = word(bytes, job + 12) as usize;
+    let bin = word_at(bytes, job + 12) as usize;
     if bytes.len() - at < bin {
         return Err(fault_of(FormatRule::EndsEarly, Part::BinnerList, j, 0));
     }
     let at = at + bin;
-    let records = word(bytes, job + 16) as usize;
+    let records = word_at(bytes, job + 16) as usize;
     if bytes.len() - at < records {
         return Err(fault_of(FormatRule::EndsEarly, Part::Records, j, 0));
     }
     let at = at + records;
-    let uniforms = word(bytes, job + 24) as usize;
+    let uniforms = word_at(bytes, job + 24) as usize;
     if bytes.len() - at < uniforms {
         return Err(fault_of(FormatRule::EndsEarly, Part::Uniforms, j, 0));
     }
@@ -388,6 +387,10 @@ pub(crate) fn format_fault(bytes: &[u8]) -> Option<FormatFault>
 {
     match header_fault(bytes) {
         Some(fault) => Some(fault),
-        None => body_fault(bytes, word(bytes, 28) as usize, word(bytes, 32) as usize),
+        None => body_fault(
+            bytes,
+            word_at(bytes, 28) as usize,
+            word_at(bytes, 32) as usize,
+        ),
     }
 }

@@ -9,7 +9,6 @@ mod reading;
 mod rule;
 mod sizes;
 mod upgrade;
-mod words;
 mod writing;
 
 pub use file::{Frame, Job, JobFile, Surface};

@@ -1,34 +1,11 @@
 //! Places in the file's bytes.
-ghost use Rattle.std.specs.Prelude.{◌≡◌, ◌<◌, ◌+◌, ◌^◌, slice_index};
-ghost use Rattle.field_words.specs.Words.{u32_at};
+ghost use Rattle.std.specs.Prelude.{◌≡◌, ◌<◌, ◌+◌, ◌^◌};
 ghost use Rattle.job_format.specs.Offsets.{job_word, content_offset, handles_offset};
 ghost use Rattle.job_format.specs.Places.{start_of, offset_of};
 
 use crate::rule::{Part, Place};
 use crate::sizes::{entry_offset, job_offset};
-
-/// The byte at `at`; past the end it is zero.
-fn byte(bytes: &[u8], at: usize) -> u8
-    ensures { result ≡ slice_index bytes.now at }
-{
-    if bytes.len() <= at {
-        return 0;
-    }
-    bytes[at]
-}
-
-/// The number of the four bytes at `at`, of which those past the end are zeros.
-fn word(bytes: &[u8], at: usize) -> u32
-    requires { at < 2 ^ 63 }
-    ensures { result ≡ u32_at bytes.now at }
-{
-    u32::from_le_bytes([
-        byte(bytes, at),
-        byte(bytes, at + 1),
-        byte(bytes, at + 2),
-        byte(bytes, at + 3),
-    ])
-}
+use field_words::word_at;
 
 /// The word at `k` bytes in the entry of job `j`.
 fn job_word(bytes: &[u8], j: usize, k: usize) -> u128
@@ -37,8 +14,8 @@ fn job_word(bytes: &[u8], j: usize, k: usize) -> u128
     ensures value { result ≡ job_word bytes.now j k }
     ensures fits { result < 2 ^ 32 }
 {
-    let buffers = word(bytes, 28) as usize;
-    u128::from(word(bytes, job_offset(buffers, j) + k))
+    let buffers = word_at(bytes, 28) as usize;
+    u128::from(word_at(bytes, job_offset(buffers, j) + k))
 }
 
 /// Where the contents of buffer `b` begin.
@@ -48,9 +25,9 @@ fn content_offset(bytes: &[u8], b: usize) -> u128
     ensures value { result ≡ content_offset bytes.now b }
     ensures fits { result < 2 ^ 66 }
 {
-    let mut offset = job_offset(word(bytes, 28) as usize, word(bytes, 32) as usize) as u128;
+    let mut offset = job_offset(word_at(bytes, 28) as usize, word_at(bytes, 32) as usize) as u128;
     for k in 0..b {
-        offset += u128::from(word(bytes, entry_offset(k) + 16));
+        offset += u128::from(word_at(bytes, entry_offset(k) + 16));
     }
     offset
 }
@@ -62,7 +39,7 @@ fn handles_offset(bytes: &[u8], j: usize) -> u128
     ensures value { result ≡ handles_offset bytes.now j }
     ensures fits { result < 2 ^ 68 }
 {
-    let mut offset = content_offset(bytes, word(bytes, 28) as usize);
+    let mut offset = content_offset(bytes, word_at(bytes, 28) as usize);
     for k in 0..j {
         offset += 4 * job_word(bytes, k, 8);
         offset += job_word(bytes, k, 12) + job_word(bytes, k, 16) + job_word(bytes, k, 24);
@@ -84,7 +61,7 @@ fn start_of(bytes: &[u8], part: Part, index: u32) -> u128
         Part::File => 0,
         Part::Header => 0,
         Part::Entry => entry_offset(index) as u128,
-        Part::JobEntry => job_offset(word(bytes, 28) as usize, index) as u128,
+        Part::JobEntry => job_offset(word_at(bytes, 28) as usize, index) as u128,
         Part::Contents => content_offset(bytes, index),
         Part::Handles => handles,
         Part::BinnerList => bin,

@@ -1,6 +1,6 @@
 //! The values of a job file in which no format rule is broken.
 ghost use Rattle.std.specs.Prelude.{◌≡◌, ◌↔◌, ◌+◌, ◌*◌, ◌<◌, ◌≤◌, length, map, None, IfOk};
-ghost use Rattle.field_words.specs.Words.{u32_at};
+ghost use Rattle.field_words.specs.Words.{u16_at, u32_at};
 ghost use Rattle.field_words.specs.Questions.{first_of, Answers, NamesFirst, NeverHidesFault};
 ghost use Rattle.job_format.specs.Faults.{format_questions};
 ghost use Rattle.job_format.specs.File.{IsFileOf, Reads};
@@ -15,10 +15,17 @@ use crate::file::{Frame, JobFile, Surface};
 use crate::parts::{FileParts, JobParts, Numbers};
 use crate::rule::FormatFault;
 use crate::sizes::{entry_offset, job_offset};
-use crate::words::{half, word};
 use buffer_table::{Buffer, Kind, Regions};
-use field_words::Stop;
+use field_words::{Stop, get_u16, word_at};
 use std::alloc::{AllocError, Global};
+
+/// The number of two bytes at `at`.
+fn half(bytes: &[u8], at: usize) -> u16
+    requires inside { at + 2 ≤ length bytes.now }
+    ensures { result ≡ u16_at bytes.now at }
+{
+    get_u16(bytes, at).unwrap_or(0)
+}
 
 #[tactic(auto, unfolding(crate::specs::Reading::regions_at))]
 fn regions(bytes: &[u8]) -> Regions
@@ -26,10 +33,10 @@ fn regions(bytes: &[u8]) -> Regions
     ensures { result ≡ regions_at bytes.now }
 {
     Regions {
-        lists_place: word(bytes, 12),
-        lists_size: word(bytes, 16),
-        tile_place: word(bytes, 20),
-        tile_slots: word(bytes, 24),
+        lists_place: word_at(bytes, 12),
+        lists_size: word_at(bytes, 16),
+        tile_place: word_at(bytes, 20),
+        tile_slots: word_at(bytes, 24),
     }
 }
 
@@ -46,11 +53,11 @@ fn entry(bytes: &[u8], at: usize) -> Buffer
     ensures { result ≡ entry_at bytes.now at }
 {
     Buffer {
-        place: word(bytes, at),
-        size: word(bytes, at + 4),
-        client: word(bytes, at + 8),
-        kind: kind(word(bytes, at + 12)),
-        content: word(bytes, at + 16),
+        place: word_at(bytes, at),
+        size: word_at(bytes, at + 4),
+        client: word_at(bytes, at + 8),
+        kind: kind(word_at(bytes, at + 12)),
+        content: word_at(bytes, at + 16),
     }
 }
 
@@ -60,8 +67,8 @@ fn surface(bytes: &[u8], at: usize) -> Surface
     ensures { result ≡ surface_at bytes.now at }
 {
     Surface {
-        hindex: word(bytes, at),
-        offset: word(bytes, at + 4),
+        hindex: word_at(bytes, at),
+        offset: word_at(bytes, at + 4),
         bits: half(bytes, at + 8),
         flags: half(bytes, at + 10),
     }
@@ -88,9 +95,9 @@ fn frame(bytes: &[u8], at: usize) -> Frame
             surface(bytes, at + 84),
             surface(bytes, at + 96),
         ],
-        clear: word(bytes, at + 4) == 1,
-        clear_color: [word(bytes, at + 108), word(bytes, at + 112)],
-        clear_z: word(bytes, at + 116),
+        clear: word_at(bytes, at + 4) == 1,
+        clear_color: [word_at(bytes, at + 108), word_at(bytes, at + 112)],
+        clear_z: word_at(bytes, at + 116),
         clear_s: bytes[at + 120],
     }
 }
@@ -104,7 +111,7 @@ fn words(alloc: Global, bytes: &[u8], at: usize, count: usize) -> Result<Vec<u32
 {
     let mut words = Vec::new(alloc);
     for i in 0..count {
-        words.push(word(bytes, at + 4 * i))?;
+        words.push(word_at(bytes, at + 4 * i))?;
     }
     Ok(words)
 }
@@ -173,19 +180,19 @@ fn job<'a>(
     ensures end { IfOk result (λ v. v.1 ≡ handles_offset bytes.now (j + 1)) }
 {
     let at = job_offset(buffers, j);
-    let count = word(bytes, at + 8) as usize;
+    let count = word_at(bytes, at + 8) as usize;
     let bin = handles + 4 * count;
-    let bin_size = word(bytes, at + 12) as usize;
+    let bin_size = word_at(bytes, at + 12) as usize;
     let records = bin + bin_size;
-    let records_size = word(bytes, at + 16) as usize;
+    let records_size = word_at(bytes, at + 16) as usize;
     let uniforms = records + records_size;
-    let uniforms_size = word(bytes, at + 24) as usize;
+    let uniforms_size = word_at(bytes, at + 24) as usize;
     let job = JobParts {
-        client: word(bytes, at),
+        client: word_at(bytes, at),
         handles: Numbers::Own(words(alloc, bytes, handles, count)?),
         bin: bytes_at(bytes, bin, bin_size),
         records: bytes_at(bytes, records, records_size),
-        declared: word(bytes, at + 20),
+        declared: word_at(bytes, at + 20),
         uniforms: bytes_at(bytes, uniforms, uniforms_size),
         frame: frame(bytes, at),
     };
@@ -220,12 +227,12 @@ fn parts_of<'a>(alloc: Global, bytes: &'a [u8]) -> Result<FileParts<'a>, AllocEr
     requires whole { HasParts bytes.now (buffer_count bytes.now) (job_count bytes.now) }
     ensures { IfOk result (λ f. parts_view f ≡ file_at bytes.now) }
 {
-    let count = word(bytes, 28) as usize;
-    let job_count = word(bytes, 32) as usize;
+    let count = word_at(bytes, 28) as usize;
+    let job_count = word_at(bytes, 32) as usize;
     let (contents, handles) = contents(alloc, bytes, count, job_count)?;
     Ok(FileParts {
-        version: word(bytes, 4),
-        mem_size: word(bytes, 8),
+        version: word_at(bytes, 4),
+        mem_size: word_at(bytes, 8),
         regions: regions(bytes),
         buffers: buffers(alloc, bytes, count)?,
         contents,

@@ -1,9 +1,9 @@
 //! A file cut into parts.
 
-use crate::cutting::{Job, Pieces, part_at, word};
+use crate::cutting::{Job, Pieces, part_at};
 use crate::note::{Cut, Field, Note, Part, Role};
 use crate::streams::known_shaders;
-use field_words::{NoMemory, get_u16};
+use field_words::{NoMemory, get_u16, word_at};
 use job_format::{ENTRY_SIZE, HEADER_SIZE, JOB_SIZE, MOST_BUFFERS};
 use qpu_isa::ShaderInfo;
 use std::alloc::{AllocError, Global};
@@ -76,7 +76,7 @@ fn bits_of(role: Role) -> Field {
 fn bits_note(job: Job, role: Role, surface: &[u8]) -> Note {
     let part = Part::Surface(job.number, role);
     let flags = get_u16(surface, 10).unwrap_or(0);
-    if word(surface, 0) == u32::MAX || flags % 2 == 1 {
+    if word_at(surface, 0) == u32::MAX || flags % 2 == 1 {
         return Note::Number(part, bits_of(role));
     }
     let width = get_u16(job.entry, 28).unwrap_or(0);
@@ -97,10 +97,10 @@ fn job_at<'a>(bytes: &'a [u8], number: u32, entry: usize, at: &mut usize) -> Job
     Job {
         number,
         entry,
-        handles: next_part(bytes, at, 4 * word(entry, 8) as usize),
-        list: next_part(bytes, at, word(entry, 12) as usize),
-        records: next_part(bytes, at, word(entry, 16) as usize),
-        uniforms: next_part(bytes, at, word(entry, 24) as usize),
+        handles: next_part(bytes, at, 4 * word_at(entry, 8) as usize),
+        list: next_part(bytes, at, word_at(entry, 12) as usize),
+        records: next_part(bytes, at, word_at(entry, 16) as usize),
+        uniforms: next_part(bytes, at, word_at(entry, 24) as usize),
     }
 }
 
@@ -121,7 +121,7 @@ fn contents_end(bytes: &[u8], buffers: u32, start: usize) -> usize {
     let mut at = start;
     for buffer in 0..buffers {
         let entry = HEADER_SIZE + ENTRY_SIZE * buffer as usize;
-        at = at.saturating_add(word(bytes, entry + 16) as usize);
+        at = at.saturating_add(word_at(bytes, entry + 16) as usize);
     }
     at
 }
@@ -150,9 +150,9 @@ impl Pieces {
     // Appends a buffer's content, which begins at an offset, and says where it ends.
     fn push_content(&mut self, bytes: &[u8], buffer: u32, at: usize) -> Result<usize, AllocError> {
         let entry = HEADER_SIZE + ENTRY_SIZE * buffer as usize;
-        let size = word(bytes, entry + 16) as usize;
+        let size = word_at(bytes, entry + 16) as usize;
         let content = part_at(bytes, at, size);
-        if word(bytes, entry + 12) == 1 {
+        if word_at(bytes, entry + 12) == 1 {
             self.cuts.push(Cut::Code(buffer, content.len()))?;
         } else {
             self.left = content.len();
@@ -192,12 +192,12 @@ impl Pieces {
         buffers: u32,
         start: usize,
     ) -> Result<usize, AllocError> {
-        let first = HEADER_SIZE + ENTRY_SIZE * word(bytes, 28) as usize;
+        let first = HEADER_SIZE + ENTRY_SIZE * word_at(bytes, 28) as usize;
         for buffer in 0..buffers {
             self.push_fields(Part::Buffer(buffer), &BUFFER)?;
         }
         let mut at = contents_end(bytes, buffers, start);
-        for number in 0..entries_in(bytes, first, JOB_SIZE, word(bytes, 32)) {
+        for number in 0..entries_in(bytes, first, JOB_SIZE, word_at(bytes, 32)) {
             let job = job_at(bytes, number, first + JOB_SIZE * number as usize, &mut at);
             self.push_job(job)?;
             jobs.push(job)?;
@@ -207,9 +207,9 @@ impl Pieces {
 
     // Appends what follows the header, as far as the file goes.
     fn push_rest(&mut self, alloc: Global, bytes: &[u8]) -> Result<(), NoMemory> {
-        let entries = HEADER_SIZE + ENTRY_SIZE * word(bytes, 28) as usize;
-        let start = entries + JOB_SIZE * word(bytes, 32) as usize;
-        let buffers = entries_in(bytes, HEADER_SIZE, ENTRY_SIZE, word(bytes, 28));
+        let entries = HEADER_SIZE + ENTRY_SIZE * word_at(bytes, 28) as usize;
+        let start = entries + JOB_SIZE * word_at(bytes, 32) as usize;
+        let buffers = entries_in(bytes, HEADER_SIZE, ENTRY_SIZE, word_at(bytes, 28));
         let mut jobs = Vec::new(alloc);
         let end = self.push_entries(bytes, &mut jobs, buffers, start)?;
         let mut at = start;
@@ -232,7 +232,7 @@ pub(crate) fn cuts_of(alloc: Global, bytes: &[u8]) -> Result<Vec<Cut>, NoMemory>
         left: usize::MAX,
     };
     out.push_fields(Part::Header, &HEADER)?;
-    if word(bytes, 28) > MOST_BUFFERS {
+    if word_at(bytes, 28) > MOST_BUFFERS {
         out.push_unread(bytes, HEADER_SIZE)?;
     } else {
         out.push_rest(alloc, bytes)?;

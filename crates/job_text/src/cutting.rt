@@ -41,11 +41,6 @@ pub(crate) fn part_at(bytes: &[u8], start: usize, size: usize) -> &[u8] {
     &rest[..size.min(rest.len())]
 }
 
-/// The number of four bytes, or 0 past the end.
-pub(crate) fn word(bytes: &[u8], at: usize) -> u32 {
-    get_u32(bytes, at).unwrap_or(0)
-}
-
 // The note of a piece behind so many others, where it counts.
 fn numbered(note: Note, number: usize) -> Note {
     match note {

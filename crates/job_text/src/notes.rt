@@ -7,9 +7,10 @@ use crate::instructions::{put_instruction, put_numbered};
 use crate::meanings::{bits_style, put_size};
 use crate::names::{put_counted, put_named, put_of_job, put_part, stage_name};
 use crate::note::{Field, Meaning, Note, Part, Stage};
-use crate::numbers::{byte_at, instruction, number, put_number};
+use crate::numbers::{instruction, put_number};
 use crate::rows::{put_packet_row, put_valued};
 use crate::uniforms::put_use;
+use field_words::{byte_at, word_at};
 use std::alloc::AllocError;
 
 #[tactic(auto, unfolding(crate::specs::Notes::field_text))]
@@ -28,7 +29,7 @@ fn put_handle(out: &mut Vec<u8>, job: u32, index: usize, bytes: &[u8]) -> Result
         ++ number_note job (codes "handle ") index (codes ": buffer ") bytes.now) }
 {
     put_counted(out, job, b"handle ", index, b": buffer ")?;
-    put_number(out, number(bytes) as usize)
+    put_number(out, word_at(bytes, 0) as usize)
 }
 
 // Appends a uniform's number.
@@ -38,7 +39,7 @@ fn put_uniform(out: &mut Vec<u8>, job: u32, index: usize, bytes: &[u8]) -> Resul
         ++ number_note job (codes "uniform ") index (codes ": ") bytes.now) }
 {
     put_counted(out, job, b"uniform ", index, b": ")?;
-    put_number(out, number(bytes) as usize)
+    put_number(out, word_at(bytes, 0) as usize)
 }
 
 // Appends the value as a float of a word that a shader takes as a number.
@@ -122,7 +123,7 @@ pub(crate) fn put_note(out: &mut Vec<u8>, note: Note, bytes: &[u8]) -> Result<()
         }
         Note::Sized(part, field, width, height) => {
             put_field(out, part, field, bytes)?;
-            put_size(out, bits_style(field, number(bytes)), width, height)?
+            put_size(out, bits_style(field, word_at(bytes, 0)), width, height)?
         }
         Note::Handle(job, index) => put_handle(out, job, index, bytes)?,
         Note::Packet(job, buffer) => put_packet(out, job, buffer, bytes)?,
@@ -131,7 +132,7 @@ pub(crate) fn put_note(out: &mut Vec<u8>, note: Note, bytes: &[u8]) -> Result<()
         Note::Uniform(job, index) => put_uniform(out, job, index, bytes)?,
         Note::Taken(job, index, record, stage, own, meaning) => {
             put_uniform(out, job, index, bytes)?;
-            put_value(out, meaning, number(bytes))?;
+            put_value(out, meaning, word_at(bytes, 0))?;
             put_meant(out, record, stage, own, meaning)?
         }
         Note::Data(buffer) => {

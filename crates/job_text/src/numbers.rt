@@ -1,7 +1,8 @@
 //! Numbers of bytes, and in a text.
-ghost use Rattle.std.specs.Prelude.{◌≡◌, ◌++◌, slice_index, decimal, OnOk};
-ghost use Rattle.field_words.specs.Words.{u32_at, u64_at};
+ghost use Rattle.std.specs.Prelude.{◌≡◌, ◌++◌, decimal, OnOk};
+ghost use Rattle.field_words.specs.Words.{u64_at};
 
+use field_words::byte_at;
 use itoa::Buffer;
 use std::alloc::AllocError;
 
@@ -11,29 +12,6 @@ pub(crate) fn put_number(out: &mut Vec<u8>, number: usize) -> Result<(), AllocEr
 {
     let mut buffer = Buffer::new();
     out.extend_from_slice(buffer.format(number).as_bytes())
-}
-
-/// The byte at an index, or zero past the end.
-pub(crate) fn byte_at(bytes: &[u8], index: usize) -> u8
-    ensures { result ≡ slice_index bytes.now index }
-{
-    match bytes.get(index) {
-        Some(byte) => *byte,
-        None => 0,
-    }
-}
-
-/// The number of up to four bytes.
-#[tactic(auto, unfolding(field_words::specs::Words::u32_at))]
-pub(crate) fn number(bytes: &[u8]) -> u32
-    ensures { result ≡ u32_at bytes.now 0 }
-{
-    u32::from_le_bytes([
-        byte_at(bytes, 0),
-        byte_at(bytes, 1),
-        byte_at(bytes, 2),
-        byte_at(bytes, 3),
-    ])
 }
 
 /// The number of up to eight bytes.

@@ -5,7 +5,8 @@ ghost use Rattle.job_text.specs.Rows.{packet_row, packet_text, field_valued, fie
 use crate::meanings::put_meaning;
 use crate::names::{field_row, field_size};
 use crate::note::Field;
-use crate::numbers::{number, put_number};
+use crate::numbers::put_number;
+use field_words::word_at;
 use packets::opcode::{
     ARRAY_PRIMITIVE_LIST, BUFFER_HANDLES, CLIP_WINDOW, CLIPPER_XY_SCALING, CLIPPER_Z_SCALING,
     CONFIGURATION_BITS, DEPTH_OFFSET, FLAT_SHADE_FLAGS, FLUSH, GL_SHADER_STATE, HALT,
@@ -19,7 +20,7 @@ use std::alloc::AllocError;
 pub(crate) fn put_valued(out: &mut Vec<u8>, field: Field, bytes: &[u8]) -> Result<(), AllocError>
     ensures { OnOk result (out.new.items ≡ out.old.items ++ field_valued field bytes.now) }
 {
-    let value = number(bytes);
+    let value = word_at(bytes, 0);
     out.extend_from_slice(field_row(field).0.as_bytes())?;
     out.extend_from_slice(b" ")?;
     put_number(out, value as usize)?;

@@ -1,8 +1,8 @@
 //! A job's uniforms as pieces, by what its shaders make of them.
 
-use crate::cutting::{Job, Pieces, part_at, word};
+use crate::cutting::{Job, Pieces, part_at};
 use crate::note::{Meaning, Note, STAGES, Stage};
-use field_words::{MOST_CODE, NoMemory, Stop};
+use field_words::{MOST_CODE, NoMemory, Stop, word_at};
 use job_check::shader_in;
 use job_format::{ENTRY_SIZE, HEADER_SIZE};
 use qpu_isa::{Sample, ShaderInfo};
@@ -31,8 +31,8 @@ pub(crate) fn known_shaders(
     let mut at = start;
     for buffer in 0..buffers {
         let entry = HEADER_SIZE + ENTRY_SIZE * buffer as usize;
-        let size = word(bytes, entry + 16) as usize;
-        let shader = known_shader(alloc, word(bytes, entry + 12), part_at(bytes, at, size))?;
+        let size = word_at(bytes, entry + 16) as usize;
+        let shader = known_shader(alloc, word_at(bytes, entry + 12), part_at(bytes, at, size))?;
         known.push(shader)?;
         at = at.saturating_add(size);
     }
@@ -46,14 +46,14 @@ fn set(meanings: &mut [Meaning], at: usize, meaning: Meaning) {
 }
 
 // The word of a number in a stream; 0 past its end.
-fn word_at(stream: &[u8], number: usize) -> u32 {
-    word(stream, number.saturating_mul(4))
+fn uniform_at(stream: &[u8], number: usize) -> u32 {
+    word_at(stream, number.saturating_mul(4))
 }
 
 // A set-up word of a sample in a stream, in front of which stand so many handles; 0 where there is none.
 fn setup_word(stream: &[u8], before: usize, word: Option<u32>) -> u32 {
     match word {
-        Some(number) => word_at(stream, before.saturating_add(number as usize)),
+        Some(number) => uniform_at(stream, before.saturating_add(number as usize)),
         None => 0,
     }
 }
@@ -106,7 +106,7 @@ fn meanings_of(
     let mut out = Vec::new(alloc);
     let mut number = 0u32;
     for _ in &info.samples {
-        let buffer = job.buffer(word_at(stream, out.len()));
+        let buffer = job.buffer(uniform_at(stream, out.len()));
         out.push(Meaning::Source(number, buffer))?;
         number = number.saturating_add(1);
     }

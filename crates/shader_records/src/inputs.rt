@@ -12,7 +12,7 @@ use crate::copies::copy_words;
 use crate::sizes::handles_size;
 use bin_list::State;
 use buffer_table::{Handles, Table, use_code, use_data};
-use byteorder::{ByteOrder, LittleEndian};
+use field_words::word_at;
 use qpu_isa::ShaderInfo;
 use std::marker::Model;
 
@@ -35,16 +35,8 @@ impl<'a> Model for Inputs<'a> {
 
     ghost view = { λ g. input_of g.states.now g.records.now g.uniforms.now g.table.now g.handles.now g.shaders.now };
 
-    ghost invariant = { λ g. AreShapedInputs (input_of g.states.now g.records.now g.uniforms.now g.table.now g.handles.now g.shaders.now) };
-}
-
-/// The number of four bytes at a place.
-#[tactic(auto, unfolding(field_words::specs::Words::u32_at))]
-fn word_at(bytes: &[u8], at: usize) -> u32
-    requires { at + 4 ≤ length bytes.now }
-    ensures { result ≡ u32_at bytes.now at }
-{
-    LittleEndian::read_u32(&bytes[at..])
+    ghost invariant = { λ g. AreShapedInputs
+        (input_of g.states.now g.records.now g.uniforms.now g.table.now g.handles.now g.shaders.now) };
 }
 
 /// A word moved by its buffer's place.

@@ -27,3 +27,5 @@ pub use info::RecordInfo;
 pub use inputs::Inputs;
 pub use laws::{records_are_facts, streams_are_facts};
 pub use rule::RecordRule;
+pub use sizes::{handles_size, source_size};
+pub use uniform_rules::words_taken;

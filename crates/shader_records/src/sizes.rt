@@ -6,7 +6,7 @@ use packets::{attribute_count, record_size};
 
 /// The bytes of the handles before a record.
 #[tactic(auto, unfolding(crate::specs::Sources::handles_size))]
-pub(crate) fn handles_size(state: u32) -> usize
+pub fn handles_size(state: u32) -> usize
     ensures value { result ≡ handles_size state }
     ensures some { 16 ≤ result }
     ensures limit { result ≤ 44 }
@@ -16,7 +16,7 @@ pub(crate) fn handles_size(state: u32) -> usize
 
 /// The bytes of a record's source: its handles and itself.
 #[tactic(auto, unfolding(crate::specs::Sources::source_size))]
-pub(crate) fn source_size(state: u32) -> usize
+pub fn source_size(state: u32) -> usize
     ensures value { result ≡ source_size state }
     ensures limit { result ≤ 176 }
 {

@@ -140,7 +140,7 @@ fn samples_fault(inputs: &Inputs, from: usize, info: &ShaderInfo) -> Option<Reco
 }
 
 /// How many words of uniforms a shader takes, with a handle for each sample.
-fn words_taken(samples: usize, uniforms: u32) -> u128
+pub fn words_taken(samples: usize, uniforms: u32) -> u128
     ensures value { result ≡ samples + uniforms }
     ensures limit { result < 2 ^ 65 }
 {

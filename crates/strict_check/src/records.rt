@@ -1,34 +1,21 @@
 //! E8 and E11: the shader records of a job.
-ghost use Rattle.std.specs.Prelude.{◌≡◌, ◌≤◌, ◌<◌, ◌+◌, ◌*◌, ◌^◌, length};
-ghost use Rattle.field_words.specs.Words.{u32_at};
+ghost use Rattle.std.specs.Prelude.{◌≡◌, ◌<◌, ◌^◌, length};
 ghost use Rattle.field_words.specs.Questions.{GoesOn};
 ghost use Rattle.job_format.specs.File.{IsWellFormed};
 ghost use Rattle.job_format.specs.Parts.{parts_view};
-ghost use Rattle.shader_records.specs.Sources.{handles_size, source_size};
 ghost use Rattle.strict_check.specs.Findings.{all_findings};
 ghost use Rattle.strict_check.specs.Stages.{record_refused, use_questions, record_questions, records_stage};
 
 use crate::findings::Findings;
 use crate::uses::uses_named;
 use bin_list::split_front;
+use field_words::word_at;
 use job_check::{job_at, refusal};
 use job_format::{FileParts, Part, Refusal, Stage};
+use packets::attribute_count;
 use packets::opcode::GL_SHADER_STATE;
-use packets::{attribute_count, record_size};
-use strict_lists::{byte_at, selection_fault};
-
-/// The number of the four bytes from this place on, of which those behind the last are zeros.
-fn word_at(bytes: &[u8], at: usize) -> u32
-    requires { at < 2 ^ 32 }
-    ensures { result ≡ u32_at bytes.now at }
-{
-    u32::from_le_bytes([
-        byte_at(bytes, at),
-        byte_at(bytes, at + 1),
-        byte_at(bytes, at + 2),
-        byte_at(bytes, at + 3),
-    ])
-}
+use shader_records::{handles_size, source_size};
+use strict_lists::selection_fault;
 
 /// A strict rule that the records of job `j` break, at this place in them.
 fn record_refusal(j: usize, rule: u8, at: u64) -> Refusal
@@ -63,23 +50,6 @@ fn use_fault(
         return Err(record_refusal(number, 8, at as u64 + 8));
     }
     Ok(())
-}
-
-/// The bytes of the handles before the record of a state with this word, and of the whole source.
-#[tactic(auto, unfolding(shader_records::specs::Sources::handles_size))]
-fn handles_size(word: u32) -> usize
-    ensures value { result ≡ handles_size word }
-    ensures limit { result ≤ 44 }
-{
-    4 * (3 + attribute_count(word) as usize)
-}
-
-#[tactic(auto, unfolding(shader_records::specs::Sources::source_size))]
-fn source_size(word: u32) -> usize
-    ensures value { result ≡ source_size word }
-    ensures limit { result ≤ 176 }
-{
-    handles_size(word) + record_size(word) as usize
 }
 
 /// E8 and E11 of the record of a state with this word, whose source begins at this place.

@@ -10,5 +10,5 @@ mod rules;
 
 pub use check::check_list;
 pub use course::Course;
-pub use records::{byte_at, crosses, selection_fault};
+pub use records::{crosses, selection_fault};
 pub use rule::{ListFault, ListRule};

@@ -1,19 +1,9 @@
 //! The strict rules on a shader record, and on the place of a tile slot.
-ghost use Rattle.std.specs.Prelude.{◌≡◌, ◌≤◌, ◌<◌, ◌^◌, slice_index};
+ghost use Rattle.std.specs.Prelude.{◌≡◌, ◌≤◌, ◌<◌, ◌^◌};
 ghost use Rattle.field_words.specs.Questions.{first_of};
 ghost use Rattle.strict_lists.specs.Records.{selects_past, selection_questions, crosses};
 
-use field_words::SLOT_SIZE;
-
-/// The byte at this place; 0 behind the last.
-pub fn byte_at(bytes: &[u8], at: usize) -> u8
-    ensures { result ≡ slice_index bytes.now at }
-{
-    if bytes.len() <= at {
-        return 0;
-    }
-    bytes[at]
-}
+use field_words::{SLOT_SIZE, byte_at};
 
 // A byte selects an attribute past the state's number.
 #[tactic(auto, unfolding(crate::specs::Records::selects_past))]

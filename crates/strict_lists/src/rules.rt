@@ -4,8 +4,8 @@ ghost use Rattle.field_words.specs.Questions.{first_of};
 ghost use Rattle.strict_lists.specs.Rules.{is_primitive, e9, e10, is_reset, e13, packet_questions};
 
 use crate::course::Course;
-use crate::records::byte_at;
 use crate::rule::ListRule;
+use field_words::byte_at;
 use packets::opcode::{
     ARRAY_PRIMITIVE_LIST, INDEXED_PRIMITIVE_LIST, PRIMITIVE_LIST_FORMAT, START_TILE_BINNING,
 };
