@@ -48,7 +48,8 @@ pub trait Program {
 
     /// What a run with these words does: between a source's state before and behind it, of which are known the bytes to come and how often
     /// it failed, a sink's, of which are known the bytes taken and how often it failed, and its end.
-    ghost does: { (X Y : Type 0) → List (String Global) → (X → Option (List ℕ)) → (X → ℕ) → X → X → (Y → Option (List ℕ)) → (Y → ℕ) → Y → Y
+    ghost does: { (X Y : Type 0) → List (String Global)
+        → (X → Option (List ℕ)) → (X → ℕ) → X → X → (Y → Option (List ℕ)) → (Y → ℕ) → Y → Y
         → Ended Self.Cause → Type 0 };
 
     /// What holds whatever a run is given.
@@ -87,7 +88,8 @@ pub trait Program {
         source: &mut S,
         sink: &mut K,
     ) -> Ended<Self::Cause>
-        ensures { does _ _ words.now.items S.left S.faults source.old source.new K.held K.faults sink.old sink.new result };
+        ensures { does _ _ words.now.items
+            S.left S.faults source.old source.new K.held K.faults sink.old sink.new result };
 
     /// What a status says to a person where the run gave no cause.
     fn notice(&self, status: u8) -> Option<&'static str>;

@@ -46,9 +46,17 @@ impl<'a, 'b> Model for Context<'a, 'b> {
     ghost use Rattle.job_format.specs.Parts.{parts_view, job_parts_view};
     ghost use Rattle.shader_records.specs.Inputs.{shaders_view};
 
-    ghost view = { λ c. record { file = parts_view c.file.now; number = c.number; shaders = shaders_view c.shaders.now.items } };
+    ghost view = { λ c. record {
+      file = parts_view c.file.now;
+      number = c.number;
+      shaders = shaders_view c.shaders.now.items;
+    } };
 
-    ghost invariant = { λ c. IsContext (record { file = parts_view c.file.now; number = c.number; shaders = shaders_view c.shaders.now.items }) (job_parts_view c.job.now)
+    ghost invariant = { λ c. IsContext (record {
+      file = parts_view c.file.now;
+      number = c.number;
+      shaders = shaders_view c.shaders.now.items;
+    }) (job_parts_view c.job.now)
         c.table.now (shaders_view c.shaders.now.items) c.handles c.layout };
 }
 

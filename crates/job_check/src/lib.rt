@@ -22,6 +22,6 @@ pub use context::job_at;
 pub use offsets::content_offset;
 pub use refusals::refusal;
 pub use region::{Region, check_parts};
-pub use shaders::{content_at, shader_in, words_of};
+pub use shaders::{content_at, shader_in, shaders_stage, words_of};
 pub use upgrade::upgrade_changes_nothing;
 pub use whole::{check_bytes, check_places, format_refusal};

@@ -156,7 +156,8 @@ fn check_one(
         ++ zeros (region_size (parts_view file.now) (number + 1) - length region.old.items))
         (region_parts (parts_view file.now) number)) }
     ensures fit { shaders_view shaders.now.items ≡ shaders_of (parts_view file.now) →
-        IfOk result (λ _. PartsFit (layout_of (parts_view file.now) number).end (list_parts (parts_view file.now) number)) }
+        IfOk result (λ _. PartsFit (layout_of (parts_view file.now) number).end
+        (list_parts (parts_view file.now) number)) }
     ensures fits { IfOk result (λ lists. end_of lists.layout ≤ region_end file.now.regions) }
 {
     let job = Context::open(alloc, file, number, place, table, shaders)?;

@@ -98,8 +98,7 @@ fn shader_at(alloc: Global, file: &FileParts, b: usize) -> Result<Option<ShaderI
         Kind::Plain => Ok(None),
         Kind::Code => match shader_in(alloc, content_at(file, b)) {
             Ok(info) => Ok(Some(info)),
-            Err(Stop::Fault(fault)) => Err(Stop::Fault(shader_refusal(b, &fault))),
-            Err(Stop::NoMemory) => Err(Stop::NoMemory),
+            Err(stop) => Err(stop.map_fault(|fault| shader_refusal(b, &fault))),
         },
     }
 }

@@ -19,16 +19,13 @@ use std::alloc::Global;
 pub fn format_refusal(stop: Stop<FormatFault>) -> Stop<Refusal>
     ensures { result ≡ format_stopped stop }
 {
-    match stop {
-        Stop::Fault(fault) => Stop::Fault(Refusal {
-            rule: Rule {
-                stage: Stage::F,
-                number: fault.number,
-            },
-            place: fault.place,
-        }),
-        Stop::NoMemory => Stop::NoMemory,
-    }
+    stop.map_fault(|fault| Refusal {
+        rule: Rule {
+            stage: Stage::F,
+            number: fault.number,
+        },
+        place: fault.place,
+    })
 }
 
 /// The first broken rule for these bytes, or the memory of the jobs that they hold.

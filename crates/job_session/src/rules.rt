@@ -44,8 +44,7 @@ pub fn check_shader(alloc: Global, bytes: &[u8]) -> Result<(), Stop<Denied>>
 {
     match shader_in(alloc, bytes) {
         Ok(_) => Ok(()),
-        Err(Stop::Fault(fault)) => Err(Stop::Fault(Denied::Job(shader_fault(&fault)))),
-        Err(Stop::NoMemory) => Err(Stop::NoMemory),
+        Err(stop) => Err(stop.map_fault(|fault| Denied::Job(shader_fault(&fault)))),
     }
 }
 
@@ -57,7 +56,6 @@ pub fn check_file(alloc: Global, file: &[u8]) -> Result<(), Stop<Denied>>
 {
     match check_places(alloc, MOST_MEMORY, file) {
         Ok(_) => Ok(()),
-        Err(Stop::Fault(refusal)) => Err(Stop::Fault(Denied::Job(rule_in(file, &refusal)))),
-        Err(Stop::NoMemory) => Err(Stop::NoMemory),
+        Err(stop) => Err(stop.map_fault(|refusal| Denied::Job(rule_in(file, &refusal)))),
     }
 }

@@ -41,9 +41,27 @@ impl Model for JobLists {
 
     ghost Value = { Lists };
 
-    ghost view = { λ a. record { binner = a.binner; renderer = a.renderer; pending = a.pending; semaphore = a.semaphore; closed = a.closed; blocks = a.blocks; items = a.items.items } };
+    ghost view = { λ a. record {
+      binner = a.binner;
+      renderer = a.renderer;
+      pending = a.pending;
+      semaphore = a.semaphore;
+      closed = a.closed;
+      blocks = a.blocks;
+      items = a.items.items;
+    } };
 
-    ghost invariant = { λ a. (most_items ≤ vec_capacity a.items) × IsNear (record { binner = a.binner; renderer = a.renderer; pending = a.pending; semaphore = a.semaphore; closed = a.closed; blocks = a.blocks; items = a.items.items }) × AreSpotsOf a.items.items a.spots.items };
+    ghost invariant = { λ a. (most_items ≤ vec_capacity a.items)
+        × IsNear (record {
+          binner = a.binner;
+          renderer = a.renderer;
+          pending = a.pending;
+          semaphore = a.semaphore;
+          closed = a.closed;
+          blocks = a.blocks;
+          items = a.items.items;
+        })
+        × AreSpotsOf a.items.items a.spots.items };
 }
 
 impl JobLists {

@@ -48,7 +48,8 @@ impl<C: Fn(u64, u32) -> u32, F: Fn(u64, u32) -> u32> Script for Oracle<C, F> {
 
     type Source = Answered;
 
-    ghost may = { λ oracle. MayChoose (C.pre oracle.choose) × (IsBelow (C.post oracle.choose) × MayAnswer (F.pre oracle.answer)) };
+    ghost may = { λ oracle. MayChoose (C.pre oracle.choose)
+        × (IsBelow (C.post oracle.choose) × MayAnswer (F.pre oracle.answer)) };
 
     ghost picks = { λ oracle. C.post oracle.choose };
 

@@ -32,9 +32,28 @@ impl Model for Texture {
 
     ghost Value = { TextureModel };
 
-    ghost view = { λ t. record { base = t.base; is_cube = t.is_cube; stride = t.stride; levels = t.levels; width = t.width; height = t.height; cpp = t.cpp; is_raster = t.is_raster } };
+    ghost view = { λ t. record {
+      base = t.base;
+      is_cube = t.is_cube;
+      stride = t.stride;
+      levels = t.levels;
+      width = t.width;
+      height = t.height;
+      cpp = t.cpp;
+      is_raster = t.is_raster;
+    } };
 
-    ghost invariant = { λ t. IsTexture (record { base = t.base; is_cube = t.is_cube; stride = t.stride; levels = t.levels; width = t.width; height = t.height; cpp = t.cpp; is_raster = t.is_raster }) };
+    ghost invariant = { λ t. IsTexture
+        (record {
+          base = t.base;
+          is_cube = t.is_cube;
+          stride = t.stride;
+          levels = t.levels;
+          width = t.width;
+          height = t.height;
+          cpp = t.cpp;
+          is_raster = t.is_raster;
+        }) };
 }
 
 impl Texture {
