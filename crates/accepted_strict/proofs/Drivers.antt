@@ -13,10 +13,10 @@ use Rattle.day_law.proofs.Alone.{Only, OnlyPlain, program_alone, draw_alone, job
 use Rattle.driver_law.proofs.Driver.{all_may}
 use Rattle.strict_law.specs.{Days.AdmitsStrict, Days.AdmitStrict, Strict.DrawStrict, Strict.JobStrict}
 use Rattle.strict_law.proofs.Days.{strict_days_obey_law, loads_take_oldest_law}
-use Rattle.strict_law.proofs.RoleDays.{days_keep_roles_law}
+use Rattle.strict_law.proofs.RoleRuns.{days_keep_roles_law}
 use Rattle.strict_law.proofs.Lists.{draw_selects}
 use Rattle.strict_law.proofs.ListDays.{strict_binners_obey_law}
-use Rattle.strict_law.proofs.SlotDays.{days_have_room_law}
+use Rattle.strict_law.proofs.SlotRuns.{days_have_room_law}
 use Rattle.accepted_strict.specs.{Files.FileStrict, Drivers.HandsInStrict, Drivers.AllHandInStrict, Drivers.StrictDriversObey}
 use Rattle.accepted_strict.proofs.Jobs.{job_strict}
 

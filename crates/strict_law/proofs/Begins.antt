@@ -1,5 +1,5 @@
 -- What strict jobs begin with.
-use Rattle.std.proofs.Common.{◌≡◌, ◌<◌, ℕ, zero, suc, ◌+◌, not, Bool, false, List, [], ◌∷◌, length, map, replicate, refl, sym, subst, arith}
+use Rattle.std.proofs.Common.{◌≡◌, ◌<◌, ℕ, ◌+◌, not, Bool, false, List, [], ◌∷◌, length, refl, sym, subst, arith}
 use Rattle.field_words.specs.Pieces.{joined_texts as joined_bytes}
 use Rattle.packets.specs.Packet.{slots_text}
 use Rattle.emitted_facts.specs.Records.{is_single, code_word, stream_word}
@@ -12,12 +12,11 @@ use Rattle.list_law.specs.{Binning.DrawsSo, Emitted.words_in, Emitted.program_in
 use Rattle.list_law.proofs.{Emitted.emitted_programs, Start.lists_begin, Start.walks_so}
 use Rattle.qpu_machine.specs.Qpu.{idle_qpu}
 use Rattle.qpu_law.specs.Home.{Home}
-use Rattle.machine.specs.{declared.job.Start.Start, State.job_start, State.units_start}
+use Rattle.machine.specs.{declared.job.Start.Start, State.job_start}
 use Rattle.machine_law.specs.{Begins.LaunchBegins, Begins.JobBegins, Units.EachAt}
 use Rattle.machine_law.proofs.Begins.{homes_stay_law, fetches_stay, single_stays, word_stays, record_stays, text_stays}
 use Rattle.strict_law.specs.Strict.{IsStrict, DrawStrict, JobStrict}
-use Rattle.strict_law.specs.Known.{LaunchStrict, UnitsStrict, IsHomeOf, JobKnown}
-use Rattle.strict_law.proofs.Processors.{EachStrict}
+use Rattle.strict_law.specs.Known.{LaunchStrict, QpuStrict, IsHomeOf, JobKnown}
 
 -- a program that may be started in each run
 launch_strict : (rights : List Rights) (plains : ℕ → List Interval) (first : List ℕ) (j : ℕ) (launch : Launch) → (begins : LaunchBegins rights plains first j launch) → IsStrict begins.home.code → LaunchStrict (IsHomeOf rights first j) launch
@@ -85,35 +84,21 @@ job_known rights plains first j start job =
       lists = subst (λ n. ListsFine r K O begins.config begins.frame (lists_start start.bin_place start.bin_len start.render_place n)) (sym begins.render_len) binned;
     }
 
-each_known : (rights : List Rights) (plains : ℕ → List Interval) (first : List ℕ) (k : ℕ) (starts : List Start) → EachAt (JobStrict rights plains first) k starts → EachAt (JobKnown rights first) k (map job_start starts)
-each_known rights plains first k [] all = tt
-each_known rights plains first k (start ∷ starts) all = (job_known rights plains first k start all.0, each_known rights plains first (k + 1) starts all.1)
-
 pub each_begin : (rights : List Rights) (plains : ℕ → List Interval) (first : List ℕ) (k : ℕ) (starts : List Start) → EachAt (JobStrict rights plains first) k starts → EachAt (JobBegins rights plains first) k starts
 each_begin rights plains first k [] all = tt
 each_begin rights plains first k (start ∷ starts) all = (all.0.begins, each_begin rights plains first (k + 1) starts all.1)
 
--- idle processors have nothing outstanding
-pub idle_strict : (IsOf : ℕ → Home → Type 0) (n count : ℕ) → EachStrict IsOf (λ j tmu. []) n (replicate count idle_qpu)
-idle_strict IsOf n zero = tt
-idle_strict IsOf n (suc count) = (
-  record {
-    first0 = 0;
-    first1 = 0;
-    other0 = 0;
-    other1 = 0;
-    first = (refl, refl, refl, refl);
-    other = (refl, refl, refl, refl);
-    beside = tt;
-    rests = tt;
-    in0 = record { is = refl; rests = refl };
-    in1 = record { is = refl; rests = refl };
-  },
-  idle_strict IsOf (n + 1) count,
-)
-
-pub start_strict : (rights : List Rights) (plains : ℕ → List Interval) (first : List ℕ) (starts : List Start) → EachAt (JobStrict rights plains first) 0 starts → UnitsStrict (JobKnown rights first) (IsHomeOf rights first) (λ j tmu. []) (units_start starts)
-start_strict rights plains first starts all = record {
-  jobs = each_known rights plains first 0 starts all;
-  qpus = idle_strict (IsHomeOf rights first) 0 12;
+-- an idle processor has nothing outstanding
+pub idle_strict : (IsOf : ℕ → Home → Type 0) → QpuStrict IsOf [] [] idle_qpu
+idle_strict IsOf = record {
+  first0 = 0;
+  first1 = 0;
+  other0 = 0;
+  other1 = 0;
+  first = (refl, refl, refl, refl);
+  other = (refl, refl, refl, refl);
+  beside = tt;
+  rests = tt;
+  in0 = record { is = refl; rests = refl };
+  in1 = record { is = refl; rests = refl };
 }

@@ -2,17 +2,20 @@ pub mod Shaders
 pub mod Stretches
 pub mod Threads
 pub mod Orders
+pub mod Staying
 pub mod Processors
-pub mod Machine
 pub mod Begins
+pub mod Watch
+pub mod Machine
 pub mod Obey
 pub mod Oldest
+pub mod WatchRuns
+pub mod WatchDays
 pub mod Runs
 pub mod Days
 pub mod Programs
 pub mod Roles
 pub mod RoleRuns
-pub mod RoleDays
 pub mod Packets
 pub mod Binners
 pub mod Lists
@@ -20,4 +23,3 @@ pub mod ListDays
 pub mod TileSlots
 pub mod Slots
 pub mod SlotRuns
-pub mod SlotDays

@@ -1,25 +1,24 @@
 -- Where only strict jobs are admitted, no binner executes a packet that is forbidden.
-use Rattle.std.proofs.Common.{◌≡◌, ◌≢◌, ◌<◌, ℕ, ◌+◌, ◌==◌, Bool, true, IsTrue, Option, Some, None, List, [], ◌∷◌, ◌++◌, length, inl, inr, refl, sym, ◌∙◌, subst, arith, if◌then◌else◌}
+use Rattle.std.proofs.Common.{◌≡◌, ◌≢◌, ◌<◌, ℕ, ◌+◌, ◌==◌, Bool, true, Option, Some, None, List, [], ◌∷◌, ◌++◌, length, inl, inr, sym, ◌∙◌, subst, arith, if◌then◌else◌}
 use Rattle.std.proofs.lemmas.{Bool.eq-eqb, Bool.true≢false, Bool.ne_eqb, List.length-append}
 use Rattle.std.specs.Prelude.{◌⊎◌}
 use Rattle.machine_plan.specs.{declared.launch.Free.Free, Glance.glance_result}
-use Rattle.machine_plan.specs.Regions.{Every, Inside, IsSafeAccess, rights_of}
-use Rattle.machine_plan.proofs.Worlds.{keeps_result}
+use Rattle.machine_plan.specs.Regions.{Every}
 use Rattle.list_machine.specs.{Binner.has_binner_work, Binner.binner_ready, Binner.binner_plan, Renderer.renderer_ready, Renderer.renderer_plan}
 use Rattle.list_machine.specs.Lists.{Lists, binner_of, renderer_of}
 use Rattle.qpu_machine.specs.declared.state.Qpu.{Qpu}
 use Rattle.machine.specs.State.{item_at, job_start, no_job}
-use Rattle.machine.specs.Step.{Event, may, step, ready, turn, unit_turn}
-use Rattle.machine_law.specs.Units.{UnitsFine}
-use Rattle.ends_law.proofs.Plans.{Comes, keeps_both, weaker}
+use Rattle.machine.specs.Step.{Event, may}
+use Rattle.ends_law.proofs.Plans.{Comes, weaker}
 use Rattle.day_law.specs.Day.{MayHappen, AllMayHappen}
 use Rattle.promises.specs.Days.{Admitted, Day, Files, Happening, Steps, Changes, Finds, Admits, Retires, Resets, HasNoWork, Job, admitted_at, after}
-use Rattle.promises.specs.Days.{dawn, found_at, happen, rights_in, units_stopped}
+use Rattle.promises.specs.Days.{dawn, found_at, happen, units_stopped}
 use Rattle.day_law.proofs.Own.{solo, Holds, IsQuiet, every_nth, binner_done, renderer_done, facts}
 use Rattle.day_law.proofs.Lists.{each_goes, each_but, each_append, still_at, last_at, without, without_long, without_others}
-use Rattle.day_law.proofs.{Known.IsKnown, Known.keeps, Keeping.all_quiet, Keeping.happens, Days.dawn_known}
-use Rattle.strict_law.specs.{Days.AdmitsStrict, Days.AdmitStrict}
-use Rattle.strict_law.specs.Lists.{ExecutesPacket, Executed, IsForbiddenPacket, executed_by, executed_after, executed_then, executed_of, StrictBinnersObey}
+use Rattle.day_law.proofs.{Known.IsKnown, Keeping.all_quiet, Keeping.happens, Days.dawn_known}
+use Rattle.strict_law.specs.{Days.AdmitsStrict, Days.AdmitStrict, Kept.kept_then}
+use Rattle.strict_law.proofs.WatchDays.{step_known}
+use Rattle.strict_law.specs.Lists.{ExecutesPacket, Executed, IsForbiddenPacket, executed_by, executed_kept, executed_of, StrictBinnersObey}
 use Rattle.strict_law.proofs.{Binners.BinGoes, Binners.ListsGo, Binners.binner_goes, Binners.renderer_stays}
 use Rattle.strict_law.proofs.Lists.{Goes, EachGoes, unit_goes, picks, lists_obey, job_goes}
 
@@ -56,20 +55,6 @@ says jobs m holds = record { binner = binner_says jobs m holds; renderer = rende
 abbrev GoesNow : Day → Executed → Type 0
 GoesNow d executed = EachGoes (OfJob d.jobs) executed d.state.units
 
--- a unit steps
-steps : (d : Day) (event : Event) (executed : Executed) → IsKnown d → GoesNow d executed → IsTrue (may d.state event) → EachGoes (OfJob d.jobs) (executed_after d.state.units event.unit d.state.memory executed) (step d.state event).state.units
-unfolding ready turn
-steps d event executed known goes on =
-    let one = unit_turn d.state.units event.unit event.words in
-    let L = Inside (rights_of (rights_in d.jobs) one.who.job).region in
-    let G = IsSafeAccess (rights_in d.jobs) in
-    let P = UnitsFine (facts d.jobs) in
-    let Q = EachGoes (OfJob d.jobs) (executed_after d.state.units event.unit d.state.memory executed) in
-    let m : List ℕ = d.state.memory in
-    let both = keeps_both one.who L G P Q one.plan m (keeps d event known on) (unit_goes (OfJob d.jobs) executed d.state.units event.unit event.words m (says d.jobs m known.holds) goes on) in
-    let now = keeps_result one.who L G (λ next. P next × Q next) (λ wild. wild.tame refl) one.plan m one.wild both in
-    now.1
-
 -- a job's lists
 job_goes_on : (jobs others : List Admitted) (j : ℕ) (executed : List (List ℕ)) (s : Lists) → (j < length jobs → j < length others) → (j < length jobs → admitted_at others j ≡ admitted_at jobs j) → OfJob jobs j executed s → OfJob others j executed s
 job_goes_on jobs others j executed s wider same (inl quiet) = inl quiet
@@ -84,7 +69,7 @@ before_others jobs count j executed s is (inr known) =
     inr (known.0, subst (λ here. OwnLists (admitted_at jobs j) (if here then [] else executed j) s) (sym (ne_eqb j count other)) known.1)
 
 -- A job is admitted.
-admits : (d : Day) (job : Job) (executed : Executed) → IsKnown d → GoesNow d executed → AdmitsStrict d (Admits job) → GoesNow (happen d (Admits job)) (executed_then d (Admits job) executed)
+admits : (d : Day) (job : Job) (executed : Executed) → IsKnown d → GoesNow d executed → AdmitsStrict d (Admits job) → GoesNow (happen d (Admits job)) (kept_then executed_kept d (Admits job) executed)
 admits d job executed known goes begins =
     let one : Admitted = record { rights = job.rights; plain = job.plain; first = d.state.memory } in
     let jobs : List Admitted = d.jobs in
@@ -92,7 +77,7 @@ admits d job executed known goes begins =
     let long : length all ≡ length jobs + 1 = length-append jobs (one ∷ []) in
     let count : length d.state.units.jobs ≡ length jobs = known.count in
     let wider : (j : ℕ) → j < length jobs → j < length all = λ j below. omega (arith, below, long) in
-    let next : Executed = executed_then d (Admits job) executed in
+    let next : Executed = kept_then executed_kept d (Admits job) executed in
     let first : ListsGo (λ m. Holds m one) [] (job_start job.start) = job_goes (solo one) (λ number. job.plain) d.state.memory 0 job.start begins in
     each_append (λ j s. OfJob all j (next j) s) 0 d.state.units.jobs (job_start job.start)
     (each_goes (λ j s. OfJob jobs j (executed j) s) (λ j s. OfJob all j (next j) s) 0 d.state.units.jobs
@@ -121,8 +106,9 @@ finds_same d k second files None executed goes = goes
 finds_same d k second files (Some q) executed goes = goes
 
 -- Whatever happens.
-happens_bins : (d : Day) (one : Happening) (executed : Executed) → IsKnown d → GoesNow d executed → MayHappen d one → AdmitsStrict d one → GoesNow (happen d one) (executed_then d one executed)
-happens_bins d (Steps event) executed known goes on begins = steps d event executed known goes on
+happens_bins : (d : Day) (one : Happening) (executed : Executed) → IsKnown d → GoesNow d executed → MayHappen d one → AdmitsStrict d one → GoesNow (happen d one) (kept_then executed_kept d one executed)
+happens_bins d (Steps event) executed known goes on begins =
+    step_known Executed executed_kept (EachGoes (OfJob d.jobs)) d event executed known (λ u unit words was all may_step. unit_goes (OfJob d.jobs) was u unit words d.state.memory (says d.jobs d.state.memory known.holds) all may_step) goes on
 happens_bins d (Changes m) executed known goes changed begins = goes
 happens_bins d (Finds k second files) executed known goes may_find begins = finds_same d k second files (item_at d.state.units.qpus k) executed goes
 happens_bins d (Admits job) executed known goes may_admit begins = admits d job executed known goes begins
@@ -137,7 +123,7 @@ record IsLast (d : Day) (executed : Executed) : Type 0 where
 all_bin : (d : Day) (happenings : List Happening) (executed : Executed) → IsKnown d → GoesNow d executed → AllMayHappen d happenings → AdmitStrict d happenings → IsLast (after d happenings) (executed_of d happenings executed)
 all_bin d [] executed known goes may begins = record { known = known; goes = goes }
 all_bin d (one ∷ later) executed known goes may begins =
-    all_bin (happen d one) later (executed_then d one executed) (happens d one known may.0) (happens_bins d one executed known goes may.0 begins.0) may.1 begins.1
+    all_bin (happen d one) later (kept_then executed_kept d one executed) (happens d one known may.0) (happens_bins d one executed known goes may.0 begins.0) may.1 begins.1
 
 obeys_by : (d : Day) (executed : Executed) (event : Event) (j : ℕ) (packet : List ℕ) → IsKnown d → (one : ExecutesPacket d.state event j packet) → OfJob d.jobs j (executed j) one.lists → has_binner_work one.lists ≡ true → IsForbiddenPacket d.state.memory (executed j) packet → ⊥
 obeys_by d executed event j packet known one (inl quiet) works forbidden = true≢false (sym works ∙ quiet.binner)

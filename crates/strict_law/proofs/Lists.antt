@@ -5,21 +5,19 @@ use Rattle.std.proofs.{lemmas.Grind.common_steps, lemmas.Bool.Decides.nat_tests}
 use Rattle.std.specs.Prelude.{is_some}
 use Rattle.field_words.specs.declared.access.Actor.TheVariants.{Binner as TheBinner, Renderer as TheRenderer, Qpu as TheQpu, Tmu as TheTmu}
 use Rattle.field_words.specs.declared.access.Actor.{Actor}
-use Rattle.machine_plan.specs.Others.{Happening, Steps, Changes, MayHappen, happen, AllMayHappen}
-use Rattle.machine_plan.specs.{declared.launch.Free.Free, Glance.glance_result, Runs.state_reached}
-use Rattle.machine_plan.specs.Regions.{Inside, Interval, IsSafeAccess, Rights, rights_of, HasReadOnly}
-use Rattle.machine_plan.proofs.{Others.Holds, Others.run_holds, Worlds.keeps_result}
+use Rattle.machine_plan.specs.{declared.launch.Free.Free, Glance.glance_result}
+use Rattle.machine_plan.specs.Regions.{Interval, Rights, rights_of, HasReadOnly}
 use Rattle.list_machine.specs.{declared.state.Work.Work, Binner.has_binner_work, Binner.binner_ready, Binner.binner_plan, Renderer.has_renderer_work, Renderer.renderer_ready, Renderer.renderer_plan}
 use Rattle.list_machine.specs.Lists.{Lists, binner_of, renderer_of}
 use Rattle.list_law.proofs.Bytes.{none_left}
 use Rattle.qpu_machine.specs.{declared.state.Qpu.Qpu, Qpu.free_in, Qpu.qpu_plan, Qpu.tmu_plan}
 use Rattle.machine.specs.{declared.job.Start.Start, State.Picked, State.State, State.Units, State.binner_job, State.item_at, State.job_start, State.renderer_job, State.units_start}
-use Rattle.machine.specs.Step.{Event, ready, turn, with_lists, with_qpu, is_ahead, binner_may, renderer_may, binner_turn, renderer_turn, qpu_turn, tmu_turn, unit_ready, unit_turn}
-use Rattle.machine_law.specs.{Jobs.ArePlain, Laws.AreFine, Units.EachAt}
-use Rattle.machine_law.proofs.Owes.{PickedFine, put_each, first_fine, not_held, start_fine, units_owe_law}
-use Rattle.machine_law.proofs.Begins.{each_begins, fixed_part}
+use Rattle.machine.specs.Step.{Event, with_lists, with_qpu, is_ahead, binner_may, renderer_may, binner_turn, renderer_turn, qpu_turn, tmu_turn, unit_ready, unit_turn}
+use Rattle.machine_law.specs.{Units.EachAt}
+use Rattle.machine_law.proofs.Owes.{PickedFine, put_each, first_fine, not_held}
+use Rattle.machine_law.proofs.Begins.{fixed_part}
 use Rattle.apart_law.proofs.Places.{first_is}
-use Rattle.ends_law.proofs.{Begins.bin_starts, Plans.Comes, Plans.comes_any, Plans.comes_into, Plans.keeps_both}
+use Rattle.ends_law.proofs.{Begins.bin_starts, Plans.Comes, Plans.comes_any, Plans.comes_into}
 use Rattle.strict_law.specs.{Records.selects_missing, Strict.DrawStrict, Strict.JobStrict}
 use Rattle.bin_walks.specs.Walks.{nothing_kept}
 use Rattle.list_law.proofs.Start.{walks_so}
@@ -30,8 +28,8 @@ use Rattle.emitted_facts.proofs.Records.{header_in}
 use Rattle.promises.specs.Rights.{IsFixed}
 use Rattle.machine_plan.specs.Memory.{bytes_at}
 use Rattle.machine_plan.proofs.Memory.{inside_part}
-use Rattle.strict_law.specs.Lists.{packet_at, ExecutesPacket, Executed, executed_by, executed_in, executed_after, executed_next, executed_along, IsForbiddenPacket, StrictListsObey}
-use Rattle.strict_law.proofs.{Begins.each_begin, Machine.each_put}
+use Rattle.strict_law.specs.Lists.{packet_at, ExecutesPacket, Executed, executed_by, executed_in, executed_after, executed_kept, executed_along, IsForbiddenPacket, StrictListsObey}
+use Rattle.strict_law.proofs.{Watch.each_put, WatchRuns.run_known}
 use Rattle.strict_law.proofs.{Packets.breaks_none, Packets.packet_obeys, Packets.selects_there, Binners.Selects, Binners.BinLeft, Binners.BinGoes, Binners.ListsGo, Binners.packet_is, Binners.binner_goes, Binners.renderer_stays}
 
 -- What is known of a job's lists, by the packets that its binner has executed, is known again after a step of one of them over this memory.
@@ -120,35 +118,6 @@ run_goes rights first m has = record {
   renderer = λ j executed s free words left on. renderer_stays (renderer_of j) (λ place end. BinGoes (HasReadOnly rights first) executed place end) s free words m left;
 }
 
-record IsNow (rights : List Rights) (plains : ℕ → List Interval) (first : List ℕ) (executed : Executed) (s : State) : Type 0 where
-  holds : Holds rights first (AreFine rights plains first) s
-  goes : EachGoes (OfRun rights first) executed s.units
-
-happens_bins : (rights : List Rights) (plains : ℕ → List Interval) (first : List ℕ) (s : State) (one : Happening Event) (executed : Executed) → ArePlain rights plains → IsNow rights plains first executed s → MayHappen ready rights s one
-    → EachGoes (OfRun rights first) (executed_next s one executed) (happen turn s one).state.units
-unfolding ready turn
-happens_bins rights plains first s (Steps event) executed plain now may =
-    let one = unit_turn s.units event.unit event.words in
-    let L = Inside (rights_of rights one.who.job).region in
-    let G = IsSafeAccess rights in
-    let P = AreFine rights plains first in
-    let Q = EachGoes (OfRun rights first) (executed_after s.units event.unit s.memory executed) in
-    let keeps = (units_owe_law rights plains first plain).keeps s.units s.memory event now.holds.units now.holds.has may in
-    let both = keeps_both one.who L G P Q one.plan s.memory keeps (unit_goes (OfRun rights first) executed s.units event.unit event.words s.memory (run_goes rights first s.memory now.holds.has) now.goes may) in
-    let after = keeps_result one.who L G (λ next. P next × Q next) (λ wild. wild.tame refl) one.plan s.memory one.wild both in
-    after.1
-happens_bins rights plains first s (Changes m) executed plain now may = now.goes
-
-all_bin : (rights : List Rights) (plains : ℕ → List Interval) (first : List ℕ) (s : State) (happenings : List (Happening Event)) (executed : Executed) → ArePlain rights plains → IsNow rights plains first executed s → AllMayHappen ready turn rights s happenings
-    → IsNow rights plains first (executed_along s happenings executed) (state_reached (happen turn) s happenings)
-all_bin rights plains first s [] executed plain now may = now
-all_bin rights plains first s (one ∷ later) executed plain now may =
-    all_bin rights plains first (happen turn s one).state later (executed_next s one executed) plain
-    (record {
-      holds = (run_holds ready turn rights first (AreFine rights plains first) (units_owe_law rights plains first plain) (one ∷ []) s now.holds (may.0, tt)).0;
-      goes = happens_bins rights plains first s one executed plain now may.0;
-    }) may.1
-
 -- The record of a primitive of a strict job stays as it is.
 byte_stays : (m first : List ℕ) (place : ℕ) → bytes_at m place 1 ≡ bytes_at first place 1 → slice_index m place ≡ slice_index first place
 unfolding bytes_at
@@ -183,11 +152,9 @@ each_start rights plains first k (start ∷ starts) all = (job_goes rights plain
 pub strict_lists_obey_law : StrictListsObey
 strict_lists_obey_law rights plains first m starts plain has all = record {
   every_run = λ happenings found s run event j packet one forbidden.
-      let begin : State = record { memory = m; units = units_start starts } in
-      let fine = start_fine rights plains first starts (each_begins rights plains first 0 starts (each_begin rights plains first 0 starts all)) in
-      let executed : Executed = executed_along begin happenings (λ k. []) in
-      let now = all_bin rights plains first begin happenings (λ k. []) plain (record { holds = record { units = fine; has = has }; goes = each_start rights plains first 0 starts all }) run.allowed in
-      let last : IsNow rights plains first executed s = subst (λ (t : State). IsNow rights plains first executed t) (sym run.last) now in
-      let picked = picks (OfRun rights first) executed s event j packet last.goes one in
+      let executed : Executed = executed_along (record { memory = m; units = units_start starts }) happenings (λ k. []) in
+      let last = run_known Executed executed_kept (EachGoes (OfRun rights first)) rights plains first m starts (λ k. []) plain has all
+      (λ n same u unit words was goes may. unit_goes (OfRun rights first) was u unit words n (run_goes rights first n same) goes may) (each_start rights plains first 0 starts all) happenings found s run in
+      let picked = picks (OfRun rights first) executed s event j packet last.known one in
       lists_obey (HasReadOnly rights first) (executed j) s event j packet last.holds.has one picked.known picked.works forbidden;
 }

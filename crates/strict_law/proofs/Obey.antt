@@ -7,7 +7,6 @@ use Rattle.machine_plan.specs.Memory.{bytes_at}
 use Rattle.qpu_isa.specs.Terms.{is_end, writes_s}
 use Rattle.qpu_isa.specs.Setups.{setups_kept}
 use Rattle.shader_flow.specs.{Flow.word, Flow.end_of, Flow.checked_of, Pending.pending_of, Pending.takes}
-use Rattle.list_machine.specs.Lists.{Lists}
 use Rattle.qpu_machine.specs.{declared.state.Qpu.Qpu, declared.state.Request.Request, declared.state.Thread.Thread, Bounds.finished0, Bounds.finished1}
 use Rattle.qpu_machine.specs.declared.state.Fate.TheVariants.{Ends, Switches}
 use Rattle.qpu_machine.specs.{Qpu.active_of, Qpu.queue_count, Wild.takes_one, Writes.fate_of, Writes.loads}
@@ -19,7 +18,7 @@ use Rattle.strict_law.specs.Order.{Orders}
 use Rattle.strict_rules.specs.{Words.reads_address, Words.uses_vpm, Words.is_coupled, Words.add_couples, Words.mul_couples, Words.loads_result, Words.coupled_of}
 use Rattle.strict_rules.specs.Queue as queue
 use Rattle.strict_rules.specs.Rules.{e2, e5, e6, e7, loads_none}
-use Rattle.strict_law.specs.{Strict.IsStrict, Known.Finds, Known.ThreadStrict, Known.SlotStrict, Known.QpuStrict, Known.UnitsStrict, Known.KeepsNone}
+use Rattle.strict_law.specs.{Strict.IsStrict, Known.Finds, Known.ThreadStrict, Known.SlotStrict, Known.QpuStrict, Known.KeepsNone}
 use Rattle.strict_law.specs.Forbidden.{Executes, keeps_words, has_words, unloaded0, unloaded1, loads_nothing, sends, leaves_requests, reads, touches, touches_vertices, is_last, uses_closed, is_peripheral, peripherals, IsForbidden, SwitchesWithWords, RestsWithWords, EndsWithWords, LoadsNothing, LacksRoom, LeavesRequests, UsesClosed, UsesTwo, TakesMutex}
 use Rattle.strict_rules.proofs.Rooms.{room_for}
 use Rattle.served_law.specs.Known.{AreBeside}
@@ -27,7 +26,7 @@ use Rattle.served_law.proofs.{Shaders.same_load, Shaders.next_queue, Shaders.few
 use Rattle.strict_law.proofs.Shaders.{StrictAt, strict_here, kept_long}
 use Rattle.served_law.proofs.Marks.{end_before, at_end, at_switch}
 use Rattle.strict_law.proofs.{Threads.none_left, Threads.reads_word, Threads.switch_none}
-use Rattle.strict_law.proofs.{Machine.each_item, Processors.active_strict}
+use Rattle.strict_law.proofs.{Watch.each_item, Processors.EachStrict, Processors.active_strict}
 
 -- What is known of the thread before the instruction at n.
 pub record Before (code : List ℕ) (n queued0 queued1 : ℕ) (t : Thread) : Type 0 where
@@ -202,12 +201,12 @@ instruction_is : (IsOf : ℕ → Home → Type 0) (m : List ℕ) (queued0 queued
     → w ≡ word left.home.code left.index
 instruction_is IsOf m queued0 queued1 old0 old1 t w here left is = is ∙ reads_word IsOf queued0 queued1 old0 old1 t m here left
 
-pub known : (OfJob : ℕ → Lists → Type 0) (IsOf : ℕ → Home → Type 0) (orders : Orders) (s : State) (event : Event) (q : Qpu) (t : Thread) (w : ℕ) → Finds IsOf s.memory → UnitsStrict OfJob IsOf orders s.units → (one : Executes s event q t w)
+pub known : (IsOf : ℕ → Home → Type 0) (orders : Orders) (s : State) (event : Event) (q : Qpu) (t : Thread) (w : ℕ) → Finds IsOf s.memory → EachStrict IsOf orders 0 s.units.qpus → (one : Executes s event q t w)
     → Steps IsOf (orders one.k 0) (orders one.k 1) s.memory q t w
-known OfJob IsOf orders s event q t w here all one =
+known IsOf orders s event q t w here all one =
     let order0 : List Bool = orders one.k 0 in
     let order1 : List Bool = orders one.k 1 in
-    let processor : QpuStrict IsOf order0 order1 q = subst (λ (slot : Option Qpu). IfSome slot (QpuStrict IsOf order0 order1)) one.is (each_item (λ i p. QpuStrict IsOf (orders i 0) (orders i 1) p) 0 one.k one.k s.units.qpus (omega arith) all.qpus) in
+    let processor : QpuStrict IsOf order0 order1 q = subst (λ (slot : Option Qpu). IfSome slot (QpuStrict IsOf order0 order1)) one.is (each_item (λ i p. QpuStrict IsOf (orders i 0) (orders i 1) p) 0 one.k one.k s.units.qpus (omega arith) all) in
     let old0 : ℕ = if q.second then processor.other0 else processor.first0 in
     let old1 : ℕ = if q.second then processor.other1 else processor.first1 in
     let thread : ThreadStrict IsOf (queue_count q.second q.queue0.items) (queue_count q.second q.queue1.items) old0 old1 t =
@@ -284,15 +283,15 @@ no_rest_words : (t : Thread) → KeepsNone t → has_words t ≡ false
 unfolding has_words
 no_rest_words t none = or_from (nat_lt 0 (length t.setups0.items)) (nat_lt 0 (length t.setups1.items)) (ap (λ n. nat_lt 0 n) none.0) (ap (λ n. nat_lt 0 n) none.1)
 
-pub obeys : (OfJob : ℕ → Lists → Type 0) (IsOf : ℕ → Home → Type 0) (orders : Orders) (s : State) (event : Event) → Finds IsOf s.memory → UnitsStrict OfJob IsOf orders s.units → IsForbidden s event → ⊥
-obeys OfJob IsOf orders s event here all (SwitchesWithWords q t w one over on) = true≢false (sym on ∙ no_switch IsOf (orders one.k 0) (orders one.k 1) s.memory q t w (known OfJob IsOf orders s event q t w here all one) over)
-obeys OfJob IsOf orders s event here all (RestsWithWords k q t is rests on) =
-    let processor : QpuStrict IsOf (orders k 0) (orders k 1) q = subst (λ (slot : Option Qpu). IfSome slot (QpuStrict IsOf (orders k 0) (orders k 1))) is (each_item (λ i p. QpuStrict IsOf (orders i 0) (orders i 1) p) 0 k k s.units.qpus (omega arith) all.qpus) in
+pub obeys : (IsOf : ℕ → Home → Type 0) (orders : Orders) (s : State) (event : Event) → Finds IsOf s.memory → EachStrict IsOf orders 0 s.units.qpus → IsForbidden s event → ⊥
+obeys IsOf orders s event here all (SwitchesWithWords q t w one over on) = true≢false (sym on ∙ no_switch IsOf (orders one.k 0) (orders one.k 1) s.memory q t w (known IsOf orders s event q t w here all one) over)
+obeys IsOf orders s event here all (RestsWithWords k q t is rests on) =
+    let processor : QpuStrict IsOf (orders k 0) (orders k 1) q = subst (λ (slot : Option Qpu). IfSome slot (QpuStrict IsOf (orders k 0) (orders k 1))) is (each_item (λ i p. QpuStrict IsOf (orders i 0) (orders i 1) p) 0 k k s.units.qpus (omega arith) all) in
     true≢false (sym on ∙ no_rest_words t (subst (λ (slot : Option Thread). IfSome slot KeepsNone) rests processor.rests))
-obeys OfJob IsOf orders s event here all (EndsWithWords q t w one over on) = true≢false (sym on ∙ no_end IsOf (orders one.k 0) (orders one.k 1) s.memory q t w (known OfJob IsOf orders s event q t w here all one) over)
-obeys OfJob IsOf orders s event here all (LoadsNothing q t w one on) = true≢false (sym on ∙ no_load IsOf (orders one.k 0) (orders one.k 1) s.memory q t w (known OfJob IsOf orders s event q t w here all one))
-obeys OfJob IsOf orders s event here all (LacksRoom q t w one sent on) = true≢false (sym on ∙ no_room IsOf (orders one.k 0) (orders one.k 1) s.memory q t w (known OfJob IsOf orders s event q t w here all one) sent)
-obeys OfJob IsOf orders s event here all (LeavesRequests q t w one over on) = true≢false (sym on ∙ no_rest IsOf (orders one.k 0) (orders one.k 1) s.memory q t w (known OfJob IsOf orders s event q t w here all one) over)
-obeys OfJob IsOf orders s event here all (UsesClosed q t w one last on) = true≢false (sym on ∙ no_closed IsOf (orders one.k 0) (orders one.k 1) s.memory q t w (known OfJob IsOf orders s event q t w here all one) last)
-obeys OfJob IsOf orders s event here all (UsesTwo q t w one on) = true≢false (sym on ∙ no_two IsOf (orders one.k 0) (orders one.k 1) s.memory q t w (known OfJob IsOf orders s event q t w here all one))
-obeys OfJob IsOf orders s event here all (TakesMutex q t w one on) = true≢false (sym on ∙ no_mutex IsOf (orders one.k 0) (orders one.k 1) s.memory q t w (known OfJob IsOf orders s event q t w here all one))
+obeys IsOf orders s event here all (EndsWithWords q t w one over on) = true≢false (sym on ∙ no_end IsOf (orders one.k 0) (orders one.k 1) s.memory q t w (known IsOf orders s event q t w here all one) over)
+obeys IsOf orders s event here all (LoadsNothing q t w one on) = true≢false (sym on ∙ no_load IsOf (orders one.k 0) (orders one.k 1) s.memory q t w (known IsOf orders s event q t w here all one))
+obeys IsOf orders s event here all (LacksRoom q t w one sent on) = true≢false (sym on ∙ no_room IsOf (orders one.k 0) (orders one.k 1) s.memory q t w (known IsOf orders s event q t w here all one) sent)
+obeys IsOf orders s event here all (LeavesRequests q t w one over on) = true≢false (sym on ∙ no_rest IsOf (orders one.k 0) (orders one.k 1) s.memory q t w (known IsOf orders s event q t w here all one) over)
+obeys IsOf orders s event here all (UsesClosed q t w one last on) = true≢false (sym on ∙ no_closed IsOf (orders one.k 0) (orders one.k 1) s.memory q t w (known IsOf orders s event q t w here all one) last)
+obeys IsOf orders s event here all (UsesTwo q t w one on) = true≢false (sym on ∙ no_two IsOf (orders one.k 0) (orders one.k 1) s.memory q t w (known IsOf orders s event q t w here all one))
+obeys IsOf orders s event here all (TakesMutex q t w one on) = true≢false (sym on ∙ no_mutex IsOf (orders one.k 0) (orders one.k 1) s.memory q t w (known IsOf orders s event q t w here all one))

@@ -5,7 +5,7 @@ use Rattle.std.specs.Prelude.{drop, is_none, is_some, option_map}
 use Rattle.machine_plan.specs.{declared.launch.Launch.Launch}
 use Rattle.qpu_law.specs.Home.{Home}
 use Rattle.qpu_machine.specs.declared.state.Fate.TheVariants.{GoesOn, Switches, Ends}
-use Rattle.qpu_machine.specs.Qpu.{active_of, queue_count, left_by, gives_way, woken_slot, queue_with, after_turn, went, oldest, queue_of, with_result, after_drop, result_given, after_service, has_none, is_beside, takes_first, takes_other, in_first, in_other, started_in, after_launch}
+use Rattle.qpu_machine.specs.Qpu.{active_of, queue_count, left_by, gives_way, woken_slot, fresh_thread, queue_with, after_turn, went, oldest, queue_of, with_result, after_drop, result_given, after_service, has_none, is_beside, takes_first, takes_other, in_first, in_other, started_in, after_launch}
 use Rattle.qpu_machine.specs.{declared.state.Asked.Asked, declared.state.Fate.Fate, declared.state.Qpu.Qpu, declared.state.Request.Request}
 use Rattle.qpu_machine.specs.{declared.state.Thread.Thread, Start.thread_of, Step.ThreadTurn}
 use Rattle.promises.specs.Steps.{one_if}
@@ -17,7 +17,7 @@ use Rattle.strict_law.proofs.Orders.{settled_order, in_settled_other, in_settled
 use Rattle.qpu_machine.specs.{Bounds.finished0, Bounds.finished1, Writes.loads}
 use Rattle.qpu_isa.specs.Terms.{writes_s}
 use Rattle.machine_law.specs.Units.{EachAt}
-use Rattle.strict_law.proofs.Threads.{ThreadGoes, thread_begins}
+use Rattle.strict_law.proofs.{Staying.Stays, Staying.stays_fresh, Staying.stays_given, Threads.ThreadGoes, Threads.thread_begins}
 
 -- by equal counts
 slot_same : (IsOf : ℕ → Home → Type 0) (queued0 queued1 same0 same1 old0 old1 : ℕ) (slot : Option Thread) → queued0 ≡ same0 → queued1 ≡ same1 → SlotStrict IsOf queued0 queued1 old0 old1 slot → SlotStrict IsOf same0 same1 old0 old1 slot
@@ -53,24 +53,26 @@ pub single_slot : (IsOf : ℕ → Home → Type 0) (queued0 queued1 old0 old1 : 
 single_slot IsOf queued0 queued1 old0 old1 t None beside off left = idle_slot IsOf queued0 queued1 old0 old1 None refl left
 single_slot IsOf queued0 queued1 old0 old1 t (Some o) beside off left = absurd (true≢false (sym beside.0 ∙ off))
 
--- A thread that is woken is where it was.
+-- What is known of a thread stays known where it stays, does so of its job, and has as many requests and results.
+pub thread_stays : (IsHere IsThere : ℕ → Home → Type 0) (queued0 queued1 next0 next1 old0 old1 : ℕ) (t next : Thread) → Stays t next → ((home : Home) → IsHere t.job home → IsThere t.job home)
+    → queued0 + length t.results0.items ≡ next0 + length next.results0.items → queued1 + length t.results1.items ≡ next1 + length next.results1.items → ThreadStrict IsHere queued0 queued1 old0 old1 t → ThreadStrict IsThere next0 next1 old0 old1 next
+thread_stays IsHere IsThere queued0 queued1 next0 next1 old0 old1 t next stays goes same0 same1 left = record {
+  home = left.home;
+  strict = left.strict;
+  stands = subst (λ j. IsThere j left.home) (sym stays.job) (goes left.home left.stands);
+  index = left.index;
+  at = stays.at left.home left.index left.at;
+  pending = stays.pending left.home.code left.index left.pending;
+  tmu0 = sym same0 ∙ left.tmu0;
+  tmu1 = sym same1 ∙ left.tmu1;
+  split0 = left.split0;
+  split1 = left.split1;
+}
+
 woken_strict : (IsOf : ℕ → Home → Type 0) (queued0 queued1 old0 old1 : ℕ) (over : Bool) (slot : Option Thread) → SlotStrict IsOf queued0 queued1 old0 old1 slot → SlotStrict IsOf queued0 queued1 old0 old1 (woken_slot over slot)
 woken_strict IsOf queued0 queued1 old0 old1 false slot left = left
 woken_strict IsOf queued0 queued1 old0 old1 true None left = left
-woken_strict IsOf queued0 queued1 old0 old1 true (Some t) left =
-    let at = left.at in
-    record {
-      home = left.home;
-      strict = left.strict;
-      stands = left.stands;
-      index = left.index;
-      at = record { place = at.place; inside = at.inside; threaded = at.threaded; mark1 = at.mark1; mark2 = at.mark2; mark3 = at.mark3 };
-      pending = record { tmu0 = left.pending.tmu0; tmu1 = left.pending.tmu1 };
-      tmu0 = left.tmu0;
-      tmu1 = left.tmu1;
-      split0 = left.split0;
-      split1 = left.split1;
-    }
+woken_strict IsOf queued0 queued1 old0 old1 true (Some t) left = thread_stays IsOf IsOf queued0 queued1 queued0 queued1 old0 old1 t (fresh_thread t) (stays_fresh t) (λ home stands. stands) refl refl left
 
 woken_has : (over : Bool) (slot : Option Thread) → (finished0 (woken_slot over slot) ≡ finished0 slot) × (finished1 (woken_slot over slot) ≡ finished1 slot)
 woken_has false slot = (refl, refl)
@@ -225,23 +227,9 @@ got_strict IsOf before0 before1 after0 after1 old0 old1 tmu row None fewer0 fewe
     let none1 = left.1 in
     (omega (arith, none0, fewer0), omega (arith, none1, fewer1), left.2, left.3)
 got_strict IsOf before0 before1 after0 after1 old0 old1 tmu row (Some t) fewer0 fewer1 left =
-    let at = left.at in
-    let count0 = left.tmu0 in
-    let count1 = left.tmu1 in
     let more0 = got_by (tmu == 0) t.results0.items row in
     let more1 = kept_by (tmu == 0) t.results1.items row in
-    record {
-      home = left.home;
-      strict = left.strict;
-      stands = left.stands;
-      index = left.index;
-      at = record { place = at.place; inside = at.inside; threaded = at.threaded; mark1 = at.mark1; mark2 = at.mark2; mark3 = at.mark3 };
-      pending = record { tmu0 = left.pending.tmu0; tmu1 = left.pending.tmu1 };
-      tmu0 = omega (arith, count0, more0, fewer0);
-      tmu1 = omega (arith, count1, more1, fewer1);
-      split0 = left.split0;
-      split1 = left.split1;
-    }
+    thread_stays IsOf IsOf before0 before1 after0 after1 old0 old1 t (with_result tmu row t) (stays_given tmu row t) (λ home stands. stands) (omega (arith, more0, fewer0)) (omega (arith, more1, fewer1)) left
 
 got_all : (IsOf : ℕ → Home → Type 0) (before0 before1 after0 after1 old0 old1 tmu : ℕ) (row : Option (List ℕ)) (slot : Option Thread) → before0 ≡ after0 + one_if (tmu == 0) → before1 ≡ after1 + one_if (not (tmu == 0))
     → SlotStrict IsOf before0 before1 old0 old1 slot

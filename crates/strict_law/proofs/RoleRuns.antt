@@ -1,29 +1,28 @@
--- In each run of strict jobs, each thread keeps to what it was started as.
-use Rattle.std.proofs.Common.{◌≡◌, ◌<◌, ℕ, ◌+◌, ◌*◌, not, Bool, false, List, [], ◌∷◌, map, None, refl, sym, ◌∙◌, ap, subst, arith, rules}
+-- In each run of strict jobs, and where they come and go, each thread keeps to what it was started as.
+use Rattle.std.proofs.Common.{◌≡◌, ◌<◌, ℕ, ◌+◌, ◌*◌, not, Bool, false, List, None, refl, sym, ◌∙◌, ap, subst, arith, rules}
 use Rattle.std.proofs.{lemmas.Grind.common_steps, lemmas.Bool.Decides.nat_tests}
 use Rattle.field_words.specs.Words.{u32_at}
 use Rattle.emitted_facts.specs.Records.{is_single, code_word, stream_word}
 use Rattle.emitted_facts.proofs.Records.{header_in}
 use Rattle.bin_walks.specs.Walks.{nothing_kept}
-use Rattle.machine_plan.specs.{Memory.bytes_at}
-use Rattle.machine_plan.specs.Regions.{Inside, Interval, IsSafeAccess, Rights, rights_of, HasReadOnly}
-use Rattle.machine_plan.specs.Others.{Happening, Steps, Changes, MayHappen, happen, AllMayHappen}
-use Rattle.machine_plan.specs.Runs.{state_reached}
-use Rattle.machine_plan.proofs.{Others.Holds, Others.run_holds, Worlds.keeps_result, Words.byte_read, Words.word_read}
+use Rattle.machine_plan.specs.{declared.launch.Launch.Launch, Memory.bytes_at, Regions.Interval, Regions.Rights, Regions.HasReadOnly}
+use Rattle.machine_plan.proofs.{Words.byte_read, Words.word_read}
 use Rattle.list_machine.specs.declared.state.Program.{Program, TheVariants.Fragment, TheVariants.Vertex, TheVariants.Coordinate}
-use Rattle.list_machine.specs.{Fetch.record_place, Lists.Lists, Lists.Turned, Lists.binner_of, Lists.renderer_of, Binner.binner_plan, Renderer.renderer_plan, Start.code_offset, Start.is_threaded as threaded_flag}
+use Rattle.list_machine.specs.{Fetch.record_place, Lists.Lists, Start.code_offset, Start.is_threaded as threaded_flag}
 use Rattle.list_law.specs.{Emitted.words_in, Emitted.program_in, Uses.program_launched, Uses.threaded_by}
 use Rattle.list_law.proofs.Words.{low_bit}
-use Rattle.machine.specs.{declared.job.Start.Start, State.State, State.job_start, State.units_start, Step.Event, Step.ready, Step.turn, Step.unit_turn}
-use Rattle.machine_law.specs.{Begins.LaunchBegins, Jobs.ArePlain, Laws.AreFine, Units.EachAt}
-use Rattle.machine_law.proofs.{Begins.each_begins, Begins.homes_stay_law, Begins.single_stays, Begins.word_stays, Owes.start_fine, Owes.units_owe_law}
-use Rattle.ends_law.proofs.{Begins.bin_starts, Plans.keeps_both, Plans.weaker}
+use Rattle.qpu_law.specs.Home.{Home}
+use Rattle.machine.specs.{declared.job.Start.Start, State.job_start, State.units_start}
+use Rattle.machine_law.specs.Begins.{LaunchBegins}
+use Rattle.machine_law.proofs.{Begins.homes_stay_law, Begins.single_stays, Begins.word_stays}
+use Rattle.promises.specs.Days.{Day, after, dawn}
+use Rattle.ends_law.proofs.Begins.{bin_starts}
 use Rattle.strict_law.specs.Known.{IsHomeOf}
-use Rattle.strict_law.specs.Roles.{Roles, program_by, roles_after, roles_next, roles_along, RunsKeepRoles}
+use Rattle.strict_law.specs.Roles.{Roles, program_by, roles_kept, roles_along, roles_of, RunsKeepRoles, DaysKeepRoles}
 use Rattle.strict_law.specs.Strict.{DrawStrict, JobStrict}
-use Rattle.strict_law.proofs.Begins.{each_begin}
-use Rattle.strict_law.proofs.Programs.{has_foreign, LaunchFits, WordFits, WordsFit, TurnedFits, binner_fits, renderer_fits, words_begin}
-use Rattle.strict_law.proofs.Roles.{UnitsFit, JobTurned, SaysRoles, unit_fits, keeps_role, idle_fits}
+use Rattle.strict_law.proofs.{Watch.Watch, Watch.Watches, WatchRuns.run_watched, WatchRuns.runs_find, WatchDays.IsOf, WatchDays.days_find, WatchDays.days_watched}
+use Rattle.strict_law.proofs.Programs.{has_foreign, LaunchFits, WordFits, WordsFit, binner_fits, renderer_fits, words_begin}
+use Rattle.strict_law.proofs.Roles.{QpuFits, starts_fit, went_fits, served_fits, qpu_goes, qpu_found, keeps_role}
 
 -- What is read of a record is what its words say.
 words_at : (m : List ℕ) (word offset i : ℕ) → offset ≡ 4 * i → u32_at (bytes_at m (record_place word + offset) 4) 0 ≡ words_in m word i
@@ -73,61 +72,49 @@ job_words rights plains first j start job =
     words_begin (HasReadOnly rights first) (WordFits (HasReadOnly rights first) (IsHomeOf rights first j)) (job_start start) job.begins.config (DrawStrict rights plains first j) nothing_kept job.begins.packets
     (λ word packet draws. draw_fits rights plains first j word packet draws) job.draws refl refl refl (bin_starts rights plains first j start (DrawStrict rights plains first j) job.begins job.draws)
 
-each_words : (rights : List Rights) (plains : ℕ → List Interval) (first : List ℕ) (k : ℕ) (starts : List Start) → EachAt (JobStrict rights plains first) k starts → EachAt (JobWords rights first) k (map job_start starts)
-each_words rights plains first k [] all = tt
-each_words rights plains first k (start ∷ starts) all = (job_words rights plains first k start all.0, each_words rights plains first (k + 1) starts all.1)
+launch_wider : (program : Program) (A B : Home → Type 0) → ((home : Home) → A home → B home) → (launch : Launch) → LaunchFits A program launch → LaunchFits B program launch
+launch_wider program A B goes launch own = record { home = own.home; fits = own.fits; stands = goes own.home own.stands; code = own.code; uniforms = own.uniforms; threaded = own.threaded }
 
-start_fits : (rights : List Rights) (plains : ℕ → List Interval) (first : List ℕ) (starts : List Start) (roles : Roles) → EachAt (JobStrict rights plains first) 0 starts → UnitsFit (JobWords rights first) (IsHomeOf rights first) roles (units_start starts)
-start_fits rights plains first starts roles all = record { jobs = each_words rights plains first 0 starts all; qpus = idle_fits (IsHomeOf rights first) roles 0 12 }
+-- The roles are watched.
+abbrev pub roles_watch : Watch
+roles_watch = record {
+  Kept = Roles;
+  keeping = roles_kept;
+  OfJob = JobWords;
+  Binned = λ IsOwn launch. LaunchFits IsOwn Coordinate launch;
+  Rendered = λ words IsOwn launch. LaunchFits IsOwn (program_by words) launch;
+  OfQpu = λ IsOf roles k q. QpuFits IsOf (roles k) q;
+}
 
--- What it says in a memory.
-pub words_say : (rights : List Rights) (first m : List ℕ) → HasReadOnly rights first m → SaysRoles (JobWords rights first) (IsHomeOf rights first) m
-words_say rights first m has =
-    let K = HasReadOnly rights first in
-    let Comes_to : ℕ → Program → Turned → Type 0 = λ j program turned. JobTurned (JobWords rights first) (IsHomeOf rights first) j program turned in
-    record {
-      finds = λ j home stands. record { region = (rights_of rights j).region; is = stands m has };
-      binner = λ j s free words job on. weaker (binner_of j) (TurnedFits K (IsHomeOf rights first j) Coordinate) (Comes_to j Coordinate) (λ turned one. record { known = one.0; launch = one.1 }) (binner_plan s free words) m
-          (binner_fits (binner_of j) K (IsHomeOf rights first j) s free words m has job on);
-      renderer = λ j s free words job on. weaker (renderer_of j) (TurnedFits K (IsHomeOf rights first j) (program_by words)) (Comes_to j (program_by words)) (λ turned one. record { known = one.0; launch = one.1 }) (renderer_plan s free words) m
-          (renderer_fits (renderer_of j) K (IsHomeOf rights first j) s free words m has job);
-    }
-
--- Along a run.
-record IsNow (rights : List Rights) (plains : ℕ → List Interval) (first : List ℕ) (roles : Roles) (s : State) : Type 0 where
-  holds : Holds rights first (AreFine rights plains first) s
-  fit : UnitsFit (JobWords rights first) (IsHomeOf rights first) roles s.units
-
-happens_fit : (rights : List Rights) (plains : ℕ → List Interval) (first : List ℕ) (s : State) (one : Happening Event) (roles : Roles) → ArePlain rights plains → IsNow rights plains first roles s → MayHappen ready rights s one
-    → UnitsFit (JobWords rights first) (IsHomeOf rights first) (roles_next s one roles) (happen turn s one).state.units
-unfolding ready turn
-happens_fit rights plains first s (Steps event) roles plain now may =
-    let one = unit_turn s.units event.unit event.words in
-    let L = Inside (rights_of rights one.who.job).region in
-    let G = IsSafeAccess rights in
-    let P = AreFine rights plains first in
-    let Q = UnitsFit (JobWords rights first) (IsHomeOf rights first) (roles_after s.units event.unit event.words roles) in
-    let keeps = (units_owe_law rights plains first plain).keeps s.units s.memory event now.holds.units now.holds.has may in
-    let both = keeps_both one.who L G P Q one.plan s.memory keeps (unit_fits (JobWords rights first) (IsHomeOf rights first) roles s.units event.unit event.words s.memory (words_say rights first s.memory now.holds.has) now.fit may) in
-    let after = keeps_result one.who L G (λ next. P next × Q next) (λ wild. wild.tame refl) one.plan s.memory one.wild both in
-    after.1
-happens_fit rights plains first s (Changes m) roles plain now may = now.fit
-
-all_fit : (rights : List Rights) (plains : ℕ → List Interval) (first : List ℕ) (s : State) (happenings : List (Happening Event)) (roles : Roles) → ArePlain rights plains → IsNow rights plains first roles s → AllMayHappen ready turn rights s happenings
-    → IsNow rights plains first (roles_along s happenings roles) (state_reached (happen turn) s happenings)
-all_fit rights plains first s [] roles plain now may = now
-all_fit rights plains first s (one ∷ later) roles plain now may =
-    all_fit rights plains first (happen turn s one).state later (roles_next s one roles) plain
-    (record {
-      holds = (run_holds ready turn rights first (AreFine rights plains first) (units_owe_law rights plains first plain) (one ∷ []) s now.holds (may.0, tt)).0;
-      fit = happens_fit rights plains first s one roles plain now may.0;
-    }) may.1
+pub roles_watched : Watches roles_watch
+roles_watched = record {
+  begins = job_words;
+  binner = λ rights first j who s free words m has job on. binner_fits who (HasReadOnly rights first) (IsHomeOf rights first j) s free words m has job on;
+  renderer = λ rights first j who s free words m has job on. renderer_fits who (HasReadOnly rights first) (IsHomeOf rights first j) s free words m has job;
+  wider_binned = launch_wider Coordinate;
+  wider_rendered = λ words. launch_wider (program_by words);
+  binned = λ IsOf u words m roles j launch started qpus. starts_fit IsOf Coordinate roles u j launch started qpus;
+  rendered = λ IsOf u words m roles j launch started qpus. starts_fit IsOf (program_by words) roles u j launch started qpus;
+  thread = λ IsOf u k q t words m roles is active here left may. went_fits IsOf k q t words m roles active here left;
+  others = λ IsOf u k words m roles i q other was. was;
+  texture = λ u k tmu words m roles. refl;
+  served = λ IsOf roles k tmu q request row left is. served_fits IsOf (roles k) tmu q request row left;
+  moves = λ IsHere IsThere N goes roles k q first other left. qpu_goes IsHere IsThere N goes (roles k) q first other left;
+  found = λ IsOf second files roles k q left. qpu_found IsOf second files q (roles k) left;
+  admitted = λ j roles. refl;
+  idle = λ IsOf roles k. record { first = tt; other = tt };
+}
 
 pub runs_keep_roles_law : RunsKeepRoles
 runs_keep_roles_law rights plains first m starts plain has all happenings found s run event q t word one =
-    let begin : State = record { memory = m; units = units_start starts } in
     let none : Roles = λ k second. None in
-    let fine = start_fine rights plains first starts (each_begins rights plains first 0 starts (each_begin rights plains first 0 starts all)) in
-    let first_now : IsNow rights plains first none begin = record { holds = record { units = fine; has = has }; fit = start_fits rights plains first starts none all } in
-    let last : IsNow rights plains first (roles_along begin happenings none) s = subst (λ (one : State). IsNow rights plains first (roles_along begin happenings none) one) (sym run.last) (all_fit rights plains first begin happenings none plain first_now run.allowed) in
-    keeps_role (JobWords rights first) (IsHomeOf rights first) (roles_along begin happenings none) s event q t word (words_say rights first s.memory last.holds.has).finds last.fit one
+    let last = run_watched roles_watch roles_watched none rights plains first m starts plain has all happenings found s run in
+    keeps_role (IsHomeOf rights first) (roles_along (record { memory = m; units = units_start starts }) happenings none) s event q t word (runs_find rights first s.memory last.holds.has) last.known.qpus one
+
+-- So it is where jobs come and go.
+pub days_keep_roles_law : DaysKeepRoles
+days_keep_roles_law memory happenings may begins event q t word one =
+    let d : Day = after (dawn memory) happenings in
+    let none : Roles = λ k second. None in
+    let last = days_watched roles_watch roles_watched none memory happenings may begins in
+    keeps_role (IsOf d.jobs) (roles_of (dawn memory) happenings none) d.state event q t word (days_find d.jobs d.state.memory last.known.holds) last.now.qpus one

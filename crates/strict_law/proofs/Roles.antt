@@ -1,35 +1,31 @@
 -- Each thread keeps to what it was started as.
-use Rattle.std.proofs.Common.{◌≡◌, ◌≢◌, ◌<◌, ℕ, zero, suc, ◌+◌, ◌&&◌, Bool, true, false, IsTrue, List, [], ◌∷◌, length, replicate, Option, Some, None, IfSome, if◌then◌else◌, refl, sym, ◌∙◌, ap, subst, arith}
-use Rattle.std.proofs.lemmas.Bool.{and_parts, false≢true}
+use Rattle.std.proofs.Common.{◌≡◌, ◌≢◌, ◌<◌, ℕ, suc, ◌+◌, ◌&&◌, Bool, true, false, List, [], ◌∷◌, length, Option, Some, None, IfSome, if◌then◌else◌, refl, sym, ◌∙◌, ap, subst, arith}
+use Rattle.std.proofs.lemmas.Bool.{and_parts}
 use Rattle.std.specs.Prelude.{is_none, option_map}
 use Rattle.std.specs.Int.{from_le_bytes, w64}
-use Rattle.field_words.specs.declared.access.Actor.TheVariants.{Binner as TheBinner, Renderer as TheRenderer, Qpu as TheQpu, Tmu as TheTmu}
-use Rattle.field_words.specs.declared.access.Actor.{Actor}
+use Rattle.field_words.specs.declared.access.Actor.TheVariants.{Qpu as TheQpu}
 use Rattle.shader_flow.specs.{Flow.word, Flow.checked_of}
 use Rattle.shader_flow.proofs.{Bounded.some_below_not, Ends.checked_of-le}
 use Rattle.strict_rules.specs.{Words.reads_address, Words.uses_vpm, Words.uses_tile, Words.names_tile, Words.has_tile_signal, Rules.has_vpm_part, Rules.has_tile_part}
-use Rattle.machine_plan.specs.{declared.launch.Free.Free, declared.launch.Launch.Launch, declared.who.Who.Who, Glance.glance_result, Memory.bytes_at, Plan.Plan}
-use Rattle.machine_plan.specs.{Regions.Interval, World.plan_mapped}
-use Rattle.list_machine.specs.Binner.{has_binner_work, binner_ready, binner_plan}
-use Rattle.list_machine.specs.Lists.{Lists, Turned, binner_of, renderer_of}
-use Rattle.list_machine.specs.Renderer.{has_renderer_work, renderer_ready, renderer_plan}
+use Rattle.machine_plan.specs.{declared.launch.Launch.Launch, declared.who.Who.Who, Memory.bytes_at, Regions.Interval}
 use Rattle.list_machine.specs.declared.state.Program.{Program, TheVariants.Fragment, TheVariants.Vertex, TheVariants.Coordinate}
-use Rattle.qpu_machine.specs.{declared.state.Asked.Asked, declared.state.Qpu.Qpu, declared.state.Request.Request, declared.state.Thread.Thread, Request.ask_plan}
-use Rattle.qpu_machine.specs.{Start.thread_of, Step.ThreadTurn, Step.thread_plan}
+use Rattle.qpu_machine.specs.{declared.state.Asked.Asked, declared.state.Qpu.Qpu, declared.state.Request.Request, declared.state.Thread.Thread}
+use Rattle.qpu_machine.specs.{Start.thread_of, Step.thread_plan}
 use Rattle.qpu_machine.specs.declared.state.Fate.{Fate, TheVariants.Ends, TheVariants.Switches, TheVariants.GoesOn}
-use Rattle.qpu_machine.specs.Qpu.{active_of, job_of_thread, ready_by, plan_by, left_by, gives_way, woken_slot, after_turn, went, with_result, after_drop, result_given, after_service, serving, slot_of, has_none, is_beside, takes_first, takes_other, in_first, in_other, started_in, queue_of, oldest, job_of_request, free_in, idle_qpu}
+use Rattle.qpu_machine.specs.Qpu.{active_of, left_by, gives_way, woken_slot, fresh_thread, after_turn, went, with_result, after_drop, result_given, after_service, slot_of, has_none, is_beside, takes_first, takes_other, in_first, in_other, started_in}
 use Rattle.qpu_law.specs.{Home.Home, Home.IsAt, Home.turn_done, Thread.IsHome}
 use Rattle.qpu_law.proofs.{Going.in_checked, Going.is_went, Going.stays_in_code_law, Starting.starts_stand_law}
-use Rattle.machine.specs.Step.{Event, with_launch, with_lists, with_qpu, is_ahead, binner_may, renderer_may, qpu_may, tmu_may, binner_turn, renderer_turn, qpu_turn, tmu_turn, unit_ready, unit_turn}
-use Rattle.machine.specs.State.{State, Units, Picked, item_at, binner_job, renderer_job}
+use Rattle.machine.specs.Step.{Event, with_launch}
+use Rattle.machine.specs.State.{State, Units, item_at}
 use Rattle.machine_law.specs.Units.{EachAt}
-use Rattle.machine_law.proofs.Owes.{PickedFine, put_each, first_fine, not_held}
 use Rattle.apart_law.proofs.Places.{chosen}
-use Rattle.ends_law.proofs.{Plans.Comes, Plans.comes_any, Plans.comes_into, Threads.thread_comes}
+use Rattle.promises.specs.Days.{Files, found_in, with_files}
+use Rattle.ends_law.proofs.{Plans.Comes, Plans.weaker, Threads.thread_comes}
 use Rattle.served_law.proofs.Processors.{chosen_by}
 use Rattle.strict_law.specs.{Forbidden.Executes, Forbidden.reads, Forbidden.touches, Forbidden.touches_vertices, Known.Finds}
-use Rattle.strict_law.specs.Roles.{Roles, thread_in, roles_with, roles_after, program_by, touches_fragments, is_foreign, KeepsRole}
-use Rattle.strict_law.proofs.{Machine.each_item, Programs.has_foreign, Programs.LaunchFits}
+use Rattle.strict_law.specs.Roles.{Roles, thread_in, roles_with, touches_fragments, is_foreign, KeepsRole}
+use Rattle.strict_law.proofs.Staying.{Stays, stays_same, stays_fresh, stays_given, stays_filed}
+use Rattle.strict_law.proofs.{Watch.each_item, Programs.has_foreign, Programs.LaunchFits}
 
 -- The thread stands before an instruction of such a shader, which has nothing foreign to this role.
 pub record ThreadFits (IsOf : ℕ → Home → Type 0) (role : Option Program) (t : Thread) : Type 0 where
@@ -51,21 +47,6 @@ pub record QpuFits (IsOf : ℕ → Home → Type 0) (role : Bool → Option Prog
 
 abbrev pub EachFits : (ℕ → Home → Type 0) → Roles → ℕ → List Qpu → Type 0
 EachFits IsOf roles n qpus = EachAt (λ k q. QpuFits IsOf (roles k) q) n qpus
-
-pub record UnitsFit (OfJob : ℕ → Lists → Type 0) (IsOf : ℕ → Home → Type 0) (roles : Roles) (u : Units) : Type 0 where
-  pub jobs : EachAt OfJob 0 u.jobs
-  pub qpus : EachFits IsOf roles 0 u.qpus
-
--- what a step of a list unit of job j came to
-pub record JobTurned (OfJob : ℕ → Lists → Type 0) (IsOf : ℕ → Home → Type 0) (j : ℕ) (program : Program) (turned : Turned) : Type 0 where
-  pub known : OfJob j turned.lists
-  pub launch : IfSome turned.launch (LaunchFits (IsOf j) program)
-
--- What is known of jobs says in this memory: of their shaders, and of the steps of their list units.
-pub record SaysRoles (OfJob : ℕ → Lists → Type 0) (IsOf : ℕ → Home → Type 0) (m : List ℕ) : Type 0 where
-  pub finds : Finds IsOf m
-  pub binner : (j : ℕ) (s : Lists) (free : Free) (words : List ℕ) → OfJob j s → glance_result (binner_ready s free) m ≡ true → Comes (binner_of j) (JobTurned OfJob IsOf j Coordinate) (binner_plan s free words) m
-  pub renderer : (j : ℕ) (s : Lists) (free : Free) (words : List ℕ) → OfJob j s → glance_result (renderer_ready s) m ≡ true → Comes (renderer_of j) (JobTurned OfJob IsOf j (program_by words)) (renderer_plan s free words) m
 
 -- The word at a thread's place is its instruction.
 pub word_there : (m : List ℕ) (region : List Interval) (h : Home) (n : ℕ) (t : Thread) → IsHome m region h → IsAt h n t → from_le_bytes w64 (bytes_at m t.place 8) ≡ word h.code n
@@ -93,35 +74,25 @@ thread_fits IsOf role t who words m here left =
     thread_comes who (λ turn. turn.leaves.fate ≢ Ends → ThreadFits IsOf role turn.thread) (word left.home.code left.index) t words m
     (word_there m (here t.job left.home left.stands).region left.home left.index t home left.at) (λ u uniforms. done_fits IsOf role t u uniforms words m here left)
 
--- A thread whose registers or results alone change is where it was.
+-- What is known of a thread stays known where it stays, and does so of its job.
+thread_stays : (IsHere IsThere : ℕ → Home → Type 0) (role : Option Program) (t next : Thread) → Stays t next → ((home : Home) → IsHere t.job home → IsThere t.job home) → ThreadFits IsHere role t → ThreadFits IsThere role next
+thread_stays IsHere IsThere role t next stays goes left = record {
+  home = left.home;
+  stands = subst (λ j. IsThere j left.home) (sym stays.job) (goes left.home left.stands);
+  index = left.index;
+  at = stays.at left.home left.index left.at;
+  program = left.program;
+  is = left.is;
+  fits = left.fits;
+}
+
+slot_stays : (IsOf : ℕ → Home → Type 0) (role : Option Program) (change : Thread → Thread) → ((t : Thread) → Stays t (change t)) → (slot : Option Thread) → SlotFits IsOf role slot → SlotFits IsOf role (option_map change slot)
+slot_stays IsOf role change stays None left = tt
+slot_stays IsOf role change stays (Some t) left = thread_stays IsOf IsOf role t (change t) (stays t) (λ home stands. stands) left
+
 woken_fits : (IsOf : ℕ → Home → Type 0) (role : Option Program) (over : Bool) (slot : Option Thread) → SlotFits IsOf role slot → SlotFits IsOf role (woken_slot over slot)
 woken_fits IsOf role false slot left = left
-woken_fits IsOf role true None left = tt
-woken_fits IsOf role true (Some t) left =
-    let at = left.at in
-    record {
-      home = left.home;
-      stands = left.stands;
-      index = left.index;
-      at = record { place = at.place; inside = at.inside; threaded = at.threaded; mark1 = at.mark1; mark2 = at.mark2; mark3 = at.mark3 };
-      program = left.program;
-      is = left.is;
-      fits = left.fits;
-    }
-
-result_fits : (IsOf : ℕ → Home → Type 0) (role : Option Program) (tmu : ℕ) (row : Option (List ℕ)) (slot : Option Thread) → SlotFits IsOf role slot → SlotFits IsOf role (option_map (with_result tmu row) slot)
-result_fits IsOf role tmu row None left = tt
-result_fits IsOf role tmu row (Some t) left =
-    let at = left.at in
-    record {
-      home = left.home;
-      stands = left.stands;
-      index = left.index;
-      at = record { place = at.place; inside = at.inside; threaded = at.threaded; mark1 = at.mark1; mark2 = at.mark2; mark3 = at.mark3 };
-      program = left.program;
-      is = left.is;
-      fits = left.fits;
-    }
+woken_fits IsOf role true slot left = slot_stays IsOf role fresh_thread stays_fresh slot left
 
 left_fits : (IsOf : ℕ → Home → Type 0) (role : Option Program) (fate : Fate) (t : Thread) → (fate ≢ Ends → ThreadFits IsOf role t) → SlotFits IsOf role (left_by fate t)
 left_fits IsOf role GoesOn t one = one (λ e. cc)
@@ -152,11 +123,11 @@ active_fits : (IsOf : ℕ → Home → Type 0) (role : Bool → Option Program) 
 active_fits IsOf role q left = active_by IsOf role q.second q.first q.other left.first left.other
 
 -- one that has a result
-served_fits : (IsOf : ℕ → Home → Type 0) (role : Bool → Option Program) (tmu : ℕ) (q : Qpu) (request : Request) (row : Option (List ℕ)) → QpuFits IsOf role q → QpuFits IsOf role (after_service q tmu request row)
+pub served_fits : (IsOf : ℕ → Home → Type 0) (role : Bool → Option Program) (tmu : ℕ) (q : Qpu) (request : Request) (row : Option (List ℕ)) → QpuFits IsOf role q → QpuFits IsOf role (after_service q tmu request row)
 unfolding result_given after_drop
 served_fits IsOf role tmu q request row left = record {
-  first = chosen (SlotFits IsOf (role false)) request.second q.first (option_map (with_result tmu row) q.first) left.first (result_fits IsOf (role false) tmu row q.first left.first);
-  other = chosen (SlotFits IsOf (role true)) request.second (option_map (with_result tmu row) q.other) q.other (result_fits IsOf (role true) tmu row q.other left.other) left.other;
+  first = chosen (SlotFits IsOf (role false)) request.second q.first (option_map (with_result tmu row) q.first) left.first (slot_stays IsOf (role false) (with_result tmu row) (stays_given tmu row) q.first left.first);
+  other = chosen (SlotFits IsOf (role true)) request.second (option_map (with_result tmu row) q.other) q.other (slot_stays IsOf (role true) (with_result tmu row) (stays_given tmu row) q.other left.other) left.other;
 }
 
 -- A program that starts.
@@ -232,71 +203,34 @@ launch_fits : (IsOf : ℕ → Home → Type 0) (program : Program) (j : ℕ) (la
 launch_fits IsOf program j None next qpus known all = each_fits IsOf program next 0 qpus all
 launch_fits IsOf program j (Some launch) next qpus known all = started_fits IsOf program launch.threaded (thread_of j launch) next 0 qpus (begins_fits IsOf program j launch known) all
 
-lists_fit : (OfJob : ℕ → Lists → Type 0) (IsOf : ℕ → Home → Type 0) (roles : Roles) (u : Units) (j : ℕ) (program : Program) (turned : Turned) → UnitsFit OfJob IsOf roles u → JobTurned OfJob IsOf j program turned
-    → UnitsFit OfJob IsOf (roles_with u program roles) (with_lists u j turned)
-lists_fit OfJob IsOf roles u j program turned all one = record {
-  jobs = put_each OfJob 0 j j u.jobs turned.lists (omega arith) one.known all.jobs;
-  qpus = launch_fits IsOf program j turned.launch (roles_with u program roles) u.qpus one.launch (ready_from IsOf program roles u 0 u.qpus (λ i. ap (λ k. item_at u.qpus k) (omega arith)) all.qpus);
+pub starts_fit : (IsOf : ℕ → Home → Type 0) (program : Program) (roles : Roles) (u : Units) (j : ℕ) (launch : Option Launch) → IfSome launch (LaunchFits (IsOf j) program) → EachFits IsOf roles 0 u.qpus → EachFits IsOf (roles_with u program roles) 0 (with_launch j launch u.qpus)
+starts_fit IsOf program roles u j launch known all = launch_fits IsOf program j launch (roles_with u program roles) u.qpus known (ready_from IsOf program roles u 0 u.qpus (λ i. ap (λ k. item_at u.qpus k) (omega arith)) all)
+
+pub went_fits : (IsOf : ℕ → Home → Type 0) (k : ℕ) (q : Qpu) (t : Thread) (words m : List ℕ) (roles : Roles) → active_of q ≡ Some t → Finds IsOf m → QpuFits IsOf (roles k) q → Comes (record { unit = TheQpu k; job = t.job }) (λ turn. QpuFits IsOf (roles k) (went q t turn)) (thread_plan t words) m
+went_fits IsOf k q t words m roles active here known =
+    let who : Who = record { unit = TheQpu k; job = t.job } in
+    let thread : ThreadFits IsOf (roles k q.second) t = subst (λ (slot : Option Thread). SlotFits IsOf (roles k q.second) slot) active (active_fits IsOf (roles k) q known) in
+    weaker who (λ turn. turn.leaves.fate ≢ Ends → ThreadFits IsOf (roles k q.second) turn.thread) (λ turn. QpuFits IsOf (roles k) (went q t turn))
+    (λ turn one. settled_fits IsOf (roles k) q t.job (left_by turn.leaves.fate turn.thread) (gives_way turn.leaves.fate) turn.leaves.asked known (left_fits IsOf (roles k q.second) turn.leaves.fate turn.thread one)) (thread_plan t words) m
+    (thread_fits IsOf (roles k q.second) t who words m here thread)
+
+-- What is known of a thread stays known, where it does of its job.
+slot_goes : (IsHere IsThere : ℕ → Home → Type 0) (N : ℕ → Type 0) → ((j : ℕ) (home : Home) → N j → IsHere j home → IsThere j home) → (role : Option Program) (slot : Option Thread) → IfSome slot (λ t. N t.job)
+    → SlotFits IsHere role slot → SlotFits IsThere role slot
+slot_goes IsHere IsThere N goes role None only left = tt
+slot_goes IsHere IsThere N goes role (Some t) only left = thread_stays IsHere IsThere role t t (stays_same t) (λ home stands. goes t.job home only stands) left
+
+pub qpu_goes : (IsHere IsThere : ℕ → Home → Type 0) (N : ℕ → Type 0) → ((j : ℕ) (home : Home) → N j → IsHere j home → IsThere j home) → (role : Bool → Option Program) (q : Qpu) → IfSome q.first (λ t. N t.job) → IfSome q.other (λ t. N t.job)
+    → QpuFits IsHere role q → QpuFits IsThere role q
+qpu_goes IsHere IsThere N goes role q first other left = record {
+  first = slot_goes IsHere IsThere N goes (role false) q.first first left.first;
+  other = slot_goes IsHere IsThere N goes (role true) q.other other left.other;
 }
 
-qpu_fit : (OfJob : ℕ → Lists → Type 0) (IsOf : ℕ → Home → Type 0) (roles : Roles) (u : Units) (k : ℕ) (q : Qpu) → UnitsFit OfJob IsOf roles u → QpuFits IsOf (roles k) q → UnitsFit OfJob IsOf roles (with_qpu u k q)
-qpu_fit OfJob IsOf roles u k q all one = record { jobs = all.jobs; qpus = put_each (λ i p. QpuFits IsOf (roles i) p) 0 k k u.qpus q (omega arith) one all.qpus }
-
--- The units' turns.
-binner_comes : (OfJob : ℕ → Lists → Type 0) (IsOf : ℕ → Home → Type 0) (roles : Roles) (u : Units) (found : Option (Picked Lists)) (words m : List ℕ) → SaysRoles OfJob IsOf m → UnitsFit OfJob IsOf roles u → IfSome found (PickedFine OfJob)
-    → IsTrue (glance_result (binner_may u found) m) → Comes (binner_turn u found words).who (UnitsFit OfJob IsOf (roles_with u Coordinate roles)) (binner_turn u found words).plan m
-binner_comes OfJob IsOf roles u None words m here all job may = absurd (false≢true may)
-binner_comes OfJob IsOf roles u (Some b) words m here all job may =
-    let free : Free = free_in u.qpus in
-    comes_into (binner_of b.number) (with_lists u b.number) (JobTurned OfJob IsOf b.number Coordinate) (UnitsFit OfJob IsOf (roles_with u Coordinate roles)) (λ turned one. lists_fit OfJob IsOf roles u b.number Coordinate turned all one) (binner_plan b.item free words) m
-    (here.binner b.number b.item free words job (not_held (is_ahead b.number (renderer_job u)) (binner_ready b.item free) m may))
-
-renderer_comes : (OfJob : ℕ → Lists → Type 0) (IsOf : ℕ → Home → Type 0) (roles : Roles) (u : Units) (found : Option (Picked Lists)) (words m : List ℕ) → SaysRoles OfJob IsOf m → UnitsFit OfJob IsOf roles u → IfSome found (PickedFine OfJob)
-    → IsTrue (glance_result (renderer_may found) m) → Comes (renderer_turn u found words).who (UnitsFit OfJob IsOf (roles_with u (program_by words) roles)) (renderer_turn u found words).plan m
-renderer_comes OfJob IsOf roles u None words m here all job may = absurd (false≢true may)
-renderer_comes OfJob IsOf roles u (Some r) words m here all job may =
-    let free : Free = free_in u.qpus in
-    let program : Program = program_by words in
-    comes_into (renderer_of r.number) (with_lists u r.number) (JobTurned OfJob IsOf r.number program) (UnitsFit OfJob IsOf (roles_with u program roles)) (λ turned one. lists_fit OfJob IsOf roles u r.number program turned all one) (renderer_plan r.item free words) m
-    (here.renderer r.number r.item free words job may)
-
-slot_comes : (OfJob : ℕ → Lists → Type 0) (IsOf : ℕ → Home → Type 0) (roles : Roles) (k : ℕ) (u : Units) (q : Qpu) (slot : Option Thread) (words m : List ℕ) → Finds IsOf m → UnitsFit OfJob IsOf roles u → QpuFits IsOf (roles k) q
-    → SlotFits IsOf (roles k q.second) slot → IsTrue (glance_result (ready_by slot q) m) → Comes (record { unit = TheQpu k; job = job_of_thread slot }) (UnitsFit OfJob IsOf roles) (plan_mapped (with_qpu u k) (plan_by slot q words)) m
-slot_comes OfJob IsOf roles k u q None words m here all known thread may = absurd (false≢true may)
-slot_comes OfJob IsOf roles k u q (Some t) words m here all known thread may =
-    let who : Who = record { unit = TheQpu k; job = t.job } in
-    let plan : Plan ThreadTurn = thread_plan t words in
-    let Lives : ThreadTurn → Type 0 = λ turn. turn.leaves.fate ≢ Ends → ThreadFits IsOf (roles k q.second) turn.thread in
-    comes_into who (with_qpu u k) (QpuFits IsOf (roles k)) (UnitsFit OfJob IsOf roles) (λ next one. qpu_fit OfJob IsOf roles u k next all one) (plan_mapped (went q t) plan) m
-    (comes_into who (went q t) Lives (QpuFits IsOf (roles k))
-    (λ turn one. settled_fits IsOf (roles k) q t.job (left_by turn.leaves.fate turn.thread) (gives_way turn.leaves.fate) turn.leaves.asked known (left_fits IsOf (roles k q.second) turn.leaves.fate turn.thread one)) plan m
-    (thread_fits IsOf (roles k q.second) t who words m here thread))
-
-qpu_comes : (OfJob : ℕ → Lists → Type 0) (IsOf : ℕ → Home → Type 0) (roles : Roles) (k : ℕ) (u : Units) (found : Option Qpu) (words m : List ℕ) → Finds IsOf m → UnitsFit OfJob IsOf roles u → IfSome found (QpuFits IsOf (roles k))
-    → IsTrue (glance_result (qpu_may found) m) → Comes (qpu_turn u k found words).who (UnitsFit OfJob IsOf roles) (qpu_turn u k found words).plan m
-qpu_comes OfJob IsOf roles k u None words m here all known may = absurd (false≢true may)
-qpu_comes OfJob IsOf roles k u (Some q) words m here all known may = slot_comes OfJob IsOf roles k u q (active_of q) words m here all known (active_fits IsOf (roles k) q known) may
-
-request_comes : (OfJob : ℕ → Lists → Type 0) (IsOf : ℕ → Home → Type 0) (roles : Roles) (k tmu : ℕ) (u : Units) (q : Qpu) (found : Option Request) (words m : List ℕ) → UnitsFit OfJob IsOf roles u → QpuFits IsOf (roles k) q
-    → Comes (record { unit = TheTmu k tmu; job = job_of_request found }) (UnitsFit OfJob IsOf roles) (plan_mapped (with_qpu u k) (serving found q tmu words)) m
-request_comes OfJob IsOf roles k tmu u q None words m all known = qpu_fit OfJob IsOf roles u k q all known
-request_comes OfJob IsOf roles k tmu u q (Some request) words m all known =
-    let who : Who = record { unit = TheTmu k tmu; job = request.job } in
-    let plan : Plan (Option (List ℕ)) = ask_plan request.ask words in
-    comes_into who (with_qpu u k) (QpuFits IsOf (roles k)) (UnitsFit OfJob IsOf roles) (λ next one. qpu_fit OfJob IsOf roles u k next all one) (plan_mapped (after_service q tmu request) plan) m
-    (comes_any who (QpuFits IsOf (roles k)) (after_service q tmu request) (λ row. served_fits IsOf (roles k) tmu q request row known) plan m)
-
-tmu_comes : (OfJob : ℕ → Lists → Type 0) (IsOf : ℕ → Home → Type 0) (roles : Roles) (k tmu : ℕ) (u : Units) (found : Option Qpu) (words m : List ℕ) → UnitsFit OfJob IsOf roles u → IfSome found (QpuFits IsOf (roles k))
-    → IsTrue (glance_result (tmu_may found tmu) m) → Comes (tmu_turn u k tmu found words).who (UnitsFit OfJob IsOf roles) (tmu_turn u k tmu found words).plan m
-tmu_comes OfJob IsOf roles k tmu u None words m all known may = absurd (false≢true may)
-tmu_comes OfJob IsOf roles k tmu u (Some q) words m all known may = request_comes OfJob IsOf roles k tmu u q (oldest (queue_of q tmu)) words m all known
-
-pub unit_fits : (OfJob : ℕ → Lists → Type 0) (IsOf : ℕ → Home → Type 0) (roles : Roles) (u : Units) (unit : Actor) (words m : List ℕ) → SaysRoles OfJob IsOf m → UnitsFit OfJob IsOf roles u → IsTrue (glance_result (unit_ready u unit) m)
-    → Comes (unit_turn u unit words).who (UnitsFit OfJob IsOf (roles_after u unit words roles)) (unit_turn u unit words).plan m
-unit_fits OfJob IsOf roles u TheBinner words m here all may = binner_comes OfJob IsOf roles u (binner_job u) words m here all (first_fine OfJob has_binner_work 0 u.jobs all.jobs) may
-unit_fits OfJob IsOf roles u TheRenderer words m here all may = renderer_comes OfJob IsOf roles u (renderer_job u) words m here all (first_fine OfJob has_renderer_work 0 u.jobs all.jobs) may
-unit_fits OfJob IsOf roles u (TheQpu k) words m here all may = qpu_comes OfJob IsOf roles k u (item_at u.qpus k) words m here.finds all (each_item (λ i q. QpuFits IsOf (roles i) q) 0 k k u.qpus (omega arith) all.qpus) may
-unit_fits OfJob IsOf roles u (TheTmu k tmu) words m here all may = tmu_comes OfJob IsOf roles k tmu u (item_at u.qpus k) words m all (each_item (λ i q. QpuFits IsOf (roles i) q) 0 k k u.qpus (omega arith) all.qpus) may
+-- A program finds what the last one left in the files.
+pub qpu_found : (IsHere : ℕ → Home → Type 0) (second : Bool) (files : Files) (q : Qpu) (role : Bool → Option Program) → QpuFits IsHere role q → QpuFits IsHere role (found_in second files q)
+qpu_found IsHere true files q role left = record { first = left.first; other = slot_stays IsHere (role true) (with_files files) (stays_filed files) q.other left.other }
+qpu_found IsHere false files q role left = record { first = slot_stays IsHere (role false) (with_files files) (stays_filed files) q.first left.first; other = left.other }
 
 -- An instruction of a shader that has nothing foreign isn't foreign.
 vertices_are : (w : ℕ) → touches_vertices w ≡ uses_vpm w
@@ -317,11 +251,11 @@ none_foreign Fragment code n inside none = vertices_are (word code n) ∙ some_b
 none_foreign Vertex code n inside none = no_tile code n inside none
 none_foreign Coordinate code n inside none = no_tile code n inside none
 
-pub keeps_role : (OfJob : ℕ → Lists → Type 0) (IsOf : ℕ → Home → Type 0) (roles : Roles) (s : State) (event : Event) (q : Qpu) (t : Thread) (w : ℕ) → Finds IsOf s.memory → UnitsFit OfJob IsOf roles s.units → (one : Executes s event q t w)
+pub keeps_role : (IsOf : ℕ → Home → Type 0) (roles : Roles) (s : State) (event : Event) (q : Qpu) (t : Thread) (w : ℕ) → Finds IsOf s.memory → EachFits IsOf roles 0 s.units.qpus → (one : Executes s event q t w)
     → KeepsRole (roles one.k q.second) w
-keeps_role OfJob IsOf roles s event q t w here all one =
+keeps_role IsOf roles s event q t w here all one =
     let k : ℕ = one.k in
-    let processor : QpuFits IsOf (roles k) q = subst (λ (slot : Option Qpu). IfSome slot (QpuFits IsOf (roles k))) one.is (each_item (λ i p. QpuFits IsOf (roles i) p) 0 k k s.units.qpus (omega arith) all.qpus) in
+    let processor : QpuFits IsOf (roles k) q = subst (λ (slot : Option Qpu). IfSome slot (QpuFits IsOf (roles k))) one.is (each_item (λ i p. QpuFits IsOf (roles i) p) 0 k k s.units.qpus (omega arith) all) in
     let thread : ThreadFits IsOf (roles k q.second) t = subst (λ (slot : Option Thread). SlotFits IsOf (roles k q.second) slot) one.active (active_fits IsOf (roles k) q processor) in
     let stands = here t.job thread.home thread.stands in
     let is : w ≡ word thread.home.code thread.index = one.next ∙ word_there s.memory stands.region thread.home thread.index t stands.is thread.at in
@@ -330,8 +264,3 @@ keeps_role OfJob IsOf roles s event q t w here all one =
       is = thread.is;
       own = ap (λ v. is_foreign thread.program v) is ∙ none_foreign thread.program thread.home.code thread.index (in_checked thread.home.code thread.index stands.is.sound thread.at.inside) thread.fits;
     }
-
--- idle processors have no thread
-pub idle_fits : (IsOf : ℕ → Home → Type 0) (roles : Roles) (n count : ℕ) → EachFits IsOf roles n (replicate count idle_qpu)
-idle_fits IsOf roles n zero = tt
-idle_fits IsOf roles n (suc count) = (record { first = tt; other = tt }, idle_fits IsOf roles (n + 1) count)

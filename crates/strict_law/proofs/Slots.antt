@@ -1,12 +1,11 @@
 -- A processor's requests have room in its slots.
-use Rattle.std.proofs.Common.{◌≡◌, ◌≢◌, ◌≤◌, ◌<◌, ◌⊎◌, inl, inr, ℕ, zero, suc, ◌+◌, ◌-◌, ◌==◌, ◌&&◌, ◌||◌, not, Bool, true, false, IsTrue, List, [], ◌∷◌, ◌++◌, drop, length, map, replicate, Option, Some, None, IfSome, if◌then◌else◌, nat_le, refl, sym, ◌∙◌, ap, subst, arith}
-use Rattle.std.proofs.lemmas.Bool.{and_parts, eq-eqb, false≢true, leb-false, ne_eqb, true≢false}
+use Rattle.std.proofs.Common.{◌≡◌, ◌≢◌, ◌≤◌, ◌<◌, ◌⊎◌, inl, inr, ℕ, zero, suc, ◌+◌, ◌-◌, ◌&&◌, ◌||◌, not, Bool, true, false, List, [], ◌∷◌, ◌++◌, drop, length, map, Option, Some, None, IfSome, if◌then◌else◌, nat_le, refl, sym, ◌∙◌, ap, subst, arith}
+use Rattle.std.proofs.lemmas.Bool.{and_parts, eq-eqb, leb-false, ne_eqb, true≢false}
 use Rattle.std.proofs.lemmas.List.{map-append}
 use Rattle.std.proofs.lemmas.List.Sums.{sum-map, sum_by-append, sum_by-cons}
 use Rattle.std.specs.Prelude.{is_none, option_map, sum, sum_by}
 use Rattle.std.specs.Int.{from_le_bytes, w64}
-use Rattle.field_words.specs.declared.access.Actor.TheVariants.{Binner as TheBinner, Renderer as TheRenderer, Qpu as TheQpu, Tmu as TheTmu}
-use Rattle.field_words.specs.declared.access.Actor.{Actor}
+use Rattle.field_words.specs.declared.access.Actor.TheVariants.{Qpu as TheQpu}
 use Rattle.qpu_isa.specs.Terms.{writes_s, writes_tmu}
 use Rattle.shader_flow.specs.{Flow.word, Flow.checked_of, Flow.is_threaded, Pending.pending_of}
 use Rattle.shader_flow.proofs.{Counts.pending_inside}
@@ -14,30 +13,26 @@ use Rattle.shader_check.proofs.{Clean.clean, Setups.one_tmu, Setups.s_writes}
 use Rattle.strict_rules.specs.{declared.state.Request.Request as Sent, Queue.request_at, Queue.queue_after, Queue.queue_of, Queue.slots_of, Queue.most_slots, Rules.lacks_slot}
 use Rattle.strict_rules.specs.Words as words
 use Rattle.strict_rules.proofs.Requests.{queue_inside}
-use Rattle.machine_plan.specs.{declared.launch.Free.Free, declared.launch.Launch.Launch, declared.who.Who.Who, Glance.glance_result, Memory.bytes_at, Plan.Plan}
-use Rattle.machine_plan.specs.{World.plan_mapped}
-use Rattle.list_machine.specs.Binner.{has_binner_work, binner_ready, binner_plan}
-use Rattle.list_machine.specs.Lists.{Lists, binner_of, renderer_of}
-use Rattle.list_machine.specs.Renderer.{has_renderer_work, renderer_plan}
-use Rattle.qpu_machine.specs.{declared.state.Asked.Asked, declared.state.Qpu.Qpu, declared.state.Request.Request, declared.state.Thread.Thread, Request.ask_plan}
+use Rattle.machine_plan.specs.{declared.launch.Launch.Launch, declared.who.Who.Who, Memory.bytes_at}
+use Rattle.qpu_machine.specs.{declared.state.Asked.Asked, declared.state.Qpu.Qpu, declared.state.Request.Request, declared.state.Thread.Thread}
 use Rattle.qpu_machine.specs.{Start.thread_of, Step.ThreadTurn, Step.thread_plan, Writes.loads}
 use Rattle.qpu_machine.specs.declared.state.Fate.{Fate, TheVariants.Ends, TheVariants.Switches, TheVariants.GoesOn}
-use Rattle.qpu_machine.specs.Qpu.{active_of, job_of_thread, ready_by, plan_by, left_by, gives_way, woken_slot, after_turn, went, with_result, after_drop, result_given, after_service, serving, has_none, is_beside, takes_first, takes_other, in_first, in_other, started_in, queue_of as requests_in, oldest, job_of_request, free_in, idle_qpu}
+use Rattle.qpu_machine.specs.Qpu.{active_of, left_by, gives_way, woken_slot, fresh_thread, after_turn, went, with_result, after_drop, result_given, after_service, has_none, is_beside, takes_first, takes_other, in_first, in_other, started_in}
 use Rattle.qpu_law.specs.{Home.Home, Home.HasNoFault, Home.IsAt, Home.ArePending, Home.Lands, Home.turn_done}
 use Rattle.qpu_law.proofs.{Going.behind, Going.fate_is, Going.in_checked, Going.is_went, Going.setups0_are, Going.setups1_are, Going.stays_in_code_law, Starting.starts_stand_law}
-use Rattle.machine.specs.Step.{with_launch, with_lists, with_qpu, is_ahead, binner_may, renderer_may, qpu_may, tmu_may, binner_turn, renderer_turn, qpu_turn, tmu_turn, unit_ready, unit_turn}
-use Rattle.machine.specs.State.{Units, Picked, item_at, binner_job, renderer_job}
+use Rattle.machine.specs.{State.Units, State.item_at, Step.with_launch}
 use Rattle.machine_law.specs.Units.{EachAt}
-use Rattle.machine_law.proofs.Owes.{PickedFine, put_each, first_fine, not_held}
 use Rattle.apart_law.proofs.Places.{chosen}
 use Rattle.promises.specs.Steps.{one_if}
-use Rattle.ends_law.proofs.{Plans.Comes, Plans.comes_any, Plans.comes_into, Threads.thread_comes}
+use Rattle.promises.specs.Days.{Files, found_in, with_files}
+use Rattle.ends_law.proofs.{Plans.Comes, Plans.weaker, Threads.thread_comes}
 use Rattle.served_law.specs.Known.{AreBeside}
 use Rattle.served_law.proofs.{Processors.chosen_by, Shaders.same_load, Shaders.jump_from, Marks.at_end}
-use Rattle.strict_law.specs.{Strict.IsStrict, Known.Finds, Known.LaunchStrict, Known.QpuStrict, Known.UnitsStrict, Known.JobTurned, Order.Orders}
+use Rattle.strict_law.specs.{Strict.IsStrict, Known.Finds, Known.LaunchStrict, Known.QpuStrict, Order.Orders}
 use Rattle.strict_law.specs.Slots.{words_kept, slots_with, slots_by, slots_in, Slots, slots_after, words_in, HasRoom}
+use Rattle.strict_law.proofs.Staying.{Stays, stays_same, stays_fresh, stays_given, stays_filed}
 use Rattle.strict_law.proofs.Shaders.{strict_here, writes_one, kept_long, empty_at}
-use Rattle.strict_law.proofs.{Machine.Says, Machine.each_item, Machine.each_put, Roles.word_there, Threads.goes_same, Threads.none_left}
+use Rattle.strict_law.proofs.{Processors.EachStrict, Watch.each_item, Roles.word_there, Threads.goes_same, Threads.none_left}
 
 -- the slots of each of a shader's requests to a TMU before an instruction
 abbrev pub slot_list : List Sent → List ℕ
@@ -157,37 +152,26 @@ left_slots IsOf slots0 slots1 GoesOn t lives over = lives (λ e. cc)
 left_slots IsOf slots0 slots1 Switches t lives over = lives (λ e. cc)
 left_slots IsOf slots0 slots1 Ends t lives over = over refl
 
--- A thread whose registers or results alone change.
+-- What is known of a thread stays known where it stays, and does so of its job.
+thread_stays : (IsHere IsThere : ℕ → Home → Type 0) (slots0 slots1 : List ℕ) (t next : Thread) → Stays t next → ((home : Home) → IsHere t.job home → IsThere t.job home) → ThreadSlots IsHere slots0 slots1 t → ThreadSlots IsThere slots0 slots1 next
+thread_stays IsHere IsThere slots0 slots1 t next stays goes left = record {
+  home = left.home;
+  strict = left.strict;
+  stands = subst (λ j. IsThere j left.home) (sym stays.job) (goes left.home left.stands);
+  index = left.index;
+  at = stays.at left.home left.index left.at;
+  pending = stays.pending left.home.code left.index left.pending;
+  tmu0 = left.tmu0;
+  tmu1 = left.tmu1;
+}
+
+slot_stays : (IsOf : ℕ → Home → Type 0) (slots0 slots1 : List ℕ) (change : Thread → Thread) → ((t : Thread) → Stays t (change t)) → (slot : Option Thread) → SlotHas IsOf slots0 slots1 slot → SlotHas IsOf slots0 slots1 (option_map change slot)
+slot_stays IsOf slots0 slots1 change stays None left = left
+slot_stays IsOf slots0 slots1 change stays (Some t) left = thread_stays IsOf IsOf slots0 slots1 t (change t) (stays t) (λ home stands. stands) left
+
 woken_slots : (IsOf : ℕ → Home → Type 0) (slots0 slots1 : List ℕ) (over : Bool) (slot : Option Thread) → SlotHas IsOf slots0 slots1 slot → SlotHas IsOf slots0 slots1 (woken_slot over slot)
 woken_slots IsOf slots0 slots1 false slot left = left
-woken_slots IsOf slots0 slots1 true None left = left
-woken_slots IsOf slots0 slots1 true (Some t) left =
-    let at = left.at in
-    record {
-      home = left.home;
-      strict = left.strict;
-      stands = left.stands;
-      index = left.index;
-      at = record { place = at.place; inside = at.inside; threaded = at.threaded; mark1 = at.mark1; mark2 = at.mark2; mark3 = at.mark3 };
-      pending = record { tmu0 = left.pending.tmu0; tmu1 = left.pending.tmu1 };
-      tmu0 = left.tmu0;
-      tmu1 = left.tmu1;
-    }
-
-result_slots : (IsOf : ℕ → Home → Type 0) (slots0 slots1 : List ℕ) (tmu : ℕ) (row : Option (List ℕ)) (slot : Option Thread) → SlotHas IsOf slots0 slots1 slot → SlotHas IsOf slots0 slots1 (option_map (with_result tmu row) slot)
-result_slots IsOf slots0 slots1 tmu row None left = left
-result_slots IsOf slots0 slots1 tmu row (Some t) left =
-    let at = left.at in
-    record {
-      home = left.home;
-      strict = left.strict;
-      stands = left.stands;
-      index = left.index;
-      at = record { place = at.place; inside = at.inside; threaded = at.threaded; mark1 = at.mark1; mark2 = at.mark2; mark3 = at.mark3 };
-      pending = record { tmu0 = left.pending.tmu0; tmu1 = left.pending.tmu1 };
-      tmu0 = left.tmu0;
-      tmu1 = left.tmu1;
-    }
+woken_slots IsOf slots0 slots1 true slot left = slot_stays IsOf slots0 slots1 fresh_thread stays_fresh slot left
 
 -- The processor whose thread has stepped: `by` is what the step leaves of that thread's, by TMU.
 abbrev SlotsBy : (ℕ → List ℕ → List ℕ) → Bool → (ℕ → Bool → List ℕ) → ℕ → Bool → List ℕ
@@ -216,11 +200,11 @@ active_by : (IsOf : ℕ → Home → Type 0) (slots : ℕ → Bool → List ℕ)
 active_by IsOf slots true first other one two = two
 active_by IsOf slots false first other one two = one
 
-served_slots : (IsOf : ℕ → Home → Type 0) (slots : ℕ → Bool → List ℕ) (tmu : ℕ) (q : Qpu) (request : Request) (row : Option (List ℕ)) → QpuSlots IsOf slots q → QpuSlots IsOf slots (after_service q tmu request row)
+pub served_slots : (IsOf : ℕ → Home → Type 0) (slots : ℕ → Bool → List ℕ) (tmu : ℕ) (q : Qpu) (request : Request) (row : Option (List ℕ)) → QpuSlots IsOf slots q → QpuSlots IsOf slots (after_service q tmu request row)
 unfolding result_given after_drop
 served_slots IsOf slots tmu q request row left = record {
-  first = chosen (SlotHas IsOf (slots 0 false) (slots 1 false)) request.second q.first (option_map (with_result tmu row) q.first) left.first (result_slots IsOf (slots 0 false) (slots 1 false) tmu row q.first left.first);
-  other = chosen (SlotHas IsOf (slots 0 true) (slots 1 true)) request.second (option_map (with_result tmu row) q.other) q.other (result_slots IsOf (slots 0 true) (slots 1 true) tmu row q.other left.other) left.other;
+  first = chosen (SlotHas IsOf (slots 0 false) (slots 1 false)) request.second q.first (option_map (with_result tmu row) q.first) left.first (slot_stays IsOf (slots 0 false) (slots 1 false) (with_result tmu row) (stays_given tmu row) q.first left.first);
+  other = chosen (SlotHas IsOf (slots 0 true) (slots 1 true)) request.second (option_map (with_result tmu row) q.other) q.other (slot_stays IsOf (slots 0 true) (slots 1 true) (with_result tmu row) (stays_given tmu row) q.other left.other) left.other;
 }
 
 -- A program that starts has none.
@@ -271,90 +255,46 @@ started_slots IsOf threaded t slots n (q ∷ qpus) thread all =
     (λ takes. (in_other_slots IsOf threaded (slots n) q t takes thread all.0, all.1))
     (λ none. (all.0, started_slots IsOf threaded t slots (n + 1) qpus thread all.1)))
 
-launch_slots : (IsOf : ℕ → Home → Type 0) (j : ℕ) (launch : Option Launch) (slots : Slots) (qpus : List Qpu) → IfSome launch (LaunchStrict (IsOf j)) → EachSlots IsOf slots 0 qpus → EachSlots IsOf slots 0 (with_launch j launch qpus)
+pub launch_slots : (IsOf : ℕ → Home → Type 0) (j : ℕ) (launch : Option Launch) (slots : Slots) (qpus : List Qpu) → IfSome launch (LaunchStrict (IsOf j)) → EachSlots IsOf slots 0 qpus → EachSlots IsOf slots 0 (with_launch j launch qpus)
 launch_slots IsOf j None slots qpus known all = all
 launch_slots IsOf j (Some launch) slots qpus known all = started_slots IsOf launch.threaded (thread_of j launch) slots 0 qpus (begins_slots IsOf j launch known) all
 
--- The units' turns.
-abbrev pub UnitsSlots : (ℕ → Home → Type 0) → Slots → Units → Type 0
-UnitsSlots IsOf slots u = EachSlots IsOf slots 0 u.qpus
-
-binner_comes : (OfJob : ℕ → Lists → Type 0) (IsOf : ℕ → Home → Type 0) (slots : Slots) (u : Units) (found : Option (Picked Lists)) (words m : List ℕ) → Says OfJob IsOf m → UnitsSlots IsOf slots u → IfSome found (PickedFine OfJob)
-    → IsTrue (glance_result (binner_may u found) m) → Comes (binner_turn u found words).who (UnitsSlots IsOf slots) (binner_turn u found words).plan m
-binner_comes OfJob IsOf slots u None words m here all job may = absurd (false≢true may)
-binner_comes OfJob IsOf slots u (Some b) words m here all job may =
-    let free : Free = free_in u.qpus in
-    comes_into (binner_of b.number) (with_lists u b.number) (JobTurned OfJob IsOf b.number) (UnitsSlots IsOf slots) (λ turned one. launch_slots IsOf b.number turned.launch slots u.qpus one.launch all) (binner_plan b.item free words) m
-    (here.binner b.number b.item free words job (not_held (is_ahead b.number (renderer_job u)) (binner_ready b.item free) m may))
-
-renderer_comes : (OfJob : ℕ → Lists → Type 0) (IsOf : ℕ → Home → Type 0) (slots : Slots) (u : Units) (found : Option (Picked Lists)) (words m : List ℕ) → Says OfJob IsOf m → UnitsSlots IsOf slots u → IfSome found (PickedFine OfJob)
-    → IsTrue (glance_result (renderer_may found) m) → Comes (renderer_turn u found words).who (UnitsSlots IsOf slots) (renderer_turn u found words).plan m
-renderer_comes OfJob IsOf slots u None words m here all job may = absurd (false≢true may)
-renderer_comes OfJob IsOf slots u (Some r) words m here all job may =
-    let free : Free = free_in u.qpus in
-    comes_into (renderer_of r.number) (with_lists u r.number) (JobTurned OfJob IsOf r.number) (UnitsSlots IsOf slots) (λ turned one. launch_slots IsOf r.number turned.launch slots u.qpus one.launch all) (renderer_plan r.item free words) m
-    (here.renderer r.number r.item free words job may)
-
--- processor k, whose slots go on
-abbrev SlotsOn : Option Qpu → ℕ → List ℕ → Slots → Slots
-SlotsOn found k m slots = λ j tmu second. if j == k then slots_in found m tmu second (slots j tmu second) else slots j tmu second
-
-qpu_goes_on : (IsOf : ℕ → Home → Type 0) (slots : Slots) (u : Units) (k : ℕ) (found : Option Qpu) (m : List ℕ) (q : Qpu) → UnitsSlots IsOf slots u → QpuSlots IsOf (λ tmu second. slots_in found m tmu second (slots k tmu second)) q
-    → UnitsSlots IsOf (SlotsOn found k m slots) (with_qpu u k q)
-qpu_goes_on IsOf slots u k found m q all one =
-    let now : ℕ → Qpu → Bool → Type 0 = λ i p here. QpuSlots IsOf (λ tmu second. if here then slots_in found m tmu second (slots i tmu second) else slots i tmu second) p in
-    each_put (λ i p. QpuSlots IsOf (slots i) p) (λ i p. QpuSlots IsOf (SlotsOn found k m slots i) p) 0 k k u.qpus q (omega arith)
-    (λ i p other known. subst (now i p) (sym (ne_eqb i k other)) known) (subst (now k q) (sym (eq-eqb k k refl)) one) all
-
-qpu_stays : (IsOf : ℕ → Home → Type 0) (slots : Slots) (u : Units) (k : ℕ) (q : Qpu) → UnitsSlots IsOf slots u → QpuSlots IsOf (slots k) q → UnitsSlots IsOf slots (with_qpu u k q)
-qpu_stays IsOf slots u k q all one = put_each (λ i p. QpuSlots IsOf (slots i) p) 0 k k u.qpus q (omega arith) one all
-
-slot_comes : (IsOf : ℕ → Home → Type 0) (slots : Slots) (k : ℕ) (u : Units) (q : Qpu) (slot : Option Thread) (words m : List ℕ) → active_of q ≡ slot → Finds IsOf m → UnitsSlots IsOf slots u → QpuSlots IsOf (slots k) q
-    → SlotHas IsOf (slots k 0 q.second) (slots k 1 q.second) slot → IsTrue (glance_result (ready_by slot q) m) → Comes (record { unit = TheQpu k; job = job_of_thread slot }) (UnitsSlots IsOf (SlotsOn (Some q) k m slots)) (plan_mapped (with_qpu u k) (plan_by slot q words)) m
-slot_comes IsOf slots k u q None words m active here all known thread may = absurd (false≢true may)
-slot_comes IsOf slots k u q (Some t) words m active here all known thread may =
+-- A step of a thread: the slots of processor k go on.
+pub went_slots : (IsOf : ℕ → Home → Type 0) (u : Units) (k : ℕ) (q : Qpu) (t : Thread) (words m : List ℕ) (slots : Slots) → item_at u.qpus k ≡ Some q → active_of q ≡ Some t → Finds IsOf m → QpuSlots IsOf (slots k) q
+    → Comes (record { unit = TheQpu k; job = t.job }) (λ turn. QpuSlots IsOf (slots_after u (TheQpu k) m slots k) (went q t turn)) (thread_plan t words) m
+went_slots IsOf u k q t words m slots is active here known =
     let who : Who = record { unit = TheQpu k; job = t.job } in
     let w : ℕ = from_le_bytes w64 (bytes_at m t.place 8) in
-    let plan : Plan ThreadTurn = thread_plan t words in
-    let Next : Qpu → Type 0 = QpuSlots IsOf (λ tmu second. slots_in (Some q) m tmu second (slots k tmu second)) in
     let by : ℕ → List ℕ → List ℕ = λ tmu one. slots_with tmu w (words_kept tmu t) one in
-    comes_into who (with_qpu u k) Next (UnitsSlots IsOf (SlotsOn (Some q) k m slots)) (λ next one. qpu_goes_on IsOf slots u k (Some q) m next all one) (plan_mapped (went q t) plan) m
-    (comes_into who (went q t) (SlotsGo IsOf (slots k 0 q.second) (slots k 1 q.second) t w) Next
-    (λ turn one. subst (λ (found : Option Thread). QpuSlots IsOf (λ tmu second. if (if q.second then second else not second) then slots_by found m tmu (slots k tmu second) else slots k tmu second) (went q t turn)) (sym active)
+    let thread = subst (λ (slot : Option Thread). SlotHas IsOf (slots k 0 q.second) (slots k 1 q.second) slot) active (active_by IsOf (slots k) q.second q.first q.other known.first known.other) in
+    weaker who (SlotsGo IsOf (slots k 0 q.second) (slots k 1 q.second) t w) (λ turn. QpuSlots IsOf (slots_after u (TheQpu k) m slots k) (went q t turn))
+    (λ turn one. subst (λ here. QpuSlots IsOf (λ tmu second. if here then slots_in (item_at u.qpus k) m tmu second (slots k tmu second) else slots k tmu second) (went q t turn)) (sym (eq-eqb k k refl))
+    (subst (λ (found : Option Qpu). QpuSlots IsOf (λ tmu second. slots_in found m tmu second (slots k tmu second)) (went q t turn)) (sym is)
+    (subst (λ (found : Option Thread). QpuSlots IsOf (λ tmu second. if (if q.second then second else not second) then slots_by found m tmu (slots k tmu second) else slots k tmu second) (went q t turn)) (sym active)
     (settled_slots IsOf by (slots k) q t.job (left_by turn.leaves.fate turn.thread) (gives_way turn.leaves.fate) turn.leaves.asked known
-    (left_slots IsOf (by 0 (slots k 0 q.second)) (by 1 (slots k 1 q.second)) turn.leaves.fate turn.thread one.left one.over))) plan m
-    (thread_slots IsOf (slots k 0 q.second) (slots k 1 q.second) t who words m here thread))
+    (left_slots IsOf (by 0 (slots k 0 q.second)) (by 1 (slots k 1 q.second)) turn.leaves.fate turn.thread one.left one.over)))))
+    (thread_plan t words) m (thread_slots IsOf (slots k 0 q.second) (slots k 1 q.second) t who words m here thread)
 
-qpu_comes : (IsOf : ℕ → Home → Type 0) (slots : Slots) (k : ℕ) (u : Units) (found : Option Qpu) (words m : List ℕ) → Finds IsOf m → UnitsSlots IsOf slots u → IfSome found (QpuSlots IsOf (slots k))
-    → IsTrue (glance_result (qpu_may found) m) → Comes (qpu_turn u k found words).who (UnitsSlots IsOf (SlotsOn found k m slots)) (qpu_turn u k found words).plan m
-qpu_comes IsOf slots k u None words m here all known may = absurd (false≢true may)
-qpu_comes IsOf slots k u (Some q) words m here all known may = slot_comes IsOf slots k u q (active_of q) words m refl here all known (active_by IsOf (slots k) q.second q.first q.other known.first known.other) may
+pub other_slots : (IsOf : ℕ → Home → Type 0) (u : Units) (k : ℕ) (m : List ℕ) (slots : Slots) (i : ℕ) (q : Qpu) → i ≢ k → QpuSlots IsOf (slots i) q → QpuSlots IsOf (slots_after u (TheQpu k) m slots i) q
+other_slots IsOf u k m slots i q other was = subst (λ here. QpuSlots IsOf (λ tmu second. if here then slots_in (item_at u.qpus k) m tmu second (slots i tmu second) else slots i tmu second) q) (sym (ne_eqb i k other)) was
 
-request_comes : (IsOf : ℕ → Home → Type 0) (slots : Slots) (k tmu : ℕ) (u : Units) (q : Qpu) (found : Option Request) (words m : List ℕ) → UnitsSlots IsOf slots u → QpuSlots IsOf (slots k) q
-    → Comes (record { unit = TheTmu k tmu; job = job_of_request found }) (UnitsSlots IsOf slots) (plan_mapped (with_qpu u k) (serving found q tmu words)) m
-request_comes IsOf slots k tmu u q None words m all known = qpu_stays IsOf slots u k q all known
-request_comes IsOf slots k tmu u q (Some request) words m all known =
-    let who : Who = record { unit = TheTmu k tmu; job = request.job } in
-    let plan : Plan (Option (List ℕ)) = ask_plan request.ask words in
-    comes_into who (with_qpu u k) (QpuSlots IsOf (slots k)) (UnitsSlots IsOf slots) (λ next one. qpu_stays IsOf slots u k next all one) (plan_mapped (after_service q tmu request) plan) m
-    (comes_any who (QpuSlots IsOf (slots k)) (after_service q tmu request) (λ row. served_slots IsOf (slots k) tmu q request row known) plan m)
+-- What is known of a thread stays known, where it does of its job.
+slot_goes : (IsHere IsThere : ℕ → Home → Type 0) (N : ℕ → Type 0) → ((j : ℕ) (home : Home) → N j → IsHere j home → IsThere j home) → (slots0 slots1 : List ℕ) (slot : Option Thread) → IfSome slot (λ t. N t.job)
+    → SlotHas IsHere slots0 slots1 slot → SlotHas IsThere slots0 slots1 slot
+slot_goes IsHere IsThere N goes slots0 slots1 None only left = left
+slot_goes IsHere IsThere N goes slots0 slots1 (Some t) only left = thread_stays IsHere IsThere slots0 slots1 t t (stays_same t) (λ home stands. goes t.job home only stands) left
 
-tmu_comes : (IsOf : ℕ → Home → Type 0) (slots : Slots) (k tmu : ℕ) (u : Units) (found : Option Qpu) (words m : List ℕ) → UnitsSlots IsOf slots u → IfSome found (QpuSlots IsOf (slots k))
-    → IsTrue (glance_result (tmu_may found tmu) m) → Comes (tmu_turn u k tmu found words).who (UnitsSlots IsOf slots) (tmu_turn u k tmu found words).plan m
-tmu_comes IsOf slots k tmu u None words m all known may = absurd (false≢true may)
-tmu_comes IsOf slots k tmu u (Some q) words m all known may = request_comes IsOf slots k tmu u q (oldest (requests_in q tmu)) words m all known
+pub qpu_goes : (IsHere IsThere : ℕ → Home → Type 0) (N : ℕ → Type 0) → ((j : ℕ) (home : Home) → N j → IsHere j home → IsThere j home) → (slots : ℕ → Bool → List ℕ) (q : Qpu) → IfSome q.first (λ t. N t.job) → IfSome q.other (λ t. N t.job)
+    → QpuSlots IsHere slots q → QpuSlots IsThere slots q
+qpu_goes IsHere IsThere N goes slots q first other left = record {
+  first = slot_goes IsHere IsThere N goes (slots 0 false) (slots 1 false) q.first first left.first;
+  other = slot_goes IsHere IsThere N goes (slots 0 true) (slots 1 true) q.other other left.other;
+}
 
-pub unit_slots : (OfJob : ℕ → Lists → Type 0) (IsOf : ℕ → Home → Type 0) (orders : Orders) (slots : Slots) (u : Units) (unit : Actor) (words m : List ℕ) → Says OfJob IsOf m → UnitsStrict OfJob IsOf orders u → UnitsSlots IsOf slots u
-    → IsTrue (glance_result (unit_ready u unit) m) → Comes (unit_turn u unit words).who (UnitsSlots IsOf (slots_after u unit m slots)) (unit_turn u unit words).plan m
-unit_slots OfJob IsOf orders slots u TheBinner words m here strict all may = binner_comes OfJob IsOf slots u (binner_job u) words m here all (first_fine OfJob has_binner_work 0 u.jobs strict.jobs) may
-unit_slots OfJob IsOf orders slots u TheRenderer words m here strict all may = renderer_comes OfJob IsOf slots u (renderer_job u) words m here all (first_fine OfJob has_renderer_work 0 u.jobs strict.jobs) may
-unit_slots OfJob IsOf orders slots u (TheQpu k) words m here strict all may = qpu_comes IsOf slots k u (item_at u.qpus k) words m here.finds all (each_item (λ i q. QpuSlots IsOf (slots i) q) 0 k k u.qpus (omega arith) all) may
-unit_slots OfJob IsOf orders slots u (TheTmu k tmu) words m here strict all may = tmu_comes IsOf slots k tmu u (item_at u.qpus k) words m all (each_item (λ i q. QpuSlots IsOf (slots i) q) 0 k k u.qpus (omega arith) all) may
-
--- idle processors have none
-pub idle_slots : (IsOf : ℕ → Home → Type 0) (n count : ℕ) → EachSlots IsOf (λ j tmu second. []) n (replicate count idle_qpu)
-idle_slots IsOf n zero = tt
-idle_slots IsOf n (suc count) = (record { first = (refl, refl); other = (refl, refl) }, idle_slots IsOf (n + 1) count)
+-- A program finds what the last one left in the files.
+pub qpu_found : (IsHere : ℕ → Home → Type 0) (second : Bool) (files : Files) (q : Qpu) (slots : ℕ → Bool → List ℕ) → QpuSlots IsHere slots q → QpuSlots IsHere slots (found_in second files q)
+qpu_found IsHere true files q slots left = record { first = left.first; other = slot_stays IsHere (slots 0 true) (slots 1 true) (with_files files) (stays_filed files) q.other left.other }
+qpu_found IsHere false files q slots left = record { first = slot_stays IsHere (slots 0 false) (slots 1 false) (with_files files) (stays_filed files) q.first left.first; other = left.other }
 
 -- A strict shader's slots have room. One TMU's, and the words that it keeps, grow by what an instruction writes to it.
 abbrev total : List Sent → ℕ
@@ -488,10 +428,10 @@ own_room : (IsOf : ℕ → Home → Type 0) (slots0 slots1 : List ℕ) (slot : O
 own_room IsOf slots0 slots1 None m here left = tt
 own_room IsOf slots0 slots1 (Some t) m here left = λ is. half_by t.threaded (filled_of slots0 slots1 (Some t)) is (thread_room IsOf slots0 slots1 t m here left)
 
-pub has_room : (OfJob : ℕ → Lists → Type 0) (IsOf : ℕ → Home → Type 0) (orders : Orders) (slots : Slots) (u : Units) (m : List ℕ) (k : ℕ) (q : Qpu) → Finds IsOf m → UnitsStrict OfJob IsOf orders u → UnitsSlots IsOf slots u → item_at u.qpus k ≡ Some q
+pub has_room : (IsOf : ℕ → Home → Type 0) (orders : Orders) (slots : Slots) (u : Units) (m : List ℕ) (k : ℕ) (q : Qpu) → Finds IsOf m → EachStrict IsOf orders 0 u.qpus → EachSlots IsOf slots 0 u.qpus → item_at u.qpus k ≡ Some q
     → HasRoom (slots k) q
-has_room OfJob IsOf orders slots u m k q here strict all is =
-    let known : QpuStrict IsOf (orders k 0) (orders k 1) q = subst (λ (slot : Option Qpu). IfSome slot (QpuStrict IsOf (orders k 0) (orders k 1))) is (each_item (λ i p. QpuStrict IsOf (orders i 0) (orders i 1) p) 0 k k u.qpus (omega arith) strict.qpus) in
+has_room IsOf orders slots u m k q here strict all is =
+    let known : QpuStrict IsOf (orders k 0) (orders k 1) q = subst (λ (slot : Option Qpu). IfSome slot (QpuStrict IsOf (orders k 0) (orders k 1))) is (each_item (λ i p. QpuStrict IsOf (orders i 0) (orders i 1) p) 0 k k u.qpus (omega arith) strict) in
     let one : QpuSlots IsOf (slots k) q = subst (λ (slot : Option Qpu). IfSome slot (QpuSlots IsOf (slots k))) is (each_item (λ i p. QpuSlots IsOf (slots i) p) 0 k k u.qpus (omega arith) all) in
     record {
       all = both_room IsOf (slots k 0 false) (slots k 1 false) (slots k 0 true) (slots k 1 true) q.first q.other m here known.beside one.first one.other;

@@ -5,13 +5,11 @@ use Rattle.machine_plan.specs.Regions.{Every, Interval, Rights, rights_of, HasRe
 use Rattle.packets.specs.declared.config.Config.{Config}
 use Rattle.shader_flow.specs.Flow.{is_threaded}
 use Rattle.strict_rules.specs.{declared.state.Request.Request, Queue.queue_of, Queue.last_act}
-use Rattle.list_machine.specs.{declared.state.Frame.Frame, Lists.Lists, Lists.Turned}
+use Rattle.list_machine.specs.{declared.state.Frame.Frame, Lists.Lists}
 use Rattle.list_law.specs.{Binning.Allocates, Lists.ListsFine}
 use Rattle.qpu_machine.specs.{declared.state.Qpu.Qpu, declared.state.Thread.Thread, Bounds.finished0, Bounds.finished1, Qpu.queue_count, Qpu.resting_of}
 use Rattle.qpu_machine.specs.declared.state.Fate.{Fate, TheVariants.Ends, TheVariants.Switches, TheVariants.GoesOn}
 use Rattle.qpu_law.specs.{Home.Home, Home.IsAt, Home.ArePending, Thread.IsHome}
-use Rattle.machine.specs.State.{Units}
-use Rattle.machine_law.specs.Units.{EachAt}
 use Rattle.served_law.specs.Known.{AreBeside}
 use Rattle.strict_law.specs.Strict.{IsStrict}
 
@@ -94,16 +92,6 @@ pub record QpuStrict (IsOf : ℕ → Home → Type 0) (order0 order1 : List Bool
   pub rests : IfSome (resting_of q) KeepsNone
   pub in0 : InOrder q.second order0 first0 (queue_count false q.queue0.items + finished0 q.first) other0 (queue_count true q.queue0.items + finished0 q.other)
   pub in1 : InOrder q.second order1 first1 (queue_count false q.queue1.items + finished1 q.first) other1 (queue_count true q.queue1.items + finished1 q.other)
-
--- of each job's lists OfJob is known, and so it is of each processor, with its orders by TMU
-pub record UnitsStrict (OfJob : ℕ → Lists → Type 0) (IsOf : ℕ → Home → Type 0) (orders : ℕ → ℕ → List Bool) (u : Units) : Type 0 where
-  pub jobs : EachAt OfJob 0 u.jobs
-  pub qpus : EachAt (λ k q. QpuStrict IsOf (orders k 0) (orders k 1) q) 0 u.qpus
-
--- What a step of a list unit of job j came to is known again, and so is the program that it starts.
-pub record JobTurned (OfJob : ℕ → Lists → Type 0) (IsOf : ℕ → Home → Type 0) (j : ℕ) (turned : Turned) : Type 0 where
-  pub known : OfJob j turned.lists
-  pub launch : IfSome turned.launch (LaunchStrict (IsOf j))
 
 -- Of jobs that begin over a first memory: the shader stands in each memory that has what they may only read, in the job's region.
 abbrev pub IsHomeOf : List Rights → List ℕ → ℕ → Home → Type 0

@@ -1,3 +1,4 @@
+pub mod Kept
 pub mod Forbidden
 pub mod Records
 pub mod Strict

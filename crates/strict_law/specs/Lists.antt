@@ -3,7 +3,7 @@
 --
 -- A state doesn't show what a binner executed before it. So its packets are kept beside the state, as requests are in `Order`.
 use Rattle.std.specs.Prelude.{◌≡◌, ◌≢◌, ℕ, ◌/◌, ◌%◌, ◌==◌, ◌&&◌, Bool, true, false, nat_le, if◌then◌else◌}
-use Rattle.std.specs.Prelude.{List, [], ◌∷◌, count_by, length, slice_index, Option, Some, None}
+use Rattle.std.specs.Prelude.{List, [], ◌∷◌, count_by, slice_index, Option, Some, None}
 use Rattle.std.specs.List.{list_any}
 use Rattle.field_words.specs.declared.access.{Access.Access, Actor.Actor}
 use Rattle.field_words.specs.declared.access.Actor.TheVariants.{Binner as TheBinner, Renderer as TheRenderer, Qpu as TheQpu, Tmu as TheTmu}
@@ -12,15 +12,15 @@ use Rattle.packets.specs.Opcode.{start_tile_binning, indexed_primitive_list, pri
 use Rattle.packets.specs.Length.{bin_taken}
 use Rattle.bin_list.specs.{Packets.opcode, Seen.last_opcode, Seen.latest}
 use Rattle.machine_plan.specs.{Memory.bytes_at, Regions.Interval, Regions.Rights, Regions.HasReadOnly}
-use Rattle.machine_plan.specs.Others.{Happening as Sole, Steps as SoleSteps, Changes as SoleChanges, happen as sole_happens, OthersRun}
+use Rattle.machine_plan.specs.Others.{Happening as Sole, OthersRun}
 use Rattle.list_machine.specs.{declared.state.Work.Work, Lists.Lists}
 use Rattle.machine.specs.{declared.job.Start.Start, State.Picked, State.State, State.Units, State.binner_job, State.units_start}
 use Rattle.machine.specs.Step.{Event, ready, turn}
 use Rattle.machine_law.specs.{Jobs.ArePlain, Units.EachAt}
-use Rattle.promises.specs.Days.{Day, Happening, Steps, Changes, Finds, Admits, Retires, Resets, after, dawn, happen}
+use Rattle.promises.specs.Days.{Day, Happening, after, dawn}
 use Rattle.promises.specs.Steps.{draws}
 use Rattle.day_law.specs.Day.{AllMayHappen}
-use Rattle.strict_law.specs.{Days.AdmitStrict, Records.selects_missing, Strict.JobStrict}
+use Rattle.strict_law.specs.{Days.AdmitStrict, Kept.Keeping, Kept.kept_along, Kept.kept_of, Records.selects_missing, Strict.JobStrict}
 
 -- the packet that begins at a place
 abbrev pub packet_at : List ℕ → ℕ → List ℕ
@@ -55,27 +55,15 @@ executed_after u TheRenderer m executed = executed
 executed_after u (TheQpu k) m executed = executed
 executed_after u (TheTmu k n) m executed = executed
 
--- along a run of jobs that begin together
-abbrev pub executed_next : State → Sole Event → Executed → Executed
-executed_next s (SoleSteps event) executed = executed_after s.units event.unit s.memory executed
-executed_next s (SoleChanges m) executed = executed
+-- along a run of jobs that begin together, and where jobs come and go; a job that is admitted has executed none
+abbrev pub executed_kept : Keeping Executed
+executed_kept = record { step = λ u unit words m executed. executed_after u unit m executed; admit = λ count executed j. if j == count then [] else executed j; reset = λ executed. executed }
 
 abbrev pub executed_along : State → List (Sole Event) → Executed → Executed
-executed_along s [] executed = executed
-executed_along s (one ∷ later) executed = executed_along (sole_happens turn s one).state later (executed_next s one executed)
-
--- where jobs come and go; a job that is admitted has executed none
-abbrev pub executed_then : Day → Happening → Executed → Executed
-executed_then d (Steps event) executed = executed_after d.state.units event.unit d.state.memory executed
-executed_then d (Changes m) executed = executed
-executed_then d (Finds k second files) executed = executed
-executed_then d (Admits job) executed = λ j. if j == length d.state.units.jobs then [] else executed j
-executed_then d (Retires j) executed = executed
-executed_then d Resets executed = executed
+executed_along s happenings executed = kept_along executed_kept s happenings executed
 
 abbrev pub executed_of : Day → List Happening → Executed → Executed
-executed_of d [] executed = executed
-executed_of d (one ∷ later) executed = executed_of (happen d one) later (executed_then d one executed)
+executed_of d happenings executed = kept_of executed_kept d happenings executed
 
 -- A primitive's mode is 0 to 6. An indexed one has it in the low four bits of a byte, below the type of its indexes, 0 or 1.
 unfoldable pub has_kind : List ℕ → Bool

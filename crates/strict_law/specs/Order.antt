@@ -9,12 +9,12 @@ use Rattle.qpu_isa.specs.Terms.{writes_s}
 use Rattle.machine_plan.specs.Memory.{bytes_at}
 use Rattle.qpu_machine.specs.{declared.state.Qpu.Qpu, declared.state.Thread.Thread, Qpu.active_of, Writes.loads}
 use Rattle.machine_plan.specs.{Regions.Interval, Regions.Rights, Regions.HasReadOnly}
-use Rattle.machine_plan.specs.Others.{Happening as Sole, Steps as SoleSteps, Changes as SoleChanges, happen as sole_happens, OthersRun}
+use Rattle.machine_plan.specs.Others.{Happening as Sole, OthersRun}
 use Rattle.machine.specs.{declared.job.Start.Start, State.State, State.Units, State.item_at, State.units_start, Step.Event, Step.ready, Step.turn}
 use Rattle.machine_law.specs.{Jobs.ArePlain, Units.EachAt}
 use Rattle.day_law.specs.Day.{AllMayHappen}
-use Rattle.promises.specs.Days.{Day, Happening, Steps, Changes, Finds, Admits, Retires, Resets, after, dawn, happen}
-use Rattle.strict_law.specs.{Days.AdmitStrict, Forbidden.Executes, Strict.JobStrict}
+use Rattle.promises.specs.Days.{Day, Happening, after, dawn}
+use Rattle.strict_law.specs.{Days.AdmitStrict, Forbidden.Executes, Kept.Keeping, Kept.kept_along, Kept.kept_of, Strict.JobStrict}
 
 -- Of each request it says whether the second thread sent it, or the first one did. Here a thread's oldest is left out.
 abbrev pub without : Bool → List Bool → List Bool
@@ -48,27 +48,15 @@ orders_after u TheRenderer m orders = orders
 orders_after u (TheTmu k n) m orders = orders
 orders_after u (TheQpu k) m orders = λ j tmu. if j == k then order_in (item_at u.qpus k) m tmu (orders j tmu) else orders j tmu
 
--- along a run of jobs that begin together
-abbrev pub orders_next : State → Sole Event → Orders → Orders
-orders_next s (SoleSteps event) orders = orders_after s.units event.unit s.memory orders
-orders_next s (SoleChanges m) orders = orders
+-- along a run of jobs that begin together, and where jobs come and go; a reset leaves none
+abbrev pub orders_kept : Keeping Orders
+orders_kept = record { step = λ u unit words m orders. orders_after u unit m orders; admit = λ j orders. orders; reset = λ orders j tmu. [] }
 
 abbrev pub orders_along : State → List (Sole Event) → Orders → Orders
-orders_along s [] orders = orders
-orders_along s (one ∷ later) orders = orders_along (sole_happens turn s one).state later (orders_next s one orders)
-
--- where jobs come and go; a reset leaves none
-abbrev pub orders_then : Day → Happening → Orders → Orders
-orders_then d (Steps event) orders = orders_after d.state.units event.unit d.state.memory orders
-orders_then d (Changes m) orders = orders
-orders_then d (Finds k second files) orders = orders
-orders_then d (Admits job) orders = orders
-orders_then d (Retires j) orders = orders
-orders_then d Resets orders = λ j tmu. []
+orders_along s happenings orders = kept_along orders_kept s happenings orders
 
 abbrev pub orders_of : Day → List Happening → Orders → Orders
-orders_of d [] orders = orders
-orders_of d (one ∷ later) orders = orders_of (happen d one) later (orders_then d one orders)
+orders_of d happenings orders = kept_of orders_kept d happenings orders
 
 abbrev pub oldest_of : List Bool → Option Bool
 oldest_of [] = None

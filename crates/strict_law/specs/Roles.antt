@@ -2,20 +2,20 @@
 -- uses what belongs to programs of the other kind.
 --
 -- Neither a thread nor its processor keeps which it is. So that is kept beside the state, as requests are in `Order`.
-use Rattle.std.specs.Prelude.{◌≡◌, ℕ, ◌%◌, ◌==◌, ◌||◌, Bool, false, if◌then◌else◌, is_none, List, [], ◌∷◌, Option, Some, None}
+use Rattle.std.specs.Prelude.{◌≡◌, ℕ, ◌%◌, ◌==◌, ◌||◌, Bool, false, if◌then◌else◌, is_none, List, Option, Some, None}
 use Rattle.field_words.specs.declared.access.{Access.Access, Actor.Actor}
 use Rattle.field_words.specs.declared.access.Actor.TheVariants.{Binner as TheBinner, Renderer as TheRenderer, Qpu as TheQpu, Tmu as TheTmu}
 use Rattle.qpu_isa.specs.{Word.sig_of, Terms.names_address}
 use Rattle.machine_plan.specs.{Choice.word_at, Regions.Interval, Regions.Rights, Regions.HasReadOnly}
-use Rattle.machine_plan.specs.Others.{Happening as Sole, Steps as SoleSteps, Changes as SoleChanges, happen as sole_happens, OthersRun}
+use Rattle.machine_plan.specs.Others.{Happening as Sole, OthersRun}
 use Rattle.list_machine.specs.declared.state.Program.{Program, TheVariants.Fragment, TheVariants.Vertex, TheVariants.Coordinate}
 use Rattle.qpu_machine.specs.{declared.state.Qpu.Qpu, declared.state.Thread.Thread, Qpu.slot_of}
 use Rattle.machine.specs.{declared.job.Start.Start, State.State, State.Units, State.item_at, State.units_start}
 use Rattle.machine.specs.Step.{Event, ready, turn}
 use Rattle.machine_law.specs.{Jobs.ArePlain, Units.EachAt}
 use Rattle.day_law.specs.Day.{AllMayHappen}
-use Rattle.promises.specs.Days.{Day, Happening, Steps, Changes, Finds, Admits, Retires, Resets, after, dawn, happen}
-use Rattle.strict_law.specs.{Days.AdmitStrict, Forbidden.Executes, Forbidden.reads, Forbidden.touches_vertices, Strict.JobStrict}
+use Rattle.promises.specs.Days.{Day, Happening, after, dawn}
+use Rattle.strict_law.specs.{Days.AdmitStrict, Forbidden.Executes, Forbidden.reads, Forbidden.touches_vertices, Kept.Keeping, Kept.kept_along, Kept.kept_of, Strict.JobStrict}
 
 -- by processor, of its first thread or its second one
 abbrev pub Roles : Type 0
@@ -40,27 +40,15 @@ roles_after u TheRenderer words roles = roles_with u (program_by words) roles
 roles_after u (TheQpu k) words roles = roles
 roles_after u (TheTmu k n) words roles = roles
 
--- along a run of jobs that begin together
-abbrev pub roles_next : State → Sole Event → Roles → Roles
-roles_next s (SoleSteps event) roles = roles_after s.units event.unit event.words roles
-roles_next s (SoleChanges m) roles = roles
+-- along a run of jobs that begin together, and where jobs come and go
+abbrev pub roles_kept : Keeping Roles
+roles_kept = record { step = λ u unit words m roles. roles_after u unit words roles; admit = λ j roles. roles; reset = λ roles. roles }
 
 abbrev pub roles_along : State → List (Sole Event) → Roles → Roles
-roles_along s [] roles = roles
-roles_along s (one ∷ later) roles = roles_along (sole_happens turn s one).state later (roles_next s one roles)
-
--- where jobs come and go
-abbrev pub roles_then : Day → Happening → Roles → Roles
-roles_then d (Steps event) roles = roles_after d.state.units event.unit event.words roles
-roles_then d (Changes m) roles = roles
-roles_then d (Finds k second files) roles = roles
-roles_then d (Admits job) roles = roles
-roles_then d (Retires j) roles = roles
-roles_then d Resets roles = roles
+roles_along s happenings roles = kept_along roles_kept s happenings roles
 
 abbrev pub roles_of : Day → List Happening → Roles → Roles
-roles_of d [] roles = roles
-roles_of d (one ∷ later) roles = roles_of (happen d one) later (roles_then d one roles)
+roles_of d happenings roles = kept_of roles_kept d happenings roles
 
 -- Of fragment programs alone: 43 sets up the stencil, and 44 to 47 are the tile buffer; 35 reads a varying; signals 4 and 5 wait for the
 -- scoreboard and unlock it, and 8 loads a colour.

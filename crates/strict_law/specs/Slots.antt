@@ -9,13 +9,13 @@ use Rattle.field_words.specs.declared.access.{Access.Access, Actor.Actor}
 use Rattle.field_words.specs.declared.access.Actor.TheVariants.{Binner as TheBinner, Renderer as TheRenderer, Qpu as TheQpu, Tmu as TheTmu}
 use Rattle.qpu_isa.specs.Terms.{writes_s}
 use Rattle.machine_plan.specs.{Memory.bytes_at, Regions.Interval, Regions.Rights, Regions.HasReadOnly}
-use Rattle.machine_plan.specs.Others.{Happening as Sole, Steps as SoleSteps, Changes as SoleChanges, happen as sole_happens, OthersRun}
+use Rattle.machine_plan.specs.Others.{Happening as Sole, OthersRun}
 use Rattle.qpu_machine.specs.{declared.state.Qpu.Qpu, declared.state.Thread.Thread, Qpu.active_of, Writes.loads}
 use Rattle.machine.specs.{declared.job.Start.Start, State.State, State.Units, State.item_at, State.units_start, Step.Event, Step.ready, Step.turn}
 use Rattle.machine_law.specs.{Jobs.ArePlain, Units.EachAt}
 use Rattle.day_law.specs.Day.{AllMayHappen}
-use Rattle.promises.specs.Days.{Day, Happening, Steps, Changes, Finds, Admits, Retires, Resets, after, dawn, happen}
-use Rattle.strict_law.specs.{Days.AdmitStrict, Strict.JobStrict}
+use Rattle.promises.specs.Days.{Day, Happening, after, dawn}
+use Rattle.strict_law.specs.{Days.AdmitStrict, Kept.Keeping, Kept.kept_along, Kept.kept_of, Strict.JobStrict}
 
 -- the set-up words that a TMU keeps of a thread
 abbrev pub words_kept : ℕ → Thread → ℕ
@@ -46,27 +46,15 @@ slots_after u TheRenderer m slots = slots
 slots_after u (TheTmu k n) m slots = slots
 slots_after u (TheQpu k) m slots = λ j tmu second. if j == k then slots_in (item_at u.qpus k) m tmu second (slots j tmu second) else slots j tmu second
 
--- along a run of jobs that begin together
-abbrev pub slots_next : State → Sole Event → Slots → Slots
-slots_next s (SoleSteps event) slots = slots_after s.units event.unit s.memory slots
-slots_next s (SoleChanges m) slots = slots
+-- along a run of jobs that begin together, and where jobs come and go; a reset leaves none
+abbrev pub slots_kept : Keeping Slots
+slots_kept = record { step = λ u unit words m slots. slots_after u unit m slots; admit = λ j slots. slots; reset = λ slots j tmu second. [] }
 
 abbrev pub slots_along : State → List (Sole Event) → Slots → Slots
-slots_along s [] slots = slots
-slots_along s (one ∷ later) slots = slots_along (sole_happens turn s one).state later (slots_next s one slots)
-
--- where jobs come and go; a reset leaves none
-abbrev pub slots_then : Day → Happening → Slots → Slots
-slots_then d (Steps event) slots = slots_after d.state.units event.unit d.state.memory slots
-slots_then d (Changes m) slots = slots
-slots_then d (Finds k second files) slots = slots
-slots_then d (Admits job) slots = slots
-slots_then d (Retires j) slots = slots
-slots_then d Resets slots = λ j tmu second. []
+slots_along s happenings slots = kept_along slots_kept s happenings slots
 
 abbrev pub slots_of : Day → List Happening → Slots → Slots
-slots_of d [] slots = slots
-slots_of d (one ∷ later) slots = slots_of (happen d one) later (slots_then d one slots)
+slots_of d happenings slots = kept_of slots_kept d happenings slots
 
 -- how many slots a processor's second thread fills, or its first one, with its requests to both TMUs and the words that they keep
 abbrev pub words_in : Option Thread → ℕ

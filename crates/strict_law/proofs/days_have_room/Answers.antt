@@ -1,4 +1,4 @@
-use Rattle.strict_law.proofs.SlotDays.{days_have_room_law}
+use Rattle.strict_law.proofs.SlotRuns.{days_have_room_law}
 use Rattle.strict_law.proofs.days_have_room.Goals as goal
 
 pub returns : goal.returns
