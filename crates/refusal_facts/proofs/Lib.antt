@@ -1,1 +1,2 @@
+pub mod Shaders
 pub mod Walk

@@ -3,5 +3,7 @@ pub mod Items
 pub mod Named
 pub mod Sources
 pub mod Text
+pub mod Textures
+pub mod Users
 pub mod Whole
 pub mod Line

@@ -2,9 +2,10 @@
 use Rattle.std.specs.Prelude.{ℕ, ◌-◌, ◌^◌, ◌%◌, ◌==◌, not, false, nat_le, List, ◌++◌, codes, Option, Some, None, if◌then◌else◌}
 use Rattle.std.specs.Fmt.{decimal, digits}
 use Rattle.field_words.specs.Sizes.{page_size}
+use Rattle.buffer_table.specs.declared.buffer.{Kind.Kind, Kind.TheVariants.Plain, Kind.TheVariants.Code}
 use Rattle.refusal_facts.specs.declared.fact.{RoomFact.RoomFact, ItemFact.ItemFact, PastFact.PastFact, HandleFact.HandleFact}
-use Rattle.refusal_facts.specs.declared.fact.{AttributeFact.AttributeFact, VertexFact.VertexFact, Facts.Facts}
-use Rattle.refusal_facts.specs.declared.fact.Facts.TheVariants.{Nothing, Room, Off, Past, Pair, Handle, Attribute, Vertex}
+use Rattle.refusal_facts.specs.declared.fact.{AttributeFact.AttributeFact, VertexFact.VertexFact, UseFact.UseFact, EndFact.EndFact, PixelsFact.PixelsFact, Facts.Facts}
+use Rattle.refusal_facts.specs.declared.fact.Facts.TheVariants.{Nothing, Room, Off, Past, Pair, Handle, Attribute, Vertex, Use, Level, Name, Pixels, Surface, Tile}
 
 -- "needs 16 bytes, has 12"
 unfoldable pub room_text : RoomFact → List ℕ
@@ -69,6 +70,33 @@ unfoldable pub vertex_text : VertexFact → List ℕ
 vertex_text vertex =
     attribute_text vertex.attribute ++ codes "; stride " ++ decimal vertex.stride ++ codes ", greatest index " ++ decimal vertex.index
 
+-- which of a record's shaders it is: "vertex shader"
+unfoldable pub stage_text : ℕ → List ℕ
+stage_text stage =
+    if stage == 0 then codes "fragment shader" else (if stage == 1 then codes "vertex shader" else codes "coordinate shader")
+
+-- "vertex shader: needs 24 bytes, has 16"
+unfoldable pub use_text : UseFact → List ℕ
+use_text shader = stage_text shader.stage ++ codes ": needs " ++ decimal shader.needs ++ codes " bytes, has " ++ decimal shader.has
+
+-- "buffer 6: 4096 bytes; level 0 ends at 1048576"
+unfoldable pub end_text : List ℕ → EndFact → List ℕ
+end_text what end = sized_text end.buffer end.size ++ codes "; " ++ what ++ codes " ends at " ++ decimal end.end
+
+-- "handle 9; the job has 7", or "handle 1: buffer 3 is Plain"
+unfoldable pub kind_text : Kind → List ℕ
+kind_text Plain = codes "Plain"
+kind_text Code = codes "Code"
+
+unfoldable pub name_text : (index handles : ℕ) → Option (ℕ × Kind) → List ℕ
+name_text index handles None = codes "handle " ++ decimal index ++ codes "; the job has " ++ decimal handles
+name_text index handles (Some named) =
+    codes "handle " ++ decimal index ++ codes ": buffer " ++ decimal named.0 ++ codes " is " ++ kind_text named.1
+
+-- "the frame has 4097x16 pixels, at most 4096x4096"
+unfoldable pub pixels_text : PixelsFact → List ℕ
+pixels_text pixels = codes "the frame has " ++ decimal pixels.width ++ codes "x" ++ decimal pixels.height ++ codes " pixels, at most 4096x4096"
+
 -- what stands in brackets
 unfoldable pub fact_text : Facts → List ℕ
 fact_text Nothing = codes ""
@@ -79,6 +107,12 @@ fact_text (Pair pair) = item_text pair.later ++ codes "; " ++ item_text pair.ear
 fact_text (Handle handle) = handle_text handle
 fact_text (Attribute attribute) = attribute_text attribute
 fact_text (Vertex vertex) = vertex_text vertex
+fact_text (Use shader) = use_text shader
+fact_text (Level end) = end_text (codes "level 0") end
+fact_text (Name name) = name_text name.index name.handles name.named
+fact_text (Pixels pixels) = pixels_text pixels
+fact_text (Surface end) = end_text (codes "surface") end
+fact_text (Tile end) = end_text (codes "last tile") end
 
 -- " [needs 16 bytes, has 12]", and nothing where there is nothing to say
 unfoldable pub facts_text : Facts → List ℕ

@@ -1,5 +1,7 @@
 //! The facts of refusals.
 
+use buffer_table::Kind;
+
 /// A part needs so many bytes, and so many are there: F2, M5, A1 and A2.
 #[derive(Clone, Copy, Debug, PartialEq, Eq)]
 pub struct RoomFact {
@@ -54,6 +56,37 @@ pub struct VertexFact {
     pub index: u64,
 }
 
+/// A record's fragment (0), vertex (1) or coordinate shader (2) takes so many bytes of uniforms, and so many are left: A8.
+#[derive(Clone, Copy, Debug, PartialEq, Eq)]
+pub struct UseFact {
+    pub stage: u32,
+    pub needs: u128,
+    pub has: u64,
+}
+
+/// What lies in a buffer of `size` bytes ends at this byte of it: U7, G10 and G12.
+#[derive(Clone, Copy, Debug, PartialEq, Eq)]
+pub struct EndFact {
+    pub buffer: u32,
+    pub size: u32,
+    pub end: u64,
+}
+
+/// A handle by its index, how many the job has, and the buffer that it names, with its kind: A3, A4 and G6.
+#[derive(Clone, Copy, Debug, PartialEq, Eq)]
+pub struct NameFact {
+    pub index: u32,
+    pub handles: u64,
+    pub named: Option<(u32, Kind)>,
+}
+
+/// The sides of a frame, of which one is over 4,096 pixels: G10.
+#[derive(Clone, Copy, Debug, PartialEq, Eq)]
+pub struct PixelsFact {
+    pub width: u16,
+    pub height: u16,
+}
+
 /// What the file says where a rule is broken.
 #[derive(Clone, Copy, Debug, PartialEq, Eq)]
 pub enum Facts {
@@ -66,4 +99,10 @@ pub enum Facts {
     Handle(HandleFact),
     Attribute(AttributeFact),
     Vertex(VertexFact),
+    Use(UseFact),
+    Level(EndFact),
+    Name(NameFact),
+    Pixels(PixelsFact),
+    Surface(EndFact),
+    Tile(EndFact),
 }

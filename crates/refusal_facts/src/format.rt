@@ -4,23 +4,23 @@ ghost use Rattle.field_words.specs.Words.{u32_at};
 ghost use Rattle.job_format.specs.Offsets.{job_offset, entry_offset};
 ghost use Rattle.refusal_facts.specs.Cuts.{size_of, cut_at};
 
-use crate::bytes::word;
 use crate::fact::RoomFact;
+use field_words::word_at;
 use job_format::{ENTRY_SIZE, HEADER_SIZE, JOB_SIZE, Part, Place, offset_of};
 
 // A word of a buffer's entry.
 fn entry_word(bytes: &[u8], b: u32, at: u32) -> u32
     ensures { result ≡ u32_at bytes.now (entry_offset b + at) }
 {
-    word(bytes, HEADER_SIZE + ENTRY_SIZE * b as usize + at as usize)
+    word_at(bytes, HEADER_SIZE + ENTRY_SIZE * b as usize + at as usize)
 }
 
 // A word of a job's entry.
 fn job_word(bytes: &[u8], j: u32, at: u32) -> u32
     ensures { result ≡ u32_at bytes.now (job_offset bytes.now j + at) }
 {
-    let entries = HEADER_SIZE + ENTRY_SIZE * word(bytes, 28) as usize;
-    word(bytes, entries + JOB_SIZE * j as usize + at as usize)
+    let entries = HEADER_SIZE + ENTRY_SIZE * word_at(bytes, 28) as usize;
+    word_at(bytes, entries + JOB_SIZE * j as usize + at as usize)
 }
 
 // The bytes of the part of this number.

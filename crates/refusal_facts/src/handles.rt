@@ -1,10 +1,11 @@
 //! The facts of handles.
-ghost use Rattle.std.specs.Prelude.{◌≡◌};
+ghost use Rattle.std.specs.Prelude.{◌≡◌, option_map};
 ghost use Rattle.job_format.specs.Parts.{job_parts_view};
-ghost use Rattle.refusal_facts.specs.Named.{owner_of, handle_at};
+ghost use Rattle.refusal_facts.specs.Named.{owner_of, handle_at, with_kind, name_at};
 
-use crate::fact::HandleFact;
-use buffer_table::Buffer;
+use crate::fact::{HandleFact, NameFact};
+use crate::records::named;
+use buffer_table::{Buffer, Kind};
 use job_format::JobParts;
 
 // The client that a buffer belongs to.
@@ -29,5 +30,28 @@ pub(crate) fn handle_at(job: &JobParts, buffers: &[Buffer], i: u64) -> Option<Ha
             owner: owner_of(buffers, *number),
         }),
         None => None,
+    }
+}
+
+// A buffer's number and its kind.
+fn with_kind(buffer: Option<(u32, Buffer)>) -> Option<(u32, Kind)>
+    ensures { result ≡ option_map with_kind buffer }
+{
+    match buffer {
+        Some((number, buffer)) => Some((number, buffer.kind)),
+        None => None,
+    }
+}
+
+/// A3, A4 and G6: the handle of an index, and the buffer that it names.
+#[tactic(auto, unfolding(crate::specs::Named::name_at))]
+pub(crate) fn name_at(job: &JobParts, buffers: &[Buffer], index: u32) -> NameFact
+    ensures { result ≡ name_at (job_parts_view job.now) buffers.now index }
+{
+    let handles = job.handles.as_slice();
+    NameFact {
+        index,
+        handles: handles.len() as u64,
+        named: with_kind(named(handles, buffers, index)),
     }
 }

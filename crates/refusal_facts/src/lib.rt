@@ -2,19 +2,24 @@
 //! which they stand.
 #![tactic(auto)]
 
-mod bytes;
 mod fact;
 mod facts;
 mod format;
 mod handles;
 mod line;
+mod list_text;
 mod records;
 mod sources;
+mod surfaces;
 mod table;
 mod text;
+mod textures;
+mod users;
 
 pub use fact::{
-    AttributeFact, Facts, HandleFact, ItemFact, PairFact, PastFact, RoomFact, VertexFact,
+    AttributeFact, EndFact, Facts, HandleFact, ItemFact, NameFact, PairFact, PastFact, PixelsFact,
+    RoomFact, UseFact, VertexFact,
 };
 pub use facts::facts_of;
 pub use line::{Line, line_of};
+pub use text::Inside;

@@ -5,12 +5,13 @@ ghost use Rattle.job_format.specs.Parts.{job_parts_view};
 ghost use Rattle.job_format.specs.File.{IsJobWellFormed};
 ghost use Rattle.refusal_facts.specs.Sources.{record_word, attribute_of, numbered, named_by, buffer_of, attribute_fact, attribute_at, vertex_fact, vertex_at, room, handles_room, record_room};
 
-use crate::bytes::word;
 use crate::fact::{AttributeFact, RoomFact, VertexFact};
-use crate::sources::{Source, handles_size, record_at, source_at};
+use crate::sources::{Source, record_at, source_at};
 use buffer_table::Buffer;
+use field_words::word_at;
 use job_format::JobParts;
 use packets::{is_extended, record_size};
+use shader_records::handles_size;
 
 // A word of the record of a source.
 #[tactic(auto, unfolding(shader_records::specs::Sources::word_from))]
@@ -19,7 +20,7 @@ fn record_word(records: &[u8], source: Source, i: usize) -> u32
     requires i { i < 2 ^ 32 }
     ensures { result ≡ record_word records.now source i }
 {
-    word(records, record_at(source) + 4 * i)
+    word_at(records, record_at(source) + 4 * i)
 }
 
 // The number of the attribute whose two words have a byte of the records.
@@ -45,8 +46,8 @@ fn numbered(buffers: &[Buffer], number: u32) -> Option<(u32, Buffer)>
     }
 }
 
-// The buffer that a handle names, with its number.
-fn named(handles: &[u32], buffers: &[Buffer], index: u32) -> Option<(u32, Buffer)>
+/// The buffer that a handle names, with its number.
+pub(crate) fn named(handles: &[u32], buffers: &[Buffer], index: u32) -> Option<(u32, Buffer)>
     ensures { result ≡ named_by buffers.now (slice_get handles.now index) }
 {
     match handles.get(index as usize) {
@@ -62,7 +63,7 @@ fn buffer_of(job: &JobParts, buffers: &[Buffer], source: Source, t: usize) -> Op
     requires few { t < 2 ^ 32 }
     ensures { result ≡ buffer_of (job_parts_view job.now) buffers.now source t }
 {
-    let index = word(job.records, source.at + (12 + 4 * t));
+    let index = word_at(job.records, source.at + (12 + 4 * t));
     named(job.handles.as_slice(), buffers, index)
 }
 

@@ -4,14 +4,13 @@ ghost use Rattle.field_words.specs.Sizes.{most_list};
 ghost use Rattle.job_format.specs.Parts.{job_parts_view};
 ghost use Rattle.job_format.specs.File.{IsJobWellFormed};
 ghost use Rattle.bin_list.specs.{Packets.packets, States.states_of, States.draws_to, States.last_index, States.greatest};
-ghost use Rattle.shader_records.specs.Sources.{handles_size, source_size};
 ghost use Rattle.refusal_facts.specs.Sources.{source_among, source_at, record_at};
 
-use crate::bytes::word;
 use bin_list::split_front;
+use field_words::word_at;
 use job_format::JobParts;
 use packets::opcode::{ARRAY_PRIMITIVE_LIST, GL_SHADER_STATE, INDEXED_PRIMITIVE_LIST};
-use packets::{attribute_count, record_size};
+use shader_records::{handles_size, source_size};
 
 /// Where among a job's records the source of one begins, the word of its state, and the greatest index that the state draws.
 #[derive(Clone, Copy)]
@@ -19,24 +18,6 @@ pub(crate) struct Source {
     pub(crate) at: usize,
     pub(crate) state: u32,
     pub(crate) most: u64,
-}
-
-/// The bytes of the handles before a record.
-#[tactic(auto, unfolding(shader_records::specs::Sources::handles_size))]
-pub(crate) fn handles_size(state: u32) -> usize
-    ensures value { result ≡ handles_size state }
-    ensures limit { result ≤ 44 }
-{
-    4 * (3 + attribute_count(state) as usize)
-}
-
-// The bytes of a record and its handles.
-#[tactic(auto, unfolding(shader_records::specs::Sources::source_size))]
-fn source_size(state: u32) -> usize
-    ensures value { result ≡ source_size state }
-    ensures limit { result ≤ 176 }
-{
-    handles_size(state) + record_size(state) as usize
 }
 
 // The last of `count` indexes from `first` on, 0 where there are none.
@@ -58,8 +39,8 @@ fn draws_to(packet: &[u8]) -> u64
     ensures limit { result < 2 ^ 33 }
 {
     match packet[0] {
-        INDEXED_PRIMITIVE_LIST => u64::from(word(packet, 10)),
-        ARRAY_PRIMITIVE_LIST => last_index(word(packet, 6), word(packet, 2)),
+        INDEXED_PRIMITIVE_LIST => u64::from(word_at(packet, 10)),
+        ARRAY_PRIMITIVE_LIST => last_index(word_at(packet, 6), word_at(packet, 2)),
         _ => 0,
     }
 }
@@ -94,7 +75,7 @@ fn source_in(list: &[u8], at: usize) -> Option<Source>
     while !rest.is_empty() {
         let (packet, behind) = split_front(rest);
         if packet[0] == GL_SHADER_STATE {
-            let state = word(packet, 1);
+            let state = word_at(packet, 1);
             let end = from + source_size(state);
             if at < end {
                 let most = greatest(behind);

@@ -1,50 +1,12 @@
 //! The facts of the memory table's rules.
-ghost use Rattle.std.specs.Prelude.{◌≡◌, ◌<◌, ◌^◌, map, IfSome};
-ghost use Rattle.buffer_table.specs.Table.{buffer_item, items_of, item_at, shares};
+ghost use Rattle.std.specs.Prelude.{◌≡◌, ◌<◌, ◌^◌, IfSome};
+ghost use Rattle.buffer_table.specs.Table.{items_of, shares};
 ghost use Rattle.field_words.specs.Questions.{first_of};
 ghost use Rattle.refusal_facts.specs.Items.{index_of, item_fact, sharing_question, first_sharing, pair_at, content_room};
 
 use crate::fact::{ItemFact, PairFact, RoomFact};
-use buffer_table::{Buffer, Item, Regions};
-use field_words::SLOT_SIZE;
+use buffer_table::{Buffer, Item, Regions, item_at};
 use job_format::{Part, Place};
-
-// The item of a buffer, of no bytes past the last.
-fn buffer_item(buffers: &[Buffer], number: usize) -> Item
-    ensures { result ≡ item_at (map buffer_item buffers.now) number }
-{
-    match buffers.get(number) {
-        None => Item {
-            place: 0,
-            size: 0,
-            content: 0,
-        },
-        Some(buffer) => Item {
-            place: u64::from(buffer.place),
-            size: u64::from(buffer.size),
-            content: u64::from(buffer.content),
-        },
-    }
-}
-
-// The item of this index: the lists' region, the tile region, and then the buffers.
-fn item_at(regions: &Regions, buffers: &[Buffer], k: usize) -> Item
-    ensures { result ≡ item_at (items_of regions.now buffers.now) k }
-{
-    match k {
-        0 => Item {
-            place: u64::from(regions.lists_place),
-            size: u64::from(regions.lists_size),
-            content: 0,
-        },
-        1 => Item {
-            place: u64::from(regions.tile_place),
-            size: u64::from(SLOT_SIZE) * u64::from(regions.tile_slots),
-            content: 0,
-        },
-        _ => buffer_item(buffers, k - 2),
-    }
-}
 
 /// The index of the item that a place is about.
 #[tactic(auto, unfolding(crate::specs::Items::index_of))]

@@ -1,8 +1,9 @@
 //! The facts as a person reads them.
 ghost use Rattle.std.specs.Prelude.{◌≡◌, Some};
-ghost use Rattle.refusal_facts.specs.Text.{room_text, hex, item_name, item_text, off_text, past_text, client_text, sized_text, owner_text, handle_text, address_text, cause_of, attribute_text, vertex_text, fact_text, facts_text};
+ghost use Rattle.refusal_facts.specs.Text.{room_text, hex, item_name, item_text, off_text, past_text, client_text, owner_text, handle_text, address_text, cause_of, attribute_text, vertex_text, fact_text, facts_text};
 
 use crate::fact::{AttributeFact, Facts, HandleFact, ItemFact, PastFact, RoomFact, VertexFact};
+use crate::list_text::Sized;
 use field_words::PAGE_SIZE;
 use std::fmt;
 
@@ -161,22 +162,6 @@ fn cause_of(address: u32) -> &'static str
     }
 }
 
-/// A buffer and its size.
-#[derive(Clone, Copy)]
-struct Sized {
-    buffer: u32,
-    size: u32,
-}
-
-impl fmt::Display for Sized {
-    ghost output = { λ sized. Some (sized_text sized.buffer sized.size) };
-
-    #[tactic(auto, unfolding(crate::specs::Text::sized_text))]
-    fn fmt<W: fmt::Write>(&self, f: &mut fmt::Formatter<W>) -> fmt::Result {
-        write!(f, "buffer {}: {} bytes", self.buffer, self.size)
-    }
-}
-
 impl fmt::Display for AttributeFact {
     ghost output = { λ attribute. Some (attribute_text attribute) };
 
@@ -211,10 +196,10 @@ impl fmt::Display for VertexFact {
     }
 }
 
-/// What stands in the brackets.
-#[derive(Clone, Copy)]
-struct Inside {
-    facts: Facts,
+/// Facts without the brackets, nothing where there are none. It takes no memory, also to print.
+#[derive(Clone, Copy, Debug, PartialEq, Eq)]
+pub struct Inside {
+    pub facts: Facts,
 }
 
 impl fmt::Display for Inside {
@@ -234,6 +219,12 @@ impl fmt::Display for Inside {
             Facts::Handle(handle) => write!(f, "{}", handle),
             Facts::Attribute(attribute) => write!(f, "{}", attribute),
             Facts::Vertex(vertex) => write!(f, "{}", vertex),
+            Facts::Use(shader) => write!(f, "{}", shader),
+            Facts::Level(end) => write!(f, "{}", end.of("level 0")),
+            Facts::Name(name) => write!(f, "{}", name),
+            Facts::Pixels(pixels) => write!(f, "{}", pixels),
+            Facts::Surface(end) => write!(f, "{}", end.of("surface")),
+            Facts::Tile(end) => write!(f, "{}", end.of("last tile")),
         }
     }
 }

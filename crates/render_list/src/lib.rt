@@ -13,5 +13,5 @@ mod tile;
 pub use fault::{FrameRule, RenderFault};
 pub use setup::Setup;
 pub use size::render_size;
-pub use surfaces::check_surfaces;
+pub use surfaces::{check_surfaces, full_end, plain_end};
 pub use text::build;

@@ -178,8 +178,8 @@ fn styled_size(frame: &Frame, style: Option<Style>) -> u64
     }
 }
 
-/// Where a surface that isn't in full resolution ends in its buffer.
-fn plain_end(frame: &Frame, k: usize, surface: &Surface) -> u64
+/// Where surface `k` ends in its buffer, if it isn't in full resolution. One of no listed tiling or format takes no bytes.
+pub fn plain_end(frame: &Frame, k: usize, surface: &Surface) -> u64
     ensures { result ≡ plain_end frame.now k surface.now }
 {
     let style = styled(surface_tiling(k, surface), surface_pixel(k, surface));
@@ -206,7 +206,7 @@ fn is_full_with_bits(k: usize, surface: &Surface) -> bool
 }
 
 /// Where the largest tile of a surface in full resolution ends in its buffer.
-fn full_end(frame: &Frame, surface: &Surface) -> u64
+pub fn full_end(frame: &Frame, surface: &Surface) -> u64
     ensures { result ≡ full_end frame.now surface.now }
 {
     let offset = surface.offset;
