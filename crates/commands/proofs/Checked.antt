@@ -3,14 +3,17 @@ use Rattle.std.proofs.Common.{◌≡◌, ◌≤◌, ℕ, List, length, get_or, N
 use Rattle.job_format.specs.{File.IsFileOf, Reading.file_at, Text.file_text}
 use Rattle.job_format.proofs.Laws.{read_again}
 use Rattle.relocation.specs.{declared.layout.Layout.Layout, declared.layout.Lengths.Lengths}
-use Rattle.job_check.specs.{Emit.memory_of, Emit.all_lengths_of, Emit.IsEmitted, Whole.all_questions, Whole.refusal_of}
+use Rattle.job_check.specs.{Emit.memory_of, Emit.all_lengths_of, Emit.IsEmitted}
 use Rattle.job_check.proofs.Counted.{as_many_lengths, first_lengths}
 use Rattle.dumper.specs.Example.{example_text}
 use Rattle.example_job.specs.Example.{example}
-use Rattle.commands.specs.{Answer.text_of, Verdict.image_of, Verdict.IsVerdict, Verdict.IsCheckAnswer}
+use Rattle.std.specs.Prelude.{Bool}
+use Rattle.commands.specs.{Answer.text_of, Asked.questions_by, Asked.refusal_by, Verdict.image_of, Verdict.IsVerdict, Verdict.IsCheckAnswer}
 
-pub image_answers : (bytes text : List ℕ) → refusal_of bytes ≡ None → IsFileOf bytes (file_at bytes) → text ≡ image_of (file_at bytes) → IsCheckAnswer bytes 0 text
-image_answers bytes text none is shown = subst (λ refusal. IsVerdict bytes (all_questions bytes) refusal (λ f out. out ≡ image_of f) 0 text) (sym none) (refl, shown, is)
+pub image_answers : (strict : Bool) (bytes text : List ℕ) → refusal_by strict bytes ≡ None → IsFileOf bytes (file_at bytes) → text ≡ image_of (file_at bytes)
+    → IsCheckAnswer strict bytes 0 text
+image_answers strict bytes text none is shown =
+    subst (λ refusal. IsVerdict bytes (questions_by strict bytes) refusal (λ f out. out ≡ image_of f) 0 text) (sym none) (refl, shown, is)
 
 -- The example has one job, of which the lengths are reported.
 pub some_lengths : (number : ℕ) (bytes memory : List ℕ) (layouts : List Layout) (lengths : List Lengths) → IsFileOf bytes (example number)

@@ -14,14 +14,13 @@ use Rattle.rule_words.specs.declared.name.RuleName.{RuleName}
 use Rattle.rule_words.specs.Names.{name_text, sentence_of}
 use Rattle.commands.specs.declared.answer.Answer.{Answer}
 use Rattle.commands.specs.declared.cause.Cause.TheVariants.{Rule, Kind, Mistake, Shader as ShaderCause, Long, Call, Part, Size, Level as LevelCause, Notes, Words}
-use Rattle.commands.specs.declared.command.Command.TheVariants.{StrictCheck, Verdict, StrictVerdict, Upgrade, Show, FromText, Asm, Disasm, NotedDisasm, Shader, ShaderText, StrictShader, StrictShaderText, Slots, Queue, Session, Untile, Tile, Level}
+use Rattle.commands.specs.declared.command.Command.TheVariants.{Check, Verdict, Upgrade, Show, FromText, Asm, Disasm, Shader, ShaderText, Slots, Queue, Session, Untile, Tile, Level}
 use Rattle.commands.specs.{declared.cause.Cause.Cause, declared.command.Command.Command, declared.surfaces.TexturePart.TexturePart}
 use Rattle.commands.specs.declared.scripts.Script.TheVariants.{Slots as OfSlots, Queue as OfQueue, Session as OfSession}
-use Rattle.commands.specs.{declared.scripts.Script.Script, Scripts.calls_text, Upgrade.format_rules, WordFault.word_fault_text}
+use Rattle.commands.specs.{declared.scripts.Script.Script, Asked.refusal_by, Scripts.calls_text, Upgrade.format_rules, WordFault.word_fault_text}
 use Rattle.shader_check.specs.{declared.fault.ShaderFault.ShaderFault, Rules.shader_questions}
 use Rattle.shader_notes.specs.{Notes.notes_of, Text.has_note, Text.notes_text}
 use Rattle.strict_rules.specs.{declared.rule.StrictFault.StrictFault, Least.number_of, Rules.strict_questions}
-use Rattle.strict_check.specs.Whole.{strict_refusal_of}
 use Rattle.job_queue.specs.Calls.{fault_line as queue_fault}
 use Rattle.job_session.specs.Calls.{fault_line as session_fault}
 use Rattle.overflow_slots.specs.Calls.{fault_line as slots_fault}
@@ -145,37 +144,32 @@ strict_cause fault = ShaderCause (strict_rule fault) fault.at
 abbrev pub notes_cause : List ℕ → Option Cause
 notes_cause code = if has_note (notes_of code) then Some (Notes (notes_of code)) else None
 
--- the first broken rule of a shader of these words, or its notes
-abbrev pub shader_cause_of : List ℕ → Option ShaderFault → Option Cause
-shader_cause_of code None = notes_cause code
-shader_cause_of code (Some fault) = Some (shader_cause fault)
+-- the first strict rule that is broken, where those are asked
+abbrev pub strict_fault : (strict : Bool) → List ℕ → Option StrictFault
+strict_fault strict code = if strict then first_of (strict_questions code) else None
+
+-- that of a shader that breaks no other rule, or its notes
+abbrev pub report_by : List ℕ → Option StrictFault → Option Cause
+report_by code None = notes_cause code
+report_by code (Some fault) = Some (strict_cause fault)
+
+abbrev pub report_cause : (strict : Bool) → List ℕ → Option Cause
+report_cause strict code = report_by code (strict_fault strict code)
+
+-- the first broken rule of a shader of these words
+abbrev pub shader_cause_of : (strict : Bool) → List ℕ → Option ShaderFault → Option Cause
+shader_cause_of strict code None = report_cause strict code
+shader_cause_of strict code (Some fault) = Some (shader_cause fault)
 
 -- the cause for words of which there may be too many
-abbrev pub words_cause : List ℕ → Option Cause
-words_cause code =
-    if nat_le (length code) most_words then shader_cause_of code (first_of (shader_questions code)) else Some (Long (length code))
-
--- the cause where the strict rules are asked last
-abbrev pub strict_fault_cause : List ℕ → Option StrictFault → Option Cause
-strict_fault_cause code None = notes_cause code
-strict_fault_cause code (Some fault) = Some (strict_cause fault)
-
-abbrev pub strict_cause_of : List ℕ → Option ShaderFault → Option Cause
-strict_cause_of code None = strict_fault_cause code (first_of (strict_questions code))
-strict_cause_of code (Some fault) = Some (shader_cause fault)
-
-abbrev pub strict_words_cause : List ℕ → Option Cause
-strict_words_cause code =
-    if nat_le (length code) most_words then strict_cause_of code (first_of (shader_questions code)) else Some (Long (length code))
+abbrev pub words_cause : (strict : Bool) → List ℕ → Option Cause
+words_cause strict code =
+    if nat_le (length code) most_words then shader_cause_of strict code (first_of (shader_questions code)) else Some (Long (length code))
 
 -- that of a shader as text, which may have a fault
-abbrev pub text_cause : List ℕ → Result (List ℕ) AsmFault → Option Cause
-text_cause text (Ok words) = words_cause words
-text_cause text (Err fault) = Some (Kind fault (fault_place text fault))
-
-abbrev pub strict_text_cause : List ℕ → Result (List ℕ) AsmFault → Option Cause
-strict_text_cause text (Ok words) = strict_words_cause words
-strict_text_cause text (Err fault) = Some (Kind fault (fault_place text fault))
+abbrev pub text_cause : (strict : Bool) → List ℕ → Result (List ℕ) AsmFault → Option Cause
+text_cause strict text (Ok words) = words_cause strict words
+text_cause strict text (Err fault) = Some (Kind fault (fault_place text fault))
 
 -- bytes that are no whole words
 abbrev pub part_cause : ℕ → Option Cause
@@ -191,19 +185,15 @@ level_fault part bytes = first_of (level_questions (slice_index part.setup 0) (s
 
 -- Why each command refuses its input, or the notes of a shader; None where there are neither.
 abbrev pub IsCause : Command → List ℕ → Option Cause → Type 0
-IsCause StrictCheck bytes cause = cause ≡ rule_cause bytes (strict_refusal_of bytes)
+IsCause (Check strict) bytes cause = cause ≡ rule_cause bytes (refusal_by strict bytes)
 IsCause Upgrade bytes cause = cause ≡ rule_cause bytes (first_of (format_rules bytes))
-IsCause (Verdict form) bytes cause = cause ≡ None
-IsCause (StrictVerdict form) bytes cause = cause ≡ None
+IsCause (Verdict strict form) bytes cause = cause ≡ None
 IsCause (Show showing) bytes cause = cause ≡ None
 IsCause FromText bytes cause = cause ≡ mistake_cause (text_bytes bytes)
 IsCause Asm bytes cause = cause ≡ kind_cause bytes (Assembled bytes)
-IsCause Disasm bytes cause = cause ≡ part_cause (length bytes)
-IsCause NotedDisasm bytes cause = cause ≡ part_cause (length bytes)
-IsCause Shader bytes cause = cause ≡ shader_cause_of (words_of bytes) (first_of (code_questions bytes))
-IsCause ShaderText bytes cause = cause ≡ text_cause bytes (Assembled bytes)
-IsCause StrictShader bytes cause = cause ≡ strict_cause_of (words_of bytes) (first_of (code_questions bytes))
-IsCause StrictShaderText bytes cause = cause ≡ strict_text_cause bytes (Assembled bytes)
+IsCause (Disasm notes) bytes cause = cause ≡ part_cause (length bytes)
+IsCause (Shader strict) bytes cause = cause ≡ shader_cause_of strict (words_of bytes) (first_of (code_questions bytes))
+IsCause (ShaderText strict) bytes cause = cause ≡ text_cause strict bytes (Assembled bytes)
 IsCause (Slots slots) bytes cause = cause ≡ option_map (Call OfSlots) (slots_fault bytes)
 IsCause (Queue buffers) bytes cause = cause ≡ option_map (Call OfQueue) (queue_fault bytes)
 IsCause Session bytes cause = cause ≡ option_map (Call OfSession) (session_fault bytes)
@@ -214,10 +204,8 @@ IsCause command bytes cause = cause ≡ rule_cause bytes (refusal_of bytes)
 
 -- A person learns something of a refusal, and of a shader that is accepted.
 abbrev pub gives_notes : Command → Bool
-gives_notes Shader = true
-gives_notes ShaderText = true
-gives_notes StrictShader = true
-gives_notes StrictShaderText = true
+gives_notes (Shader strict) = true
+gives_notes (ShaderText strict) = true
 gives_notes command = false
 
 unfoldable pub is_reported : Command → ℕ → Bool

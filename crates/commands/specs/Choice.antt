@@ -1,8 +1,8 @@
 -- Options: words that begin with a dash, and which of them a wrong one is near to.
 use Rattle.std.specs.Prelude.{ℕ, ◌==◌, ◌&&◌, nat_le, Bool, List, [], ◌∷◌, codes, Option, Some, None, if◌then◌else◌}
 use Rattle.commands.specs.declared.choice.Choice.TheVariants.{Help, Version, Output, Strict, Quiet, Json, NoContent, Asm, Notes, Favour, Accesses, Seeds, Run, List as ListOption}
-use Rattle.commands.specs.declared.help.Verb.TheVariants as verb
-use Rattle.commands.specs.{declared.choice.Choice.Choice, declared.help.Verb.Verb}
+use Rattle.commands.specs.declared.verb.Verb.TheVariants as verb
+use Rattle.commands.specs.{declared.choice.Choice.Choice, declared.verb.Verb.Verb}
 
 -- the option's word
 unfoldable pub choice_text : Choice → List ℕ

@@ -1,11 +1,11 @@
 pub mod Answer
+pub mod Asked
 pub mod Cause
 pub mod Choice
 pub mod Headline
 pub mod Image
 pub mod Json
 pub mod Line
-pub mod LoneShader
 pub mod Names
 pub mod Notice
 pub mod Pictures
@@ -13,6 +13,7 @@ pub mod Reply
 pub mod Run
 pub mod Scripts
 pub mod Shader
+pub mod ShaderReport
 pub mod Show
 pub mod Topics
 pub mod Trials

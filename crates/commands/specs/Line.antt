@@ -6,9 +6,9 @@ use Rattle.replay.specs.declared.units.UnitKind.{UnitKind}
 use Rattle.rule_words.specs.{declared.name.RuleName.RuleName, Names.rule_named, Names.kind_named}
 use Rattle.script.specs.Number.{number_within}
 use Rattle.texture_layouts.specs.declared.surface.Tiling.{Tiling}
-use Rattle.commands.specs.declared.help.Verb.{Verb}
+use Rattle.commands.specs.declared.verb.Verb.{Verb}
 use Rattle.commands.specs.declared.trial.SeedRange.{SeedRange}
-use Rattle.commands.specs.declared.words.Line.{Line as Unread}
+use Rattle.commands.specs.declared.line.Line.{Line as Unread}
 use Rattle.commands.specs.declared.word_fault.Argument.TheVariants.{Seed, Cpp, PictureTiling, Rule, Kind, Favoured, SeedNumbers, Output}
 use Rattle.commands.specs.declared.word_fault.Values.TheVariants.{Number}
 use Rattle.commands.specs.declared.word_fault.WordFault.TheVariants.{Missing, NoOption, Wrong, Surplus}

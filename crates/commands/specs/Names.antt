@@ -1,17 +1,15 @@
 -- Which of the words are names of files.
 use Rattle.std.specs.Prelude.{ℕ, ◌+◌, ◌-◌, Bool, true, false, not, ◌&&◌, take, drop, length, string_bytes, List, [], ◌∷◌, String, Option, Some, None, Result, Ok, if◌then◌else◌}
 use Rattle.std.specs.declared.alloc.Global.{Global}
-use Rattle.commands.specs.declared.command.Command.TheVariants.{Check, StrictCheck, Verdict, StrictVerdict}
+use Rattle.commands.specs.declared.command.Command.TheVariants.{Check, Verdict}
 use Rattle.commands.specs.declared.command.Task.TheVariants.{Read}
 use Rattle.commands.specs.{declared.command.Task.Task, declared.word_fault.WordFault.WordFault}
 use Rattle.commands.specs.{Choice.option_letter, Line.texts, Words.names_file, Words.names_output, Words.task_or_fault}
 
 -- a command that reads any number of files
 abbrev pub reads_several : Result Task WordFault → Bool
-reads_several (Ok (Read Check)) = true
-reads_several (Ok (Read StrictCheck)) = true
-reads_several (Ok (Read (Verdict form))) = true
-reads_several (Ok (Read (StrictVerdict form))) = true
+reads_several (Ok (Read (Check strict))) = true
+reads_several (Ok (Read (Verdict strict form))) = true
 reads_several task = false
 
 -- Behind its words any number of names may stand, where the output goes to no file.

@@ -1,12 +1,11 @@
 -- Pictures: the words that name one, and what commands on them answer.
 use Rattle.std.specs.Prelude.{◌≡◌, ◌≢◌, ◌⊎◌, ℕ, ◌==◌, ◌||◌, List, ◌++◌, codes, length, slice_index, bytes_eq, Option, Some, None, if◌then◌else◌, decimal}
-use Rattle.field_words.specs.Questions.{first_of}
+use Rattle.rule_words.specs.{declared.name.RuleName.RuleName, Names.name_text}
 use Rattle.texture_layouts.specs.{declared.surface.Tiling.Tiling, Setup.texture_of}
 use Rattle.texture_layouts.specs.declared.surface.Tiling.TheVariants.{T, Lt}
-use Rattle.tile_convert.specs.declared.level.LevelFault.TheVariants.{Texture, Face, Level}
-use Rattle.tile_convert.specs.{declared.level.LevelFault.LevelFault, Level.level_questions, Level.IsLevelPicture}
+use Rattle.tile_convert.specs.{declared.level.LevelFault.LevelFault, Level.IsLevelPicture}
 use Rattle.tile_convert.specs.{declared.order.Picture.Picture, Picture.surface_bytes, Picture.pixel_bytes, Picture.IsPicture, Picture.IsSurface}
-use Rattle.commands.specs.declared.surfaces.TexturePart.{TexturePart}
+use Rattle.commands.specs.{declared.surfaces.TexturePart.TexturePart, Cause.level_fault, Cause.level_rule}
 
 abbrev pub tiling_named : List ℕ → Option Tiling
 tiling_named word = if bytes_eq word (codes "t") then Some T else (if bytes_eq word (codes "lt") then Some Lt else None)
@@ -39,17 +38,14 @@ IsTileAnswer p bytes status out =
     IsSizedAnswer bytes (pixel_bytes p) (IsSurface p bytes) status out
 
 -- a line for the rule that refuses a level
-unfoldable pub level_refusal : LevelFault → List ℕ
-level_refusal (Texture rule) = codes "refused U" ++ (decimal rule ++ codes " at 0\n")
-level_refusal Face = codes "refused V1 at 0\n"
-level_refusal Level = codes "refused V2 at 0\n"
+unfoldable pub level_refusal : RuleName → List ℕ
+level_refusal name = codes "refused " ++ (name_text name ++ codes " at 0\n")
 
 -- Where no rule is broken a level is answered with its pixels by rows, or its blocks; else with the first rule that does.
 abbrev pub IsLevelVerdict : TexturePart → List ℕ → Option LevelFault → ℕ → List ℕ → Type 0
 IsLevelVerdict part bytes None status out = (status ≡ 0)
     × IsLevelPicture (texture_of (slice_index part.setup 0) (slice_index part.setup 1) (slice_index part.setup 2) (slice_index part.setup 3)) part.face part.level bytes out
-IsLevelVerdict part bytes (Some fault) status out = (status ≡ 1) × (out ≡ level_refusal fault)
+IsLevelVerdict part bytes (Some fault) status out = (status ≡ 1) × (out ≡ level_refusal (level_rule fault))
 
 abbrev pub IsLevelAnswer : TexturePart → List ℕ → ℕ → List ℕ → Type 0
-IsLevelAnswer part bytes status out = IsLevelVerdict part bytes (first_of (level_questions (slice_index part.setup 0) (slice_index part.setup 1)
-    (slice_index part.setup 2) (slice_index part.setup 3) (length bytes) part.face part.level)) status out
+IsLevelAnswer part bytes status out = IsLevelVerdict part bytes (level_fault part bytes) status out

@@ -25,10 +25,6 @@ abbrev pub reply_cause : Reply → Option Cause
 reply_cause (reply.Text answer) = answer.cause
 reply_cause (reply.Image image) = None
 
--- The reply is an answer, by what the command's answers are.
-abbrev pub IsReplyOf : (ℕ → List ℕ → Type 0) → Reply → Type 0
-IsReplyOf IsAnswer given = IsAnswer (reply_status given) (reply_text given)
-
 -- The parts of an image ascend, and end inside the memory.
 abbrev pub IsReplyReady : Reply → Type 0
 IsReplyReady (reply.Text answer) = ⊤

@@ -2,7 +2,7 @@
 --
 -- A source and a sink are described by functions of their states: `left`, the bytes still to come, and `held`, the bytes taken, where they
 -- tell them; and `faults`, how often they failed.
-use Rattle.std.specs.Prelude.{◌≡◌, ◌≢◌, ◌⊎◌, ◌↔◌, ℕ, ◌≤◌, ◌<◌, true, false, length, List, String, Option, Some, None, IfErr, IfSome}
+use Rattle.std.specs.Prelude.{◌≡◌, ◌≢◌, ◌⊎◌, ◌↔◌, ℕ, ◌≤◌, ◌<◌, Bool, true, false, length, List, String, Option, Some, None, IfErr, IfSome}
 use Rattle.std.specs.declared.alloc.Global.{Global}
 use Rattle.std.specs.Io.KnownBytes.{Appends, IsAtEnd}
 use Rattle.accepted_strict.specs.Files.{StrictBytesObey}
@@ -17,7 +17,7 @@ use Rattle.overflow_slots.specs.Laws.{StaysOrdered}
 use Rattle.session_law.specs.{Laws.ClientsAreApart, Laws.MemoryIsKept, Scripts.ScriptsAreOfCalls}
 use Rattle.session_safety.specs.Running.{SubmitsReachOwn}
 use Rattle.tile_convert.specs.Picture.{UntilesWhatWasTiled, TilesWhatWasUntiled}
-use Rattle.commands.specs.{declared.command.Command.Command, declared.command.Command.TheVariants.Check, declared.command.Command.TheVariants.StrictCheck}
+use Rattle.commands.specs.{declared.command.Command.Command, declared.command.Command.TheVariants.Check}
 use Rattle.commands.specs.{declared.command.Task.Task}
 use Rattle.commands.specs.declared.command.Task.TheVariants.{Read, Make, Tell}
 use Rattle.commands.specs.{declared.help.Topic.Topic, declared.cause.Cause.Cause, declared.cause.Cause.TheVariants.Words}
@@ -126,11 +126,8 @@ pub record IsRun {X Y : Type 0} (words : List (String Global)) (left : X → Opt
   pub said : (topic : Topic) → task_of (texts words) ≡ Some (Tell topic)
       → IsSaid (IsTopicAnswer topic) source source_now (held sink) (held sink_now) status
   -- From just the memory that `check` prints of an accepted file, every run of the machine is safe, each access in what its own job may
-  -- reach, and bytes outside what jobs may reach have no effect.
-  pub safe : task_of (texts words) ≡ Some (Read Check) → status ≡ 0
-      → IfSome (left source) (λ bytes. IsSafelyAccepted bytes (held sink) (held sink_now))
-  -- so it is of what `check --strict` prints
-  pub strictly_safe : task_of (texts words) ≡ Some (Read StrictCheck) → status ≡ 0
+  -- reach, and bytes outside what jobs may reach have no effect. So it is of what `check --strict` prints.
+  pub safe : (strict : Bool) → task_of (texts words) ≡ Some (Read (Check strict)) → status ≡ 0
       → IfSome (left source) (λ bytes. IsSafelyAccepted bytes (held sink) (held sink_now))
   pub promises : Promises
 

@@ -1,11 +1,9 @@
 -- What `show` and `make` answer to all of their input.
-use Rattle.std.specs.Prelude.{◌≡◌, ◌⊎◌, ℕ, Bool, false, List, [], Ok, Err, Option, Some, None, if◌then◌else◌}
-use Rattle.job_check.specs.Whole.{refusal_of}
+use Rattle.std.specs.Prelude.{◌≡◌, ◌⊎◌, ℕ, false, List, [], Ok, Err, Option, Some, None}
 use Rattle.job_format.specs.{declared.rule.Refusal.Refusal, Places.offset_of}
 use Rattle.job_text.specs.{declared.fault.MakeFault.MakeFault, declared.note.Piece.Piece, Made.text_bytes, Shown.text_shown}
 use Rattle.job_text.specs.declared.view.Omitted.{Omitted}
 use Rattle.refusal_facts.specs.Line.{line_text, line_of}
-use Rattle.strict_check.specs.Whole.{strict_refusal_of}
 
 -- The lines of bytes. Where a rule refuses them, the line of its offset is marked, and the line follows that tells the refusal.
 abbrev pub IsShown : Omitted → List ℕ → Option Refusal → List ℕ → Type 0
@@ -14,10 +12,6 @@ IsShown omitted bytes None text =
 IsShown omitted bytes (Some refusal) text =
     (pieces : List Piece)
     × (text ≡ text_shown (record { omitted = omitted; refused = Some (offset_of bytes refusal.place); why = line_text (line_of bytes refusal) }) bytes pieces)
-
--- the first broken rule, of all rules or of these and the strict ones behind them
-abbrev pub refusal_shown : Bool → List ℕ → Option Refusal
-refusal_shown strict bytes = if strict then strict_refusal_of bytes else refusal_of bytes
 
 -- Any bytes are answered with lines. Unless contents are left out, all bytes stand on these in order, each once, so that they are the
 -- bytes of that text. The mark is that of the first broken rule.

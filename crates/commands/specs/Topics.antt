@@ -1,10 +1,12 @@
 -- What the program says of itself and of rules.
 use Rattle.std.specs.Prelude.{◌≡◌, ℕ, zero, suc, List, [], ◌++◌, codes, bytes_eq, Option, Some, None, if◌then◌else◌, flat_map}
 use Rattle.rule_words.specs.{declared.name.Family.Family, declared.name.RuleName.RuleName, Names.explanation_of, Names.name_text, Names.words_of}
-use Rattle.commands.specs.declared.help.TheConstants.{CHECK, REPLAY, PICTURE, UPGRADE, BOUND, SHOW, MAKE, GEN, SLOTS, QUEUE, SESSION, UNTILE, TILE, LEVEL, ASM, DISASM, SHADER, EXPLAIN, HEAD, FOOT, VERSION, VERBS, FAMILIES}
-use Rattle.commands.specs.declared.help.Verb.TheVariants.{Check, Replay, Picture, Upgrade, Bound, Show, Make, Gen, Slots, Queue, Session, Untile, Tile, Level, Asm, Disasm, Shader, Explain}
+use Rattle.commands.specs.declared.verb.TheConstants.{CHECK, REPLAY, PICTURE, UPGRADE, BOUND, SHOW, MAKE, GEN, SLOTS, QUEUE, SESSION, UNTILE, TILE, LEVEL, ASM, DISASM, SHADER, EXPLAIN, VERBS}
+use Rattle.commands.specs.declared.explain.TheConstants.{FAMILIES}
+use Rattle.commands.specs.declared.help.TheConstants.{HEAD, FOOT, VERSION}
+use Rattle.commands.specs.declared.verb.Verb.TheVariants.{Check, Replay, Picture, Upgrade, Bound, Show, Make, Gen, Slots, Queue, Session, Untile, Tile, Level, Asm, Disasm, Shader, Explain}
 use Rattle.commands.specs.declared.help.Topic.TheVariants.{Program, Command, Version, Rule, Rules}
-use Rattle.commands.specs.{declared.help.Verb.Verb, declared.help.Topic.Topic}
+use Rattle.commands.specs.{declared.verb.Verb.Verb, declared.help.Topic.Topic}
 
 -- the command that a word names
 abbrev pub verb_named : List ℕ → Option Verb

@@ -8,54 +8,41 @@ use Rattle.seeded_runs.specs.declared.report.Look.{Look}
 use Rattle.seeded_runs.specs.declared.report.Look.TheVariants as look
 use Rattle.seeded_runs.specs.Report.{IsTrialWithin}
 use Rattle.rule_words.specs.declared.name.RuleName.{RuleName}
-use Rattle.commands.specs.declared.command.Command.TheVariants.{Check, StrictCheck, Verdict, StrictVerdict, Runs, HeadedRuns, Drawn, Upgrade, Bound, Show, FromText, Asm, Disasm, NotedDisasm, Shader, ShaderText, StrictShader, StrictShaderText, Slots, Queue, Session, Untile, Tile, Level}
+use Rattle.commands.specs.declared.command.Command.TheVariants.{Check, Verdict, Runs, Drawn, Upgrade, Bound, Show, FromText, Asm, Disasm, Shader, ShaderText, Slots, Queue, Session, Untile, Tile, Level}
 use Rattle.commands.specs.declared.command.Task.TheVariants.{Read, Make, Tell}
 use Rattle.commands.specs.declared.help.Topic.TheVariants.{Program, Command as CommandTopic, Version, Rule as RuleTopic, Rules}
-use Rattle.commands.specs.declared.help.Verb.TheVariants as verb
+use Rattle.commands.specs.declared.verb.Verb.TheVariants as verb
 use Rattle.tile_convert.specs.{declared.order.Picture.Picture, Picture.IsPictureWithin}
-use Rattle.commands.specs.declared.verdict.Form.{Form}
 use Rattle.commands.specs.declared.verdict.Form.TheVariants.{Quiet, Json}
 use Rattle.commands.specs.declared.word_fault.Argument.TheVariants.{Steps, Example, SlotCount, Buffers, Width, Height, P0, P1, P2, P3, Face, LevelNumber}
 use Rattle.commands.specs.declared.word_fault.WordFault.TheVariants.{Nothing, Unknown, Alone, NoTopic}
-use Rattle.commands.specs.{declared.command.Command.Command, declared.command.Task.Task, declared.help.Verb.Verb, declared.word_fault.WordFault.WordFault}
+use Rattle.commands.specs.{declared.command.Command.Command, declared.command.Task.Task, declared.verb.Verb.Verb, declared.word_fault.WordFault.WordFault}
 use Rattle.commands.specs.Line.{Line, texts, number, given_seed, given_unit, given_seeds, given_tiling, given_cpp, given_rule, given_kind, given_output, read, option, flag, ended}
 use Rattle.commands.specs.{Choice.option_letter, Choice.nearest_topic, Topics.verb_named, WordFault.most_slots, WordFault.most_queued}
 
 -- STEPS SEED: a run that is shown in this way, where a kind of unit is favoured or none
-abbrev pub run_asked : Look → Option UnitKind → Line → Result Task WordFault
-run_asked shown favoured = number Steps (λ steps. read given_seed (λ seed.
-    ended (Read (Runs (record { look = shown; favoured = favoured; steps = steps; seed = seed })))))
+abbrev pub run_asked : (headed : Bool) → Look → Option UnitKind → Line → Result Task WordFault
+run_asked headed shown favoured = number Steps (λ steps. read given_seed (λ seed.
+    ended (Read (Runs headed (record { look = shown; favoured = favoured; steps = steps; seed = seed })))))
 
 -- A..B STEPS: a run of each seed
-abbrev pub many_runs : Option UnitKind → Line → Result Task WordFault
-many_runs favoured = read given_seeds (λ range. number Steps (λ steps.
-    ended (Read (Runs (record { look = look.Seeds range.count; favoured = favoured; steps = steps; seed = range.first })))))
+abbrev pub many_runs : (headed : Bool) → Option UnitKind → Line → Result Task WordFault
+many_runs headed favoured = read given_seeds (λ range. number Steps (λ steps.
+    ended (Read (Runs headed (record { look = look.Seeds range.count; favoured = favoured; steps = steps; seed = range.first })))))
 
 -- [--accesses | --seeds A..B] STEPS [SEED]
-abbrev pub runs : Option UnitKind → Line → Result Task WordFault
-runs favoured =
-    option (codes "--accesses") (run_asked look.Accesses favoured) (option (codes "--seeds") (many_runs favoured) (run_asked look.Steps favoured))
-
--- [--favour KIND] [--accesses | --seeds A..B] STEPS [SEED]
-abbrev pub favoured_runs : Line → Result Task WordFault
-favoured_runs = option (codes "--favour") (read given_unit (λ kind. runs (Some kind))) (runs None)
-
--- runs behind a line with names of columns
-abbrev pub headed_task : Task → Task
-headed_task (Read (Runs trial)) = Read (HeadedRuns trial)
-headed_task task = task
-
-abbrev pub headed_by : Result Task WordFault → Result Task WordFault
-headed_by (Ok task) = Ok (headed_task task)
-headed_by (Err fault) = Err fault
+abbrev pub runs : (headed : Bool) → Option UnitKind → Line → Result Task WordFault
+runs headed favoured = option (codes "--accesses") (run_asked headed look.Accesses favoured)
+    (option (codes "--seeds") (many_runs headed favoured) (run_asked headed look.Steps favoured))
 
 -- replay [--header] [--favour KIND] [--accesses | --seeds A..B] STEPS [SEED]
 abbrev pub replay : Line → Result Task WordFault
-replay = option (codes "--header") (λ line. headed_by (favoured_runs line)) favoured_runs
+replay = flag (codes "--header") (λ headed. option (codes "--favour") (read given_unit (λ kind. runs headed (Some kind))) (runs headed None))
 
 -- picture [--run [--favour KIND] STEPS SEED]
 abbrev pub picture : Line → Result Task WordFault
-picture = option (codes "--run") (option (codes "--favour") (read given_unit (λ kind. run_asked look.Picture (Some kind))) (run_asked look.Picture None))
+picture = option (codes "--run")
+    (option (codes "--favour") (read given_unit (λ kind. run_asked false look.Picture (Some kind))) (run_asked false look.Picture None))
     (ended (Read Drawn))
 
 -- TILING CPP WIDTH HEIGHT
@@ -83,12 +70,9 @@ abbrev pub queue : Line → Result Task WordFault
 queue = number Buffers (λ buffers. ended (Read (Queue buffers)))
 
 -- check [--strict] [--quiet | --json]
-abbrev pub verdict : (Form → Command) → Command → Line → Result Task WordFault
-verdict reported whole =
-    option (codes "--quiet") (ended (Read (reported Quiet))) (option (codes "--json") (ended (Read (reported Json))) (ended (Read whole)))
-
 abbrev pub check : Line → Result Task WordFault
-check = option (codes "--strict") (verdict StrictVerdict StrictCheck) (verdict Verdict Check)
+check = flag (codes "--strict") (λ strict. option (codes "--quiet") (ended (Read (Verdict strict Quiet)))
+    (option (codes "--json") (ended (Read (Verdict strict Json))) (ended (Read (Check strict)))))
 
 -- show [--strict] [--no-content] [--no-offsets]
 abbrev pub show : Line → Result Task WordFault
@@ -97,14 +81,11 @@ show = flag (codes "--strict") (λ strict. flag (codes "--no-content") (λ conte
 
 -- disasm [--notes]
 abbrev pub disasm : Line → Result Task WordFault
-disasm = option (codes "--notes") (ended (Read NotedDisasm)) (ended (Read Disasm))
+disasm = flag (codes "--notes") (λ notes. ended (Read (Disasm notes)))
 
 -- shader [--strict] [--asm]
-abbrev pub strict_shader : Line → Result Task WordFault
-strict_shader = option (codes "--asm") (ended (Read StrictShaderText)) (ended (Read StrictShader))
-
 abbrev pub shader : Line → Result Task WordFault
-shader = option (codes "--strict") strict_shader (option (codes "--asm") (ended (Read ShaderText)) (ended (Read Shader)))
+shader = flag (codes "--strict") (λ strict. option (codes "--asm") (ended (Read (ShaderText strict))) (ended (Read (Shader strict))))
 
 -- explain RULE, or kind and a number, or --list
 abbrev pub report_of : RuleName → Line → Result Task WordFault
@@ -210,8 +191,7 @@ names_output words = false
 
 -- a command whose numbers are within these
 abbrev pub IsWithin : Command → Type 0
-IsWithin (Runs trial) = IsTrialWithin trial
-IsWithin (HeadedRuns trial) = IsTrialWithin trial
+IsWithin (Runs headed trial) = IsTrialWithin trial
 IsWithin (Slots slots) = (1 ≤ slots) × (slots ≤ most_slots)
 IsWithin (Queue buffers) = buffers ≤ most_queued
 IsWithin (Untile picture) = IsPictureWithin picture
@@ -233,12 +213,9 @@ most_picture = 25165824
 -- the most bytes of input that a command takes
 abbrev pub limit_of : Command → ℕ
 limit_of Asm = most_list
-limit_of Disasm = most_list
-limit_of NotedDisasm = most_list
-limit_of Shader = most_code
-limit_of ShaderText = most_list
-limit_of StrictShader = most_code
-limit_of StrictShaderText = most_list
+limit_of (Disasm notes) = most_list
+limit_of (Shader strict) = most_code
+limit_of (ShaderText strict) = most_list
 limit_of (Slots slots) = most_list
 limit_of (Queue buffers) = most_list
 limit_of Session = most_list

@@ -1,5 +1,5 @@
 //! The command `check`.
-ghost use Rattle.std.specs.Prelude.{◌≡◌, ◌<◌, ◌∷◌, [], ◌++◌, length, map, Some, IfOk, IsOk};
+ghost use Rattle.std.specs.Prelude.{◌≡◌, ◌∷◌, [], ◌++◌, length, map, Some, IfOk, IsOk};
 ghost use Rattle.field_words.specs.Sizes.{most_memory};
 ghost use Rattle.field_words.specs.Questions.{Answers};
 ghost use Rattle.job_format.specs.File.{IsWellFormed, IsFileOf};
@@ -7,14 +7,14 @@ ghost use Rattle.job_format.specs.Parts.{parts_view};
 ghost use Rattle.job_format.specs.Reading.{file_at};
 ghost use Rattle.job_check.specs.Emit.{content_parts};
 ghost use Rattle.job_check.specs.Faults.{file_stages};
-ghost use Rattle.job_check.specs.Whole.{all_questions, refusal_of};
+ghost use Rattle.job_check.specs.Whole.{all_questions};
 ghost use Rattle.dumper.specs.Parts.{part_at, parts_sorted, Ascend};
 ghost use Rattle.dumper.specs.{Spans.parts_of, Text.refused_text};
-ghost use Rattle.strict_check.specs.Whole.{strict_questions, strict_refusal_of};
-ghost use Rattle.commands.specs.Verdict.{image_of, IsCheckAnswer, IsStrictCheckAnswer, IsVerdict};
-ghost use Rattle.commands.specs.Image.{IsAccepted};
-ghost use Rattle.commands.specs.Cause.{rule_cause, IsRefusal};
-ghost use Rattle.commands.specs.Reply.{image_text, reply_status, reply_cause, IsReplyOf, IsReplyReady};
+ghost use Rattle.strict_check.specs.Whole.{strict_questions};
+ghost use Rattle.commands.specs.{Answer.IsReplyTo, Cause.rule_cause, Cause.IsRefusal, Image.IsAccepted, Reply.image_text};
+ghost use Rattle.commands.specs.Asked.{questions_by, refusal_by};
+ghost use Rattle.commands.specs.Verdict.{image_of};
+ghost use Rattle.commands.specs.declared.command.Command.TheVariants.{Check};
 
 use super::answer::Answer;
 use super::cause::Cause;
@@ -46,7 +46,7 @@ fn accept_parts<'a>(alloc: Global, file: FileParts<'a>) -> Result<Accepted<'a>, 
     Ok(Accepted { file, region })
 }
 
-/// All rules of these bytes. Nothing of them is copied but the numbers of entries and frames.
+/// All rules of these bytes but the strict ones. Nothing of them is copied but the numbers of entries and frames.
 pub(crate) fn accept<'a>(alloc: Global, bytes: &'a [u8]) -> Result<Accepted<'a>, Stop<Refusal>>
     ensures answers { Answers (all_questions bytes.now) (IsAccepted (file_at bytes.now)) result }
     ensures spelled { IsOk result → IsFileOf bytes.now (file_at bytes.now) }
@@ -57,7 +57,7 @@ pub(crate) fn accept<'a>(alloc: Global, bytes: &'a [u8]) -> Result<Accepted<'a>,
     }
 }
 
-/// The answer to these bytes, with the strict rules last.
+/// The same with the strict rules last.
 #[tactic(auto, unfolding(strict_check::specs::Whole::strict_questions))]
 fn accept_strict<'a>(alloc: Global, bytes: &'a [u8]) -> Result<Accepted<'a>, Stop<Refusal>>
     ensures answers { Answers (strict_questions bytes.now) (IsAccepted (file_at bytes.now)) result }
@@ -68,24 +68,27 @@ fn accept_strict<'a>(alloc: Global, bytes: &'a [u8]) -> Result<Accepted<'a>, Sto
     Ok(accepted)
 }
 
-/// The first broken rule of these bytes, where one is.
-#[tactic(auto, unfolding(job_check::specs::Whole::refusal_of))]
-pub fn refusal_in(alloc: Global, bytes: &[u8]) -> Result<Option<Refusal>, NoMemory>
-    ensures { IfOk result (λ refusal. refusal ≡ refusal_of bytes.now) }
+/// The rules that are asked of these bytes.
+fn accept_by<'a>(
+    alloc: Global,
+    strict: bool,
+    bytes: &'a [u8],
+) -> Result<Accepted<'a>, Stop<Refusal>>
+    ensures answers { Answers (questions_by strict bytes.now) (IsAccepted (file_at bytes.now))
+        result }
+    ensures spelled { IsOk result → IsFileOf bytes.now (file_at bytes.now) }
 {
-    match accept(alloc, bytes) {
-        Ok(_) => Ok(None),
-        Err(Stop::Fault(refusal)) => Ok(Some(refusal)),
-        Err(Stop::NoMemory) => Err(NoMemory),
+    if strict {
+        return accept_strict(alloc, bytes);
     }
+    accept(alloc, bytes)
 }
 
-/// The refusal of these bytes, with the strict rules last.
-#[tactic(auto, unfolding(strict_check::specs::Whole::strict_refusal_of))]
-pub fn strict_refusal_in(alloc: Global, bytes: &[u8]) -> Result<Option<Refusal>, NoMemory>
-    ensures { IfOk result (λ refusal. refusal ≡ strict_refusal_of bytes.now) }
+/// The first broken rule of those that are asked of these bytes, where one is.
+pub fn refusal_in(alloc: Global, strict: bool, bytes: &[u8]) -> Result<Option<Refusal>, NoMemory>
+    ensures { IfOk result (λ refusal. refusal ≡ refusal_by strict bytes.now) }
 {
-    match accept_strict(alloc, bytes) {
+    match accept_by(alloc, strict, bytes) {
         Ok(_) => Ok(None),
         Err(Stop::Fault(refusal)) => Ok(Some(refusal)),
         Err(Stop::NoMemory) => Err(NoMemory),
@@ -167,30 +170,11 @@ pub(crate) fn refused_picture(
 }
 
 /// What `check` answers to these bytes: the memory of an accepted file, or a refusal.
-#[tactic(auto, unfolding(job_check::specs::Whole::refusal_of), using(field_words::proofs::Questions::first_is))]
-pub fn check_answer(alloc: Global, bytes: &[u8]) -> Result<Reply<'_>, NoMemory>
-    ensures answers { IfOk result (IsReplyOf (IsCheckAnswer bytes.now)) }
-    ensures status { IfOk result (λ a. reply_status a < 2) }
-    ensures ready { IfOk result IsReplyReady }
-    ensures cause { IfOk result (λ a. reply_cause a ≡ rule_cause bytes.now (refusal_of bytes.now)) }
+#[tactic(auto, using(field_words::proofs::Questions::first_is))]
+pub fn check_answer(alloc: Global, strict: bool, bytes: &[u8]) -> Result<Reply<'_>, NoMemory>
+    ensures { IfOk result (IsReplyTo (Check strict) bytes.now) }
 {
-    match accept(alloc, bytes) {
-        Ok(accepted) => Ok(Reply::Image(image_of(alloc, accepted)?)),
-        Err(Stop::Fault(refusal)) => Ok(Reply::Text(refused(alloc, bytes, refusal)?)),
-        Err(Stop::NoMemory) => Err(NoMemory),
-    }
-}
-
-/// What `check --strict` answers to these bytes, for which the strict rules are asked too.
-#[tactic(auto, unfolding(strict_check::specs::Whole::strict_refusal_of), using(field_words::proofs::Questions::first_is))]
-pub fn strict_check_answer(alloc: Global, bytes: &[u8]) -> Result<Reply<'_>, NoMemory>
-    ensures answers { IfOk result (IsReplyOf (IsStrictCheckAnswer bytes.now)) }
-    ensures status { IfOk result (λ a. reply_status a < 2) }
-    ensures ready { IfOk result IsReplyReady }
-    ensures cause { IfOk result (λ a. reply_cause a
-        ≡ rule_cause bytes.now (strict_refusal_of bytes.now)) }
-{
-    match accept_strict(alloc, bytes) {
+    match accept_by(alloc, strict, bytes) {
         Ok(accepted) => Ok(Reply::Image(image_of(alloc, accepted)?)),
         Err(Stop::Fault(refusal)) => Ok(Reply::Text(refused(alloc, bytes, refusal)?)),
         Err(Stop::NoMemory) => Err(NoMemory),

@@ -2,7 +2,7 @@
 ghost use Rattle.std.specs.Prelude.{◌≡◌, Some};
 ghost use Rattle.commands.specs.Choice.{option_letter, choice_text, nearest, nearest_topic};
 
-use super::help::Verb;
+use super::verb::Verb;
 use std::fmt;
 
 /// An option, as a person reads of it.

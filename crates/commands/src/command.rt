@@ -4,7 +4,7 @@ ghost use Rattle.commands.specs.Cause.{is_reported};
 ghost use Rattle.commands.specs.Words.{most_file, limit_of, excess_at};
 
 use super::help::Topic;
-use super::shown::Showing;
+use super::show::Showing;
 use super::surfaces::TexturePart;
 use super::verdict::Form;
 use field_words::{MOST_CODE, MOST_LIST};
@@ -20,18 +20,13 @@ const MOST_PICTURE: usize = 25_165_824;
 /// A command that reads all of its input, and answers to it.
 #[derive(Clone, Copy, Debug, PartialEq, Eq)]
 pub enum Command {
-    /// `check`: reads a job file and prints the memory that it runs in, or why it is refused.
-    Check,
-    /// `check --strict`: the same, and asks the strict rules too.
-    StrictCheck,
-    /// `check --quiet` and `check --json`: reads a job file and reports in this form whether it is accepted.
-    Verdict(Form),
-    /// `check --strict --quiet` and so on: as these, and asks the strict rules too.
-    StrictVerdict(Form),
-    /// `replay`, and `picture --run`: reads a job file and prints what runs of it do; or why it is refused.
-    Runs(Trial),
-    /// `replay --header`: the same, behind a line with names of columns.
-    HeadedRuns(Trial),
+    /// `check`: reads a job file and prints the memory that it runs in, or why it is refused. With `--strict` it asks the strict rules too.
+    Check { strict: bool },
+    /// `check --quiet` and `check --json`: the same, but reports in this form whether the file is accepted.
+    Verdict { strict: bool, form: Form },
+    /// `replay`, and `picture --run`: reads a job file and prints what runs of it do; or why it is refused. With `--header` a line with
+    /// names of columns comes first.
+    Runs { headed: bool, trial: Trial },
     /// `picture`: reads a job file and writes a picture of its memory, as SVG; or why it is refused.
     Drawn,
     /// `upgrade`: reads a job file and writes it with version 2, or prints which rule of the format it breaks.
@@ -45,18 +40,13 @@ pub enum Command {
     FromText,
     /// `asm`: reads shader text and writes the instruction words, 8 bytes each, little endian.
     Asm,
-    /// `disasm`: reads such words and writes shader text that assembles to them.
-    Disasm,
-    /// `disasm --notes`: the same, with a note above each line.
-    NotedDisasm,
-    /// `shader`: reads the words of one shader and prints what it takes and reads, or the rule that refuses it.
-    Shader,
+    /// `disasm`: reads such words and writes shader text that assembles to them; with `--notes` with a note above each line.
+    Disasm { notes: bool },
+    /// `shader`: reads the words of one shader and prints what it takes and reads, or the rule that refuses it. With `--strict` it asks the
+    /// strict rules too.
+    Shader { strict: bool },
     /// `shader --asm`: reads shader text and prints the same of its words, or its first fault.
-    ShaderText,
-    /// `shader --strict`: as `shader`, and asks the strict rules too.
-    StrictShader,
-    /// `shader --strict --asm`: the same of shader text.
-    StrictShaderText,
+    ShaderText { strict: bool },
     /// `slots <n>`: reads a script of calls on a pool of so many slots, and answers each.
     Slots(u32),
     /// `queue <buffers>`: reads a script of calls on a queue of jobs that name so many buffers, and answers each.
@@ -89,10 +79,7 @@ impl Command {
         ensures { result ≡ is_reported self status }
     {
         match self {
-            Command::Shader
-            | Command::ShaderText
-            | Command::StrictShader
-            | Command::StrictShaderText => status < 2,
+            Command::Shader { .. } | Command::ShaderText { .. } => status < 2,
             _ => status == 1,
         }
     }
@@ -104,12 +91,10 @@ impl Command {
     {
         match self {
             Command::Untile(_) | Command::Tile(_) | Command::Level(_) => MOST_PICTURE,
-            Command::Shader | Command::StrictShader => MOST_CODE as usize,
+            Command::Shader { .. } => MOST_CODE as usize,
             Command::Asm
-            | Command::ShaderText
-            | Command::StrictShaderText
-            | Command::Disasm
-            | Command::NotedDisasm
+            | Command::ShaderText { .. }
+            | Command::Disasm { .. }
             | Command::Slots(_)
             | Command::Queue(_)
             | Command::Session => MOST_LIST as usize,

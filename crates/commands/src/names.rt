@@ -17,11 +17,10 @@ use std::alloc::{AllocError, Global};
 fn reads_several(task: Result<Task, WordFault>) -> bool
     ensures { result ≡ reads_several task }
 {
-    match task {
-        Ok(Task::Read(Command::Check | Command::StrictCheck)) => true,
-        Ok(Task::Read(Command::Verdict(_) | Command::StrictVerdict(_))) => true,
-        _ => false,
-    }
+    matches!(
+        task,
+        Ok(Task::Read(Command::Check { .. } | Command::Verdict { .. }))
+    )
 }
 
 /// Whether any number of names may stand behind these words: where the output goes to no file.
@@ -70,11 +69,13 @@ pub fn name_count(words: &[String]) -> usize
 fn is_json(words: &[String]) -> bool
     ensures { result ≡ is_json (task_or_fault (texts words.now)) }
 {
-    match task_of(words) {
-        Ok(Task::Read(Command::Verdict(Form::Json))) => true,
-        Ok(Task::Read(Command::StrictVerdict(Form::Json))) => true,
-        _ => false,
-    }
+    matches!(
+        task_of(words),
+        Ok(Task::Read(Command::Verdict {
+            form: Form::Json,
+            ..
+        }))
+    )
 }
 
 /// A line with the file's name where there are several.

@@ -1,13 +1,9 @@
 //! Commands that answer scripts: `slots`, `queue` and `session`.
-ghost use Rattle.std.specs.Prelude.{◌≡◌, ◌≤◌, ◌<◌, length, option_map, Some, IfOk};
+ghost use Rattle.std.specs.Prelude.{◌≡◌, ◌≤◌, length, Some, IfOk};
 ghost use Rattle.field_words.specs.Sizes.{most_list};
-ghost use Rattle.overflow_slots.specs.Calls.{fault_line as slots_fault};
-ghost use Rattle.job_queue.specs.Calls.{fault_line as queue_fault};
-ghost use Rattle.job_session.specs.Calls.{fault_line as session_fault};
-ghost use Rattle.commands.specs.Cause.{IsRefusal};
+ghost use Rattle.commands.specs.{Answer.IsAnswerTo, Cause.IsRefusal, Scripts.calls_text, Scripts.malformed_text};
 ghost use Rattle.commands.specs.declared.cause.Cause.TheVariants.{Call};
-ghost use Rattle.commands.specs.declared.scripts.Script.TheVariants.{Slots, Queue, Session};
-ghost use Rattle.commands.specs.Scripts.{calls_text, malformed_text, IsSlotsAnswer, IsQueueAnswer, IsSessionAnswer};
+ghost use Rattle.commands.specs.declared.command.Command.TheVariants.{Slots, Queue, Session};
 
 use super::answer::Answer;
 use super::cause::Cause;
@@ -56,9 +52,7 @@ pub fn slots_answer(alloc: Global, slots: u32, text: &[u8]) -> Result<Answer, No
     requires some { 1 ≤ slots }
     requires few { slots ≤ 32 }
     requires small { length text.now ≤ most_list }
-    ensures answers { IfOk result (λ a. IsSlotsAnswer slots text.now a.status a.text.items) }
-    ensures status { IfOk result (λ a. a.status < 2) }
-    ensures cause { IfOk result (λ a. a.cause ≡ option_map (Call Slots) (slots_fault text.now)) }
+    ensures { IfOk result (IsAnswerTo (Slots slots) text.now) }
 {
     match overflow_slots::script(alloc, slots, text) {
         Ok(text) => Ok(Answer::done(text)),
@@ -71,9 +65,7 @@ pub fn slots_answer(alloc: Global, slots: u32, text: &[u8]) -> Result<Answer, No
 pub fn queue_answer(alloc: Global, buffers: u32, text: &[u8]) -> Result<Answer, NoMemory>
     requires few { buffers ≤ 1024 }
     requires small { length text.now ≤ most_list }
-    ensures answers { IfOk result (λ a. IsQueueAnswer buffers text.now a.status a.text.items) }
-    ensures status { IfOk result (λ a. a.status < 2) }
-    ensures cause { IfOk result (λ a. a.cause ≡ option_map (Call Queue) (queue_fault text.now)) }
+    ensures { IfOk result (IsAnswerTo (Queue buffers) text.now) }
 {
     match job_queue::script(alloc, buffers, text) {
         Ok(text) => Ok(Answer::done(text)),
@@ -85,10 +77,7 @@ pub fn queue_answer(alloc: Global, buffers: u32, text: &[u8]) -> Result<Answer, 
 /// What `session` answers to a script on a session without buffers: a line for each call, or its first malformed line.
 pub fn session_answer(alloc: Global, text: &[u8]) -> Result<Answer, NoMemory>
     requires { length text.now ≤ most_list }
-    ensures answers { IfOk result (λ a. IsSessionAnswer text.now a.status a.text.items) }
-    ensures status { IfOk result (λ a. a.status < 2) }
-    ensures cause { IfOk result (λ a. a.cause
-        ≡ option_map (Call Session) (session_fault text.now)) }
+    ensures { IfOk result (IsAnswerTo Session text.now) }
 {
     match job_session::script(alloc, text) {
         Ok(text) => Ok(Answer::done(text)),

@@ -3,27 +3,27 @@ ghost use Rattle.std.specs.Prelude.{◌≡◌, ◌≢◌, ◌≤◌, ◌<◌, �
 ghost use Rattle.std.specs.Io.KnownBytes.{IsAtEnd};
 ghost use Rattle.job_io.specs.Faults.{Rose};
 ghost use Rattle.job_io.specs.Traffic.{count_taken};
-ghost use Rattle.commands.specs.Answer.{IsAnswer};
+ghost use Rattle.commands.specs.Answer.{IsAnswer, IsReplyTo};
 ghost use Rattle.commands.specs.Cause.{IsCause, is_reported};
-ghost use Rattle.commands.specs.Reply.{reply_status, reply_cause, IsReplyOf, IsReplyReady};
 ghost use Rattle.commands.specs.Run.{IsAnswered, IsCut, FailsAt};
 ghost use Rattle.commands.specs.Words.{limit_of, IsWithin};
 
-use super::bounded::bound_answer;
+use super::asm::asm_answer;
+use super::bound::bound_answer;
 use super::cause::Cause;
-use super::check::{check_answer, strict_check_answer};
+use super::check::check_answer;
 use super::command::Command;
-use super::drawn::drawn_answer;
-use super::lone_shader::{shader_answer, shader_text_answer};
-use super::replayed::{headed_answer, trial_answer};
+use super::disasm::disasm_answer;
+use super::make::make_answer;
+use super::picture::picture_answer;
+use super::replays::replay_answer;
 use super::reply::{Reply, print};
 use super::scripts::{queue_answer, session_answer, slots_answer};
-use super::shader_text::{asm_answer, disasm_answer, noted_disasm_answer};
-use super::shown::{make_answer, show_answer};
-use super::strict_shader::{strict_shader_answer, strict_text_answer};
+use super::shader::{shader_answer, shader_text_answer};
+use super::show::show_answer;
 use super::surfaces::{level_answer, tile_answer, untile_answer};
-use super::upgrading::upgrade_answer;
-use super::verdict::{strict_verdict_answer, verdict_answer};
+use super::upgrade::upgrade_answer;
+use super::verdict::verdict_answer;
 use entry::Ended;
 use field_words::NoMemory;
 use job_io::{ReadEnd, Sink, Source, read_all};
@@ -33,30 +33,21 @@ use std::alloc::Global;
 fn answer_to(alloc: Global, command: Command, bytes: &[u8]) -> Result<Reply<'_>, NoMemory>
     requires few { length bytes.now ≤ limit_of command }
     requires within { IsWithin command }
-    ensures answers { IfOk result (IsReplyOf (IsAnswer command bytes.now)) }
-    ensures status { IfOk result (λ a. reply_status a < 2) }
-    ensures ready { IfOk result IsReplyReady }
-    ensures cause { IfOk result (λ a. IsCause command bytes.now (reply_cause a)) }
+    ensures { IfOk result (IsReplyTo command bytes.now) }
 {
     let answer = match command {
-        Command::Check => return check_answer(alloc, bytes),
-        Command::StrictCheck => return strict_check_answer(alloc, bytes),
-        Command::Verdict(form) => verdict_answer(alloc, form, bytes),
-        Command::StrictVerdict(form) => strict_verdict_answer(alloc, form, bytes),
-        Command::Runs(trial) => trial_answer(alloc, trial, bytes),
-        Command::HeadedRuns(trial) => headed_answer(alloc, trial, bytes),
-        Command::Drawn => drawn_answer(alloc, bytes),
+        Command::Check { strict } => return check_answer(alloc, strict, bytes),
+        Command::Verdict { strict, form } => verdict_answer(alloc, strict, form, bytes),
+        Command::Runs { headed, trial } => replay_answer(alloc, headed, trial, bytes),
+        Command::Drawn => picture_answer(alloc, bytes),
         Command::Upgrade => upgrade_answer(alloc, bytes),
         Command::Bound => bound_answer(alloc, bytes),
         Command::Show(showing) => show_answer(alloc, showing, bytes),
         Command::FromText => make_answer(alloc, bytes),
         Command::Asm => asm_answer(alloc, bytes),
-        Command::Disasm => disasm_answer(alloc, bytes),
-        Command::NotedDisasm => noted_disasm_answer(alloc, bytes),
-        Command::Shader => shader_answer(alloc, bytes),
-        Command::ShaderText => shader_text_answer(alloc, bytes),
-        Command::StrictShader => strict_shader_answer(alloc, bytes),
-        Command::StrictShaderText => strict_text_answer(alloc, bytes),
+        Command::Disasm { notes } => disasm_answer(alloc, notes, bytes),
+        Command::Shader { strict } => shader_answer(alloc, strict, bytes),
+        Command::ShaderText { strict } => shader_text_answer(alloc, strict, bytes),
         Command::Slots(slots) => slots_answer(alloc, slots, bytes),
         Command::Queue(buffers) => queue_answer(alloc, buffers, bytes),
         Command::Session => session_answer(alloc, bytes),

@@ -1,20 +1,21 @@
 //! Commands on pictures: `untile`, `tile` and `level`.
-ghost use Rattle.std.specs.Prelude.{◌≡◌, ◌≤◌, ◌<◌, ◌^◌, length, option_map, Some, None, IfOk, IfSome};
+ghost use Rattle.std.specs.Prelude.{◌≡◌, ◌<◌, ◌^◌, length, Some, IfOk, IfSome};
 ghost use Rattle.script.specs.Number.{number_within};
 ghost use Rattle.texture_layouts.specs.Surface.{IsPixelSize};
-ghost use Rattle.tile_convert.specs.Picture.{surface_bytes, pixel_bytes, IsPictureWithin};
-ghost use Rattle.commands.specs.Pictures.{tiling_named, pixel_by};
-ghost use Rattle.commands.specs.Pictures.{length_wanted_text, level_refusal, IsUntileAnswer, IsTileAnswer, IsLevelAnswer};
-ghost use Rattle.commands.specs.Cause.{size_cause, level_rule, level_fault, IsRefusal};
-ghost use Rattle.commands.specs.declared.cause.Cause.TheVariants.{Level, Size};
+ghost use Rattle.tile_convert.specs.Picture.{IsPictureWithin};
+ghost use Rattle.commands.specs.{Answer.IsAnswerTo, Cause.IsRefusal};
+ghost use Rattle.commands.specs.Pictures.{tiling_named, pixel_by, length_wanted_text, level_refusal};
+ghost use Rattle.commands.specs.declared.cause.Cause.TheVariants.{Level as NoLevel, Size};
+ghost use Rattle.commands.specs.declared.command.Command.TheVariants.{Untile, Tile, Level};
 
 use super::answer::Answer;
 use super::cause::{Cause, level_rule};
 use field_words::{NoMemory, Stop};
+use rule_words::RuleName;
 use script::read_number;
-use std::alloc::{AllocError, Global};
+use std::alloc::Global;
 use texture_layouts::Tiling;
-use tile_convert::{LevelFault, Picture, extract, tile, untile};
+use tile_convert::{Picture, extract, tile, untile};
 
 /// A level of a face of the texture with these set-up words.
 #[derive(Clone, Copy, Debug, PartialEq, Eq)]
@@ -49,46 +50,33 @@ pub fn pixel_named(word: &str) -> Option<u32>
     }
 }
 
-#[tactic(auto, unfolding(crate::specs::Pictures::length_wanted_text))]
-fn length_wanted_text(alloc: Global, length: usize, wanted: u64) -> Result<Vec<u8>, AllocError>
-    ensures { IfOk result (λ text. text.items ≡ length_wanted_text length wanted) }
-{
-    Ok(format!(in alloc; "length {length} wants {wanted}\n")?.into_bytes())
-}
-
+// The refusal by this rule of a level.
 #[tactic(auto, unfolding(crate::specs::Pictures::level_refusal))]
-fn level_refusal(alloc: Global, fault: LevelFault) -> Result<Vec<u8>, AllocError>
-    ensures { IfOk result (λ text. text.items ≡ level_refusal fault) }
+fn level_refused(alloc: Global, name: RuleName) -> Result<Answer, NoMemory>
+    ensures { IfOk result (IsRefusal (level_refusal name) (Some (NoLevel name))) }
 {
-    let text = match fault {
-        LevelFault::Texture(rule) => format!(in alloc; "refused U{rule} at 0\n")?,
-        LevelFault::Face => format!(in alloc; "refused V1 at 0\n")?,
-        LevelFault::Level => format!(in alloc; "refused V2 at 0\n")?,
-    };
-    Ok(text.into_bytes())
+    let text = format!(in alloc; "refused {name} at 0\n")?.into_bytes();
+    Ok(Answer::refused(text, Some(Cause::Level(name))))
 }
 
 // The refusal of so many bytes where another number is wanted.
-fn size_refusal(alloc: Global, length: usize, wanted: u64) -> Result<Answer, NoMemory>
+#[tactic(auto, unfolding(crate::specs::Pictures::length_wanted_text))]
+fn size_refused(alloc: Global, length: usize, wanted: u64) -> Result<Answer, NoMemory>
     ensures { IfOk result (IsRefusal (length_wanted_text length wanted)
         (Some (Size length wanted))) }
 {
-    let text = length_wanted_text(alloc, length, wanted)?;
-    let cause = Cause::Size(length as u64, wanted);
-    Ok(Answer::refused(text, Some(cause)))
+    let text = format!(in alloc; "length {length} wants {wanted}\n")?.into_bytes();
+    Ok(Answer::refused(text, Some(Cause::Size(length as u64, wanted))))
 }
 
 /// What `untile` answers to a surface: its pixels by rows, or how many bytes are wanted.
 pub fn untile_answer(alloc: Global, picture: Picture, bytes: &[u8]) -> Result<Answer, NoMemory>
     requires { IsPictureWithin picture }
-    ensures answers { IfOk result (λ a. IsUntileAnswer picture bytes.now a.status a.text.items) }
-    ensures status { IfOk result (λ a. a.status < 2) }
-    ensures cause { IfOk result (λ a. a.cause
-        ≡ size_cause (length bytes.now) (surface_bytes picture)) }
+    ensures { IfOk result (IsAnswerTo (Untile picture) bytes.now) }
 {
     match untile(alloc, picture, bytes) {
         Ok(pixels) => Ok(Answer::done(pixels)),
-        Err(Stop::Fault(wanted)) => size_refusal(alloc, bytes.len(), wanted),
+        Err(Stop::Fault(wanted)) => size_refused(alloc, bytes.len(), wanted),
         Err(Stop::NoMemory) => Err(NoMemory),
     }
 }
@@ -96,14 +84,11 @@ pub fn untile_answer(alloc: Global, picture: Picture, bytes: &[u8]) -> Result<An
 /// What `tile` answers to pixels by rows: their surface, or how many bytes are wanted.
 pub fn tile_answer(alloc: Global, picture: Picture, bytes: &[u8]) -> Result<Answer, NoMemory>
     requires { IsPictureWithin picture }
-    ensures answers { IfOk result (λ a. IsTileAnswer picture bytes.now a.status a.text.items) }
-    ensures status { IfOk result (λ a. a.status < 2) }
-    ensures cause { IfOk result (λ a. a.cause
-        ≡ size_cause (length bytes.now) (pixel_bytes picture)) }
+    ensures { IfOk result (IsAnswerTo (Tile picture) bytes.now) }
 {
     match tile(alloc, picture, bytes) {
         Ok(surface) => Ok(Answer::done(surface)),
-        Err(Stop::Fault(wanted)) => size_refusal(alloc, bytes.len(), wanted),
+        Err(Stop::Fault(wanted)) => size_refused(alloc, bytes.len(), wanted),
         Err(Stop::NoMemory) => Err(NoMemory),
     }
 }
@@ -111,18 +96,11 @@ pub fn tile_answer(alloc: Global, picture: Picture, bytes: &[u8]) -> Result<Answ
 /// What `level` answers to a buffer that has a texture: the level's pixels by rows, or its blocks, or the first broken rule.
 pub fn level_answer(alloc: Global, part: TexturePart, bytes: &[u8]) -> Result<Answer, NoMemory>
     requires { length bytes.now < 2 ^ 32 }
-    ensures answers { IfOk result (λ a. IsLevelAnswer part bytes.now a.status a.text.items) }
-    ensures status { IfOk result (λ a. a.status < 2) }
-    ensures cause { IfOk result (λ a. a.cause
-        ≡ option_map (λ fault. Level (level_rule fault)) (level_fault part bytes.now)) }
+    ensures { IfOk result (IsAnswerTo (Level part) bytes.now) }
 {
     match extract(alloc, part.setup, bytes, part.face, part.level) {
         Ok(text) => Ok(Answer::done(text)),
-        Err(Stop::Fault(fault)) => {
-            let text = level_refusal(alloc, fault)?;
-            let rule = level_rule(&fault);
-            Ok(Answer::refused(text, Some(Cause::Level(rule))))
-        }
+        Err(Stop::Fault(fault)) => level_refused(alloc, level_rule(&fault)),
         Err(Stop::NoMemory) => Err(NoMemory),
     }
 }

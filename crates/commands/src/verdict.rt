@@ -1,14 +1,14 @@
 //! The commands `check --quiet` and `check --json`.
-ghost use Rattle.std.specs.Prelude.{◌≡◌, ◌<◌, None, IfOk};
-ghost use Rattle.job_check.specs.Whole.{refusal_of};
-ghost use Rattle.strict_check.specs.Whole.{strict_refusal_of};
-ghost use Rattle.commands.specs.Json.{refused_head, refused_members, members, verdict_text, IsVerdictAnswer};
+ghost use Rattle.std.specs.Prelude.{◌≡◌, ◌++◌, IfOk, OnOk};
+ghost use Rattle.commands.specs.{Answer.IsAnswerTo, Json.refused_head, Json.facts_member, Json.refused_members, Json.verdict_text};
+ghost use Rattle.commands.specs.declared.command.Command.TheVariants.{Verdict};
 
 use super::answer::Answer;
-use super::check::{refusal_in, strict_refusal_in};
+use super::check::refusal_in;
 use super::json::push_escaped;
 use field_words::NoMemory;
 use job_format::{Refusal, offset_of};
+use refusal_facts::{Inside, facts_of};
 use rule_words::{RuleName, Spot};
 use std::alloc::{AllocError, Global};
 
@@ -34,25 +34,30 @@ fn refused_head(alloc: Global, bytes: &[u8], refusal: Refusal) -> Result<Vec<u8>
     )?.into_bytes())
 }
 
+/// Appends the member of what the file says at a refusal's place, up to its last quote, where it says anything.
+#[tactic(auto, unfolding(crate::specs::Json::facts_member))]
+fn push_facts(alloc: Global, text: &mut Vec<u8>, facts: &[u8]) -> Result<(), AllocError>
+    ensures { OnOk result (text.new.items ≡ text.old.items ++ facts_member facts.now) }
+{
+    if facts.is_empty() {
+        return Ok(());
+    }
+    text.extend_from_slice(b"\",\"facts\":\"")?;
+    push_escaped(alloc, text, facts)
+}
+
 /// The members of a refusal of these bytes behind the file's name.
-fn refused_members(alloc: Global, bytes: &[u8], refusal: Refusal) -> Result<Vec<u8>, AllocError>
+fn refused_members(alloc: Global, bytes: &[u8], refusal: Refusal) -> Result<Vec<u8>, NoMemory>
     ensures { IfOk result (λ text. text.items ≡ refused_members bytes.now refusal) }
 {
     let mut text = refused_head(alloc, bytes, refusal)?;
     let sentence = RuleName::of_rule(refusal.rule).sentence();
     push_escaped(alloc, &mut text, sentence.as_bytes())?;
+    let facts = facts_of(alloc, bytes, refusal)?;
+    let inside = format!(in alloc; "{}", Inside { facts })?;
+    push_facts(alloc, &mut text, inside.as_bytes())?;
     text.extend_from_slice(b"\"}\n")?;
     Ok(text)
-}
-
-/// The members of a file's verdict behind its name.
-fn members(alloc: Global, bytes: &[u8], refusal: Option<Refusal>) -> Result<Vec<u8>, AllocError>
-    ensures { IfOk result (λ text. text.items ≡ members bytes.now refusal) }
-{
-    match refusal {
-        None => Vec::from_slice(alloc, b"\"verdict\":\"accepted\"}\n"),
-        Some(refusal) => refused_members(alloc, bytes, refusal),
-    }
 }
 
 /// The verdict as text.
@@ -61,52 +66,29 @@ fn verdict_text(
     form: Form,
     bytes: &[u8],
     refusal: Option<Refusal>,
-) -> Result<Vec<u8>, AllocError>
+) -> Result<Vec<u8>, NoMemory>
     ensures { IfOk result (λ text. text.items ≡ verdict_text form bytes.now refusal) }
 {
-    match form {
-        Form::Quiet => Ok(Vec::new(alloc)),
-        Form::Json => members(alloc, bytes, refusal),
+    match (form, refusal) {
+        (Form::Quiet, _) => Ok(Vec::new(alloc)),
+        (Form::Json, None) => Ok(Vec::from_slice(alloc, b"\"verdict\":\"accepted\"}\n")?),
+        (Form::Json, Some(refusal)) => refused_members(alloc, bytes, refusal),
     }
 }
 
-/// The verdict on bytes that this rule refuses, or none.
-fn reported(
+/// What `check --quiet` and `check --json` answer to these bytes: nothing, or the members of a line of JSON behind the file's name.
+pub fn verdict_answer(
     alloc: Global,
+    strict: bool,
     form: Form,
     bytes: &[u8],
-    refusal: Option<Refusal>,
 ) -> Result<Answer, NoMemory>
-    ensures answers { IfOk result (λ a. IsVerdictAnswer form refusal bytes.now a.status
-        a.text.items) }
-    ensures status { IfOk result (λ a. a.status < 2) }
-    ensures cause { IfOk result (λ a. a.cause ≡ None) }
+    ensures { IfOk result (IsAnswerTo (Verdict strict form) bytes.now) }
 {
+    let refusal = refusal_in(alloc, strict, bytes)?;
     let text = verdict_text(alloc, form, bytes, refusal)?;
     match refusal {
         None => Ok(Answer::done(text)),
         Some(_) => Ok(Answer::refused(text, None)),
     }
-}
-
-/// What `check --quiet` and `check --json` answer to these bytes: nothing, or the members of a line of JSON behind the file's name.
-pub fn verdict_answer(alloc: Global, form: Form, bytes: &[u8]) -> Result<Answer, NoMemory>
-    ensures answers { IfOk result (λ a. IsVerdictAnswer form (refusal_of bytes.now) bytes.now
-        a.status a.text.items) }
-    ensures status { IfOk result (λ a. a.status < 2) }
-    ensures cause { IfOk result (λ a. a.cause ≡ None) }
-{
-    let refusal = refusal_in(alloc, bytes)?;
-    reported(alloc, form, bytes, refusal)
-}
-
-/// What they answer behind `--strict`, for which the strict rules are asked too.
-pub fn strict_verdict_answer(alloc: Global, form: Form, bytes: &[u8]) -> Result<Answer, NoMemory>
-    ensures answers { IfOk result (λ a. IsVerdictAnswer form (strict_refusal_of bytes.now)
-        bytes.now a.status a.text.items) }
-    ensures status { IfOk result (λ a. a.status < 2) }
-    ensures cause { IfOk result (λ a. a.cause ≡ None) }
-{
-    let refusal = strict_refusal_in(alloc, bytes)?;
-    reported(alloc, form, bytes, refusal)
 }

@@ -3,7 +3,7 @@ ghost use Rattle.std.specs.Prelude.{◌≡◌, ◌≤◌, ◌<◌, ◌+◌, ◌+
 ghost use Rattle.commands.specs.WordFault.{argument_row, values_of, values_text, argument_text, surplus_text, strange_option_text, word_fault_text};
 
 use super::choice::Choice;
-use super::help::Verb;
+use super::verb::Verb;
 use std::fmt;
 
 /// The most steps of a run.
@@ -216,42 +216,31 @@ impl fmt::Display for WordFault {
             WordFault::Alone => {
                 f.write_str("vc4check: --version stands alone, and --help with one command at most")
             }
-            WordFault::NoTopic(choice) => {
-                let word = choice.word();
-                write!(
-                    f,
-                    "vc4check: word 1 is no option of the program; the nearest is {}; usage: vc4check COMMAND [WORDS] [FILE]",
-                    word
-                )
-            }
+            WordFault::NoTopic(choice) => write!(
+                f,
+                "vc4check: word 1 is no option of the program; the nearest is {}; usage: vc4check COMMAND [WORDS] [FILE]",
+                choice
+            ),
             WordFault::NoOption(verb, at, choice) => {
-                let usage = verb.usage();
                 let word = StrangeOption {
                     at: *at,
                     choice: *choice,
                 };
-                write!(f, "vc4check: {}; usage: vc4check {}", word, usage)
+                write!(f, "vc4check: {}; usage: vc4check {}", word, verb)
             }
-            WordFault::Wrong(verb, at, argument) => {
-                let usage = verb.usage();
-                write!(
-                    f,
-                    "vc4check: word {} is wrong: {}; usage: vc4check {}",
-                    at, argument, usage
-                )
-            }
-            WordFault::Missing(verb, argument) => {
-                let usage = verb.usage();
-                write!(
-                    f,
-                    "vc4check: a word is missing: {}; usage: vc4check {}",
-                    argument, usage
-                )
-            }
+            WordFault::Wrong(verb, at, argument) => write!(
+                f,
+                "vc4check: word {} is wrong: {}; usage: vc4check {}",
+                at, argument, verb
+            ),
+            WordFault::Missing(verb, argument) => write!(
+                f,
+                "vc4check: a word is missing: {}; usage: vc4check {}",
+                argument, verb
+            ),
             WordFault::Surplus(verb, at) => {
-                let usage = verb.usage();
                 let word = SurplusWord { at: *at };
-                write!(f, "vc4check: {}; usage: vc4check {}", word, usage)
+                write!(f, "vc4check: {}; usage: vc4check {}", word, verb)
             }
         }
     }

@@ -1,275 +1,83 @@
 //! From the program's words to what they ask for, or to the word that is wrong.
-ghost use Rattle.seeded_runs.specs.Report.{IsLookWithin};
-ghost use Rattle.std.specs.Prelude.{ℕ, ◌≡◌, ◌≤◌, ◌<◌, ◌∷◌, ◌-◌, [], length, codes, drop, is_some, not, if◌then◌else◌, IfOk, IfSome, MatchResult, OnOk};
+ghost use Rattle.std.specs.Prelude.{ℕ, ◌≡◌, ◌-◌, length, drop, IfOk};
+ghost use Rattle.commands.specs.Line.{line_of, texts};
+ghost use Rattle.commands.specs.Words.{run_asked, runs, replay, picture, picture_asked, level, example, slots, queue, check, show, disasm, shader, explain, task_asked, put_out, task_behind, help_of, version_alone, strange_by, topic_named, task_or_fault, is_name, names_file, is_command, names_output, excess_of, is_read, ReadsWithin};
 ghost use Rattle.commands.specs.Choice.{option_letter};
-ghost use Rattle.commands.specs.declared.command.Command.TheVariants.{StrictCheck, StrictVerdict};
-ghost use Rattle.commands.specs.declared.word_fault.WordFault.TheVariants.{Missing, Wrong};
-ghost use Rattle.commands.specs.Line.{line_of, texts, number_by, given_number, given_seed, given_unit, given_seeds, given_tiling, given_cpp, given_rule, given_kind, given_output, behind, begins, ended, unfit, IsNumberOf};
-ghost use Rattle.commands.specs.Trials.{IsRangeWithin};
-ghost use Rattle.commands.specs.WordFault.{values_of};
-ghost use Rattle.commands.specs.Words.{run_asked, runs, favoured_runs, headed_task, replay, picture, picture_asked, level, example, slots, queue, verdict, check, show, disasm, shader, strict_shader, explain, task_asked, put_out, task_behind, help_of, version_alone, strange_by, topic_named, task_or_fault, is_name, names_file, is_command, names_output, excess_of, is_read, ReadsWithin};
-ghost use Rattle.texture_layouts.specs.Surface.{IsPixelSize};
+ghost use Rattle.seeded_runs.specs.Report.{IsLookWithin};
 ghost use Rattle.tile_convert.specs.Picture.{IsPictureWithin};
 
-use super::choice::{nearest, nearest_topic, option_letter};
+use super::choice::{nearest_topic, option_letter};
 use super::command::{Command, Task};
-use super::help::{Topic, Verb, verb_named};
-use super::shown::Showing;
-use super::surfaces::{TexturePart, pixel_named, tiling_named};
-use super::trial::{SeedRange, seeds_named, unit_named};
+use super::help::Topic;
+use super::line::Line;
+use super::show::Showing;
+use super::surfaces::TexturePart;
+use super::verb::{Verb, verb_named};
 use super::verdict::Form;
-use super::word_fault::{Argument, Values, WordFault};
+use super::word_fault::{Argument, WordFault};
 use job_text::Omitted;
 use replay::UnitKind;
-use rule_words::{RuleName, kind_named, rule_named};
-use script::read_number;
 use seeded_runs::{Look, Trial};
-use texture_layouts::Tiling;
 use tile_convert::Picture;
 
-/// The number that the word is, where the argument may be this number.
-fn number_named(argument: Argument, word: &str) -> Option<u32>
-    ensures value { result ≡ number_by (values_of argument) word.now }
-    ensures within { IfSome result (IsNumberOf (values_of argument)) }
-{
-    let Values::Number(least, most) = argument.values() else {
-        return None;
-    };
-    let number = read_number(word.as_bytes(), u64::from(most))? as u32;
-    if number < least {
-        return None;
-    }
-    Some(number)
-}
-
-/// The words behind a command that aren't read yet, of so many words in all.
-#[derive(Clone, Copy)]
-struct Line<'a> {
-    verb: Verb,
-    count: usize,
-    words: &'a [String],
-}
-
-impl<'a> Line<'a> {
-    /// Reads the next word, which is to be this argument.
-    fn word(&mut self, argument: Argument) -> Result<&'a str, WordFault>
-        ensures word { MatchResult result (λ word. texts self.old.words.now ≡ word.now ∷ texts self.new.words.now)
-            (λ fault. (texts self.old.words.now ≡ []) × (fault ≡ Missing self.old.verb argument)) }
-        ensures same { (self.new.verb ≡ self.old.verb) × (self.new.count ≡ self.old.count) }
-    {
-        let Some((word, more)) = self.words.split_first() else {
-            return Err(WordFault::Missing(self.verb, argument));
-        };
-        self.words = more;
-        Ok(word.as_str())
-    }
-
-    /// This word may not stand at the place of this number, for this reason, or as an option.
-    #[tactic(auto, unfolding(crate::specs::Line::unfit))]
-    fn unfit(&self, at: u64, fault: WordFault, word: &str) -> WordFault
-        ensures { result ≡ unfit self.now.verb at fault word.now }
-    {
-        match option_letter(word.as_bytes()) {
-            Some(letter) => WordFault::NoOption(self.verb, at, nearest(self.verb, letter)),
-            None => fault,
-        }
-    }
-
-    /// This word, which was read last, isn't this argument.
-    fn wrong(&self, word: &str, argument: Argument) -> WordFault
-        ensures { result ≡ unfit self.now.verb (self.now.count - length self.now.words.now)
-            (Wrong self.now.verb (self.now.count - length self.now.words.now) argument) word.now }
-    {
-        let at = self.count.saturating_sub(self.words.len()) as u64;
-        self.unfit(at, WordFault::Wrong(self.verb, at, argument), word)
-    }
-
-    #[tactic(auto, unfolding(crate::specs::Line::given_number))]
-    fn number(&mut self, argument: Argument) -> Result<u32, WordFault>
-        ensures value { result ≡ given_number argument (line_of self.old) }
-        ensures within { IfOk result (IsNumberOf (values_of argument)) }
-        ensures left { OnOk result (line_of self.new ≡ behind (line_of self.old)) }
-    {
-        let word = self.word(argument)?;
-        number_named(argument, word).ok_or(self.wrong(word, argument))
-    }
-
-    #[tactic(auto, unfolding(crate::specs::Line::given_seed))]
-    fn seed(&mut self) -> Result<u64, WordFault>
-        ensures value { result ≡ given_seed (line_of self.old) }
-        ensures left { OnOk result (line_of self.new ≡ behind (line_of self.old)) }
-    {
-        let word = self.word(Argument::Seed)?;
-        read_number(word.as_bytes(), u64::MAX).ok_or(self.wrong(word, Argument::Seed))
-    }
-
-    #[tactic(auto, unfolding(crate::specs::Line::given_unit))]
-    fn unit(&mut self) -> Result<UnitKind, WordFault>
-        ensures value { result ≡ given_unit (line_of self.old) }
-        ensures left { OnOk result (line_of self.new ≡ behind (line_of self.old)) }
-    {
-        let word = self.word(Argument::Favoured)?;
-        unit_named(word).ok_or(self.wrong(word, Argument::Favoured))
-    }
-
-    #[tactic(auto, unfolding(crate::specs::Line::given_seeds))]
-    fn seeds(&mut self) -> Result<SeedRange, WordFault>
-        ensures value { result ≡ given_seeds (line_of self.old) }
-        ensures within { IfOk result IsRangeWithin }
-        ensures left { OnOk result (line_of self.new ≡ behind (line_of self.old)) }
-    {
-        let word = self.word(Argument::SeedNumbers)?;
-        seeds_named(word).ok_or(self.wrong(word, Argument::SeedNumbers))
-    }
-
-    #[tactic(auto, unfolding(crate::specs::Line::given_tiling))]
-    fn tiling(&mut self) -> Result<Tiling, WordFault>
-        ensures value { result ≡ given_tiling (line_of self.old) }
-        ensures left { OnOk result (line_of self.new ≡ behind (line_of self.old)) }
-    {
-        let word = self.word(Argument::PictureTiling)?;
-        tiling_named(word).ok_or(self.wrong(word, Argument::PictureTiling))
-    }
-
-    #[tactic(auto, unfolding(crate::specs::Line::given_cpp))]
-    fn cpp(&mut self) -> Result<u32, WordFault>
-        ensures value { result ≡ given_cpp (line_of self.old) }
-        ensures within { IfOk result IsPixelSize }
-        ensures left { OnOk result (line_of self.new ≡ behind (line_of self.old)) }
-    {
-        let word = self.word(Argument::Cpp)?;
-        pixel_named(word).ok_or(self.wrong(word, Argument::Cpp))
-    }
-
-    #[tactic(auto, unfolding(crate::specs::Line::given_rule))]
-    fn rule(&mut self) -> Result<RuleName, WordFault>
-        ensures value { result ≡ given_rule (line_of self.old) }
-        ensures left { OnOk result (line_of self.new ≡ behind (line_of self.old)) }
-    {
-        let word = self.word(Argument::Rule)?;
-        rule_named(word.as_bytes()).ok_or(self.wrong(word, Argument::Rule))
-    }
-
-    #[tactic(auto, unfolding(crate::specs::Line::given_kind))]
-    fn kind(&mut self) -> Result<RuleName, WordFault>
-        ensures value { result ≡ given_kind (line_of self.old) }
-        ensures left { OnOk result (line_of self.new ≡ behind (line_of self.old)) }
-    {
-        let word = self.word(Argument::Kind)?;
-        kind_named(word.as_bytes()).ok_or(self.wrong(word, Argument::Kind))
-    }
-
-    /// Reads the name of the output's file.
-    #[tactic(auto, unfolding(crate::specs::Line::given_output))]
-    fn output(&mut self) -> Result<(), WordFault>
-        ensures value { result ≡ given_output (line_of self.old) }
-        ensures left { OnOk result (line_of self.new ≡ behind (line_of self.old)) }
-    {
-        self.word(Argument::Output)?;
-        Ok(())
-    }
-
-    /// Whether the next word is this one, which is then read.
-    fn begins(&mut self, word: &str) -> bool
-        ensures value { result ≡ begins word.now (line_of self.old) }
-        ensures left { line_of self.new
-            ≡ (if result then behind (line_of self.old) else line_of self.old) }
-    {
-        match self.words {
-            [first, more @ ..] if first.as_str() == word => {
-                self.words = more;
-                true
-            }
-            _ => false,
-        }
-    }
-
-    /// What the words ask for, where no word is left.
-    fn end<T: Copy>(self, asked: T) -> Result<T, WordFault>
-        ensures value { result ≡ ended asked (line_of self.entry) }
-        ensures kept { IfOk result (λ given. given ≡ asked) }
-    {
-        match self.words {
-            [] => Ok(asked),
-            [word, more @ ..] => {
-                let at = self.count.saturating_sub(more.len()) as u64;
-                let fault = WordFault::Surplus(self.verb, self.count as u64);
-                Err(self.unfit(at, fault, word.as_str()))
-            }
-        }
-    }
-}
-
 /// `STEPS SEED`
-fn run(mut line: Line, look: Look, favoured: Option<UnitKind>) -> Result<Task, WordFault>
+fn run(
+    mut line: Line,
+    headed: bool,
+    look: Look,
+    favoured: Option<UnitKind>,
+) -> Result<Task, WordFault>
     requires { (seed : ℕ) → IsLookWithin look seed }
-    ensures value { result ≡ run_asked look favoured (line_of line.entry) }
+    ensures value { result ≡ run_asked headed look favoured (line_of line.entry) }
     ensures within { IfOk result ReadsWithin }
 {
     let steps = line.number(Argument::Steps)?;
     let seed = line.seed()?;
-    line.end(Task::Read(Command::Runs(Trial {
+    let trial = Trial {
         look,
         favoured,
         steps,
         seed,
-    })))
+    };
+    line.end(Task::Read(Command::Runs { headed, trial }))
 }
 
 /// `[--accesses | --seeds A..B] STEPS [SEED]`
-fn runs(mut line: Line, favoured: Option<UnitKind>) -> Result<Task, WordFault>
-    ensures value { result ≡ runs favoured (line_of line.entry) }
+fn runs(mut line: Line, headed: bool, favoured: Option<UnitKind>) -> Result<Task, WordFault>
+    ensures value { result ≡ runs headed favoured (line_of line.entry) }
     ensures within { IfOk result ReadsWithin }
 {
     if line.begins("--accesses") {
-        return run(line, Look::Accesses, favoured);
+        return run(line, headed, Look::Accesses, favoured);
     }
     if !line.begins("--seeds") {
-        return run(line, Look::Steps, favoured);
+        return run(line, headed, Look::Steps, favoured);
     }
     let seeds = line.seeds()?;
     let steps = line.number(Argument::Steps)?;
-    line.end(Task::Read(Command::Runs(Trial {
+    let trial = Trial {
         look: Look::Seeds(seeds.count),
         favoured,
         steps,
         seed: seeds.first,
-    })))
+    };
+    line.end(Task::Read(Command::Runs { headed, trial }))
 }
 
-/// `[--favour KIND] [--accesses | --seeds A..B] STEPS [SEED]`
-fn favoured_runs(mut line: Line) -> Result<Task, WordFault>
-    ensures value { result ≡ favoured_runs (line_of line.entry) }
-    ensures within { IfOk result ReadsWithin }
-{
-    if line.begins("--favour") {
-        let kind = line.unit()?;
-        return runs(line, Some(kind));
-    }
-    runs(line, None)
-}
-
-/// Runs that stand behind a line with names of columns.
-fn headed_task(task: Task) -> Task
-    ensures value { result ≡ headed_task task }
-    ensures within { ReadsWithin task → ReadsWithin result }
-{
-    match task {
-        Task::Read(Command::Runs(trial)) => Task::Read(Command::HeadedRuns(trial)),
-        _ => task,
-    }
-}
-
+/// `[--header] [--favour KIND] [--accesses | --seeds A..B] STEPS [SEED]`
 fn replay(mut line: Line) -> Result<Task, WordFault>
     ensures value { result ≡ replay (line_of line.entry) }
     ensures within { IfOk result ReadsWithin }
 {
-    if line.begins("--header") {
-        return Ok(headed_task(favoured_runs(line)?));
+    let headed = line.begins("--header");
+    if line.begins("--favour") {
+        let kind = line.unit()?;
+        return runs(line, headed, Some(kind));
     }
-    favoured_runs(line)
+    runs(line, headed, None)
 }
 
+/// `[--run [--favour KIND] STEPS SEED]`
 fn picture(mut line: Line) -> Result<Task, WordFault>
     ensures value { result ≡ picture (line_of line.entry) }
     ensures within { IfOk result ReadsWithin }
@@ -279,9 +87,9 @@ fn picture(mut line: Line) -> Result<Task, WordFault>
     }
     if line.begins("--favour") {
         let kind = line.unit()?;
-        return run(line, Look::Picture, Some(kind));
+        return run(line, false, Look::Picture, Some(kind));
     }
-    run(line, Look::Picture, None)
+    run(line, false, Look::Picture, None)
 }
 
 /// `TILING CPP WIDTH HEIGHT`
@@ -333,33 +141,20 @@ fn explain(mut line: Line) -> Result<Task, WordFault>
     line.end(Task::Tell(Topic::Rule(name)))
 }
 
-fn strict_check(mut line: Line) -> Result<Task, WordFault>
-    ensures value { result ≡ verdict StrictVerdict StrictCheck (line_of line.entry) }
-    ensures within { IfOk result ReadsWithin }
-{
-    if line.begins("--quiet") {
-        return line.end(Task::Read(Command::StrictVerdict(Form::Quiet)));
-    }
-    if line.begins("--json") {
-        return line.end(Task::Read(Command::StrictVerdict(Form::Json)));
-    }
-    line.end(Task::Read(Command::StrictCheck))
-}
-
 fn check(mut line: Line) -> Result<Task, WordFault>
     ensures value { result ≡ check (line_of line.entry) }
     ensures within { IfOk result ReadsWithin }
 {
-    if line.begins("--strict") {
-        return strict_check(line);
-    }
+    let strict = line.begins("--strict");
     if line.begins("--quiet") {
-        return line.end(Task::Read(Command::Verdict(Form::Quiet)));
+        let form = Form::Quiet;
+        return line.end(Task::Read(Command::Verdict { strict, form }));
     }
     if line.begins("--json") {
-        return line.end(Task::Read(Command::Verdict(Form::Json)));
+        let form = Form::Json;
+        return line.end(Task::Read(Command::Verdict { strict, form }));
     }
-    line.end(Task::Read(Command::Check))
+    line.end(Task::Read(Command::Check { strict }))
 }
 
 fn show(mut line: Line) -> Result<Task, WordFault>
@@ -379,33 +174,19 @@ fn disasm(mut line: Line) -> Result<Task, WordFault>
     ensures value { result ≡ disasm (line_of line.entry) }
     ensures within { IfOk result ReadsWithin }
 {
-    if line.begins("--notes") {
-        return line.end(Task::Read(Command::NotedDisasm));
-    }
-    line.end(Task::Read(Command::Disasm))
-}
-
-fn strict_shader(mut line: Line) -> Result<Task, WordFault>
-    ensures value { result ≡ strict_shader (line_of line.entry) }
-    ensures within { IfOk result ReadsWithin }
-{
-    if line.begins("--asm") {
-        return line.end(Task::Read(Command::StrictShaderText));
-    }
-    line.end(Task::Read(Command::StrictShader))
+    let notes = line.begins("--notes");
+    line.end(Task::Read(Command::Disasm { notes }))
 }
 
 fn shader(mut line: Line) -> Result<Task, WordFault>
     ensures value { result ≡ shader (line_of line.entry) }
     ensures within { IfOk result ReadsWithin }
 {
-    if line.begins("--strict") {
-        return strict_shader(line);
-    }
+    let strict = line.begins("--strict");
     if line.begins("--asm") {
-        return line.end(Task::Read(Command::ShaderText));
+        return line.end(Task::Read(Command::ShaderText { strict }));
     }
-    line.end(Task::Read(Command::Shader))
+    line.end(Task::Read(Command::Shader { strict }))
 }
 
 fn example(mut line: Line) -> Result<Task, WordFault>

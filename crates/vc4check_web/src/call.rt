@@ -1,5 +1,5 @@
 //! The call.
-ghost use Rattle.std.specs.Prelude.{◌≡◌, ◌≢◌, IfOk, OnErr, Some};
+ghost use Rattle.std.specs.Prelude.{◌≡◌, ◌≢◌, false, IfOk, OnErr, Some};
 ghost use Rattle.commands.specs.declared.command.Command.TheVariants.{Check};
 ghost use Rattle.commands.specs.declared.command.Task.TheVariants.{Read};
 ghost use Rattle.commands.specs.Run.{Promises};
@@ -48,7 +48,7 @@ fn source_of(alloc: Global, input: &[u8]) -> Result<SteadySource, NoMemory>
 fn answer(alloc: Global, words: &[Word], input: &[u8]) -> Result<Report, NoMemory>
     ensures report { IfOk result (λ r. IsReport (task_or_fault (words_text words.now)) input.now
         r.status r.text.items r.cause) }
-    ensures safe { task_of (words_text words.now) ≡ Some (Read Check)
+    ensures safe { task_of (words_text words.now) ≡ Some (Read (Check false))
         → IfOk result (λ r. r.status ≡ 0 → MayRun input.now) }
 {
     let words = words_of(alloc, words)?;
@@ -122,7 +122,7 @@ pub extern "C" fn vc4check_run(
     ensures kept { result ≡ 5 → (text.new ≡ text.old) × (line.new ≡ line.old)
         × (lengths.new ≡ lengths.old) }
     // Each job of a file that `check` accepts may run from just the memory that is reported.
-    ensures safe { task_of (words_text words.now) ≡ Some (Read Check) → result ≡ 0
+    ensures safe { task_of (words_text words.now) ≡ Some (Read (Check false)) → result ≡ 0
         → MayRun input.now }
     ensures promises { Promises }
 {

@@ -1,9 +1,9 @@
 -- What `check` answers of an accepted file is safe to run.
 use Rattle.std.proofs.Common.{◌≡◌, true, Some, Ok, IfSome, sym, ap, subst, arith, rules, ◌∙◌}
 use Rattle.std.specs.Result.{result_ok}
-use Rattle.commands.specs.declared.command.{Command.Command, Command.TheVariants.Check, Command.TheVariants.StrictCheck, Task.TheVariants.Read}
+use Rattle.commands.specs.declared.command.{Command.Command, Command.TheVariants.Check, Task.TheVariants.Read}
 use Rattle.commands.specs.{Cause.IsCause, Cause.is_reported, Line.texts, Run.IsServed, Words.task_or_fault}
-use Rattle.commands.proofs.{Headline.safely_accepted, Headline.strictly_accepted, Promised.promises}
+use Rattle.commands.proofs.{Headline.safely_accepted, Promised.promises}
 use Rattle.commands.proofs.runs.run_with_cause.Goals as goal
 
 same_command : (one other : Command) → Some (Read one) ≡ Some (Read other) → one ≡ other
@@ -36,12 +36,9 @@ returns-in-Ok-Read g c =
             });
         made = search rules;
         said = search rules;
-        safe = λ asked zero.
-            let read : Some (Read own) ≡ Some (Read Check) = ap result_ok same ∙ asked in
-            safely_accepted left own status before now (same_command own Check read) zero (c.serve.ensures.answered (omega (arith, zero)));
-        strictly_safe = λ asked zero.
-            let read : Some (Read own) ≡ Some (Read StrictCheck) = ap result_ok same ∙ asked in
-            strictly_accepted left own status before now (same_command own StrictCheck read) zero (c.serve.ensures.answered (omega (arith, zero)));
+        safe = λ strict asked zero.
+            let read : Some (Read own) ≡ Some (Read (Check strict)) = ap result_ok same ∙ asked in
+            safely_accepted left own strict status before now (same_command own (Check strict) read) zero (c.serve.ensures.answered (omega (arith, zero)));
         promises = promises;
       };
       cause = λ command asked.

@@ -1,7 +1,7 @@
 //! The command `bound`.
-ghost use Rattle.std.specs.Prelude.{◌≡◌, ◌<◌, IfOk};
-ghost use Rattle.job_check.specs.Whole.{refusal_of};
-ghost use Rattle.commands.specs.{Cause.rule_cause, Verdict.IsBoundAnswer};
+ghost use Rattle.std.specs.Prelude.{IfOk};
+ghost use Rattle.commands.specs.Answer.{IsAnswerTo};
+ghost use Rattle.commands.specs.declared.command.Command.TheVariants.{Bound};
 
 use super::answer::Answer;
 use super::check::refused;
@@ -13,9 +13,7 @@ use std::alloc::Global;
 /// that isn't there, or a refusal.
 #[tactic(auto, unfolding(job_check::specs::Whole::refusal_of), using(field_words::proofs::Questions::first_is))]
 pub fn bound_answer(alloc: Global, bytes: &[u8]) -> Result<Answer, NoMemory>
-    ensures answers { IfOk result (λ a. IsBoundAnswer bytes.now a.status a.text.items) }
-    ensures status { IfOk result (λ a. a.status < 2) }
-    ensures cause { IfOk result (λ a. a.cause ≡ rule_cause bytes.now (refusal_of bytes.now)) }
+    ensures { IfOk result (IsAnswerTo Bound bytes.now) }
 {
     match bound_text(alloc, bytes) {
         Ok(text) => Ok(Answer::done(text)),

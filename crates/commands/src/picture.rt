@@ -1,7 +1,7 @@
 //! The command `picture`.
-ghost use Rattle.std.specs.Prelude.{◌≡◌, ◌<◌, IfOk};
-ghost use Rattle.job_check.specs.Whole.{refusal_of};
-ghost use Rattle.commands.specs.{Cause.rule_cause, Verdict.IsDrawnAnswer};
+ghost use Rattle.std.specs.Prelude.{IfOk};
+ghost use Rattle.commands.specs.Answer.{IsAnswerTo};
+ghost use Rattle.commands.specs.declared.command.Command.TheVariants.{Drawn};
 
 use super::answer::Answer;
 use super::check::{accept, refused_picture};
@@ -11,10 +11,8 @@ use std::alloc::Global;
 
 /// What `picture` answers to these bytes: the picture of an accepted file's memory, or nothing.
 #[tactic(auto, unfolding(job_check::specs::Whole::refusal_of), using(field_words::proofs::Questions::first_is))]
-pub fn drawn_answer(alloc: Global, bytes: &[u8]) -> Result<Answer, NoMemory>
-    ensures answers { IfOk result (λ a. IsDrawnAnswer bytes.now a.status a.text.items) }
-    ensures status { IfOk result (λ a. a.status < 2) }
-    ensures cause { IfOk result (λ a. a.cause ≡ rule_cause bytes.now (refusal_of bytes.now)) }
+pub fn picture_answer(alloc: Global, bytes: &[u8]) -> Result<Answer, NoMemory>
+    ensures { IfOk result (IsAnswerTo Drawn bytes.now) }
 {
     match accept(alloc, bytes) {
         Ok(accepted) => {

@@ -1,7 +1,7 @@
 -- The words are no more than a shader may have.
 use Rattle.std.proofs.Common.{◌/◌, length, ap, arith}
 use Rattle.job_check.proofs.Codes.{length_words}
-use Rattle.commands.proofs.lone_shader.code_in.Goals as goal
+use Rattle.commands.proofs.shader.code_in.Goals as goal
 
 pub returns-clause-few : goal.returns-clause-few
 returns-clause-few c =

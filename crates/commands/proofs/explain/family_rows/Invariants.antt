@@ -1,7 +1,7 @@
 -- The rules up to this number.
 use Rattle.std.proofs.Common.{◌≡◌, ◌≤◌, ◌-◌}
 use Rattle.commands.specs.Topics.{rows_upto}
-use Rattle.commands.proofs.help.family_rows.Given as goal
+use Rattle.commands.proofs.explain.family_rows.Given as goal
 
 abbrev pub invariant-loop-number : goal.invariant-loop-number
 invariant-loop-number l = record {

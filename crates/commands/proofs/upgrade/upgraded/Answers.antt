@@ -6,7 +6,7 @@ use Rattle.job_format.specs.{Faults.format_questions, File.file_upgraded, Text.f
 use Rattle.job_check.specs.Whole.{format_refused}
 use Rattle.commands.specs.Upgrade.{format_rules}
 use Rattle.commands.proofs.Versions.{stopped}
-use Rattle.commands.proofs.upgrading.upgraded.Goals as goal
+use Rattle.commands.proofs.upgrade.upgraded.Goals as goal
 
 pub returns-in_ok-write_job-in-Ok-clause-answers : goal.returns-in_ok-write_job-in-Ok-clause-answers
 returns-in_ok-write_job-in-Ok-clause-answers c = (

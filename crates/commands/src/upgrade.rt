@@ -1,10 +1,11 @@
 //! The command `upgrade`.
-ghost use Rattle.std.specs.Prelude.{◌≡◌, ◌<◌, IfOk, IsOk};
-ghost use Rattle.field_words.specs.Questions.{Answers, first_of};
+ghost use Rattle.std.specs.Prelude.{◌≡◌, IfOk, IsOk};
+ghost use Rattle.field_words.specs.Questions.{Answers};
 ghost use Rattle.job_format.specs.File.{IsFileOf, file_upgraded};
 ghost use Rattle.job_format.specs.Reading.{file_at};
 ghost use Rattle.job_format.specs.Text.{file_text};
-ghost use Rattle.commands.specs.{Cause.rule_cause, Upgrade.format_rules, Verdict.IsUpgradeAnswer};
+ghost use Rattle.commands.specs.{Answer.IsAnswerTo, Upgrade.format_rules};
+ghost use Rattle.commands.specs.declared.command.Command.TheVariants.{Upgrade};
 
 use super::answer::Answer;
 use super::check::refused;
@@ -28,10 +29,7 @@ fn upgraded(alloc: Global, bytes: &[u8]) -> Result<Vec<u8>, Stop<Refusal>>
 /// What `upgrade` answers to these bytes: the same file as version 2, or the first broken rule of the format.
 #[tactic(auto, using(field_words::proofs::Questions::first_is))]
 pub fn upgrade_answer(alloc: Global, bytes: &[u8]) -> Result<Answer, NoMemory>
-    ensures answers { IfOk result (λ a. IsUpgradeAnswer bytes.now a.status a.text.items) }
-    ensures status { IfOk result (λ a. a.status < 2) }
-    ensures cause { IfOk result (λ a. a.cause
-        ≡ rule_cause bytes.now (first_of (format_rules bytes.now))) }
+    ensures { IfOk result (IsAnswerTo Upgrade bytes.now) }
 {
     match upgraded(alloc, bytes) {
         Ok(text) => Ok(Answer::done(text)),

@@ -7,7 +7,7 @@ use Rattle.qpu_isa.specs.{declared.inst.Sample.Sample, Shader.ShaderModel}
 use Rattle.shader_check.specs.{declared.fault.ShaderFault.ShaderFault, Rules.shader_questions}
 use Rattle.rule_words.specs.{declared.name.RuleName.RuleName, Names.name_text}
 use Rattle.strict_rules.specs.{declared.rule.StrictFault.StrictFault, Rules.strict_questions}
-use Rattle.commands.specs.{Shader.fault_text, Cause.shader_rule, Cause.strict_rule}
+use Rattle.commands.specs.{Shader.fault_text, Cause.shader_rule, Cause.strict_rule, Cause.strict_fault}
 
 -- the uniforms that a sample's set-up words are
 unfoldable pub position_text : Option ℕ → List ℕ
@@ -46,50 +46,36 @@ unfoldable pub long_text : ℕ → List ℕ
 long_text count = codes "instructions " ++ (decimal count ++ codes "\n")
 
 -- what is answered of a shader in which no rule is broken: what it takes and reads
-abbrev pub IsReported : List ℕ → ℕ → List ℕ → Type 0
-IsReported code status text = (status ≡ 0) × (text ≡ shader_text (report_of code))
+abbrev pub IsFine : List ℕ → ℕ → List ℕ → Type 0
+IsFine code status text = (status ≡ 0) × (text ≡ shader_text (report_of code))
 
--- or, with the strict rules, the first of them that it breaks
+-- or the first of the strict rules that it breaks, where they are asked
 abbrev pub IsReportedBy : List ℕ → Option StrictFault → ℕ → List ℕ → Type 0
-IsReportedBy code None status text = IsReported code status text
+IsReportedBy code None status text = IsFine code status text
 IsReportedBy code (Some fault) status text =
     (status ≡ 1) × (text ≡ shader_refusal (strict_rule fault) fault.at) × IsFirst (strict_questions code) fault
 
-abbrev pub IsStrictlyReported : List ℕ → ℕ → List ℕ → Type 0
-IsStrictlyReported code status text = IsReportedBy code (first_of (strict_questions code)) status text
+abbrev pub IsReported : (strict : Bool) → List ℕ → ℕ → List ℕ → Type 0
+IsReported strict code status text = IsReportedBy code (strict_fault strict code) status text
 
--- Of what is answered where no rule is broken: else it is refused by the first rule that does.
-module _ (IsFine : List ℕ → ℕ → List ℕ → Type 0) where
-  abbrev pub IsShaderVerdict : List (Question ShaderFault) → List ℕ → Option ShaderFault → ℕ → List ℕ → Type 0
-  IsShaderVerdict questions code None status text = IsFine code status text
-  IsShaderVerdict questions code (Some fault) status text =
-      (status ≡ 1) × (text ≡ shader_refusal (shader_rule fault) fault.index) × IsFirst questions fault
+-- where another rule is broken, it is refused by the first that is
+abbrev pub IsVerdict : (strict : Bool) → List (Question ShaderFault) → List ℕ → Option ShaderFault → ℕ → List ℕ → Type 0
+IsVerdict strict questions code None status text = IsReported strict code status text
+IsVerdict strict questions code (Some fault) status text =
+    (status ≡ 1) × (text ≡ shader_refusal (shader_rule fault) fault.index) × IsFirst questions fault
 
-  -- the words that the bytes spell, 8 bytes each; the first rule is that they are whole words
-  abbrev pub IsBytesAnswer : List ℕ → ℕ → List ℕ → Type 0
-  IsBytesAnswer bytes status text = IsShaderVerdict (code_questions bytes) (words_of bytes) (first_of (code_questions bytes)) status text
+-- the words that the bytes spell, 8 bytes each; the first rule is that they are whole words
+abbrev pub IsShaderAnswer : (strict : Bool) → List ℕ → ℕ → List ℕ → Type 0
+IsShaderAnswer strict bytes status text = IsVerdict strict (code_questions bytes) (words_of bytes) (first_of (code_questions bytes)) status text
 
-  -- these words, of which there may be too many
-  abbrev pub IsWordsAnswer : List ℕ → ℕ → List ℕ → Type 0
-  IsWordsAnswer code status text =
-      ((length code ≤ most_words) × IsShaderVerdict (shader_questions code) code (first_of (shader_questions code)) status text)
-      ⊎ ((most_words < length code) × (status ≡ 1) × (text ≡ long_text (length code)))
+-- these words, of which there may be too many
+abbrev pub IsWordsAnswer : (strict : Bool) → List ℕ → ℕ → List ℕ → Type 0
+IsWordsAnswer strict code status text =
+    ((length code ≤ most_words) × IsVerdict strict (shader_questions code) code (first_of (shader_questions code)) status text)
+    ⊎ ((most_words < length code) × (status ≡ 1) × (text ≡ long_text (length code)))
 
-  -- the words of a text without faults; any other text is answered as `asm` does, with its first fault
-  abbrev pub IsTextAnswer : List ℕ → ℕ → List ℕ → Type 0
-  IsTextAnswer text status out =
-      ((code : List ℕ) × (Assembled text ≡ Ok code) × IsWordsAnswer code status out)
-      ⊎ ((fault : AsmFault) × (Assembled text ≡ Err fault) × (status ≡ 1) × (out ≡ fault_text fault))
-
--- without the strict rules, and with them
-abbrev pub IsShaderAnswer : List ℕ → ℕ → List ℕ → Type 0
-IsShaderAnswer = IsBytesAnswer IsReported
-
-abbrev pub IsShaderTextAnswer : List ℕ → ℕ → List ℕ → Type 0
-IsShaderTextAnswer = IsTextAnswer IsReported
-
-abbrev pub IsStrictShaderAnswer : List ℕ → ℕ → List ℕ → Type 0
-IsStrictShaderAnswer = IsBytesAnswer IsStrictlyReported
-
-abbrev pub IsStrictShaderTextAnswer : List ℕ → ℕ → List ℕ → Type 0
-IsStrictShaderTextAnswer = IsTextAnswer IsStrictlyReported
+-- the words of a text without faults; any other text is answered as `asm` does, with its first fault
+abbrev pub IsShaderTextAnswer : (strict : Bool) → List ℕ → ℕ → List ℕ → Type 0
+IsShaderTextAnswer strict text status out =
+    ((code : List ℕ) × (Assembled text ≡ Ok code) × IsWordsAnswer strict code status out)
+    ⊎ ((fault : AsmFault) × (Assembled text ≡ Err fault) × (status ≡ 1) × (out ≡ fault_text fault))

@@ -1,0 +1,63 @@
+//! The command `show`.
+ghost use Rattle.std.specs.Prelude.{◌≡◌, false, Ok, IfOk};
+ghost use Rattle.job_text.specs.Made.{text_bytes};
+ghost use Rattle.commands.specs.{Answer.IsAnswerTo, Show.IsShown};
+ghost use Rattle.commands.specs.declared.command.Command.TheVariants.{Show};
+
+use super::answer::Answer;
+use super::check::refusal_in;
+use field_words::NoMemory;
+use job_format::{Refusal, offset_of};
+use job_text::{Omitted, View, show};
+use refusal_facts::line_of;
+use std::alloc::Global;
+
+/// What is asked of `show`: whether the strict rules count too, and what is left out.
+#[derive(Clone, Copy, Debug, PartialEq, Eq)]
+pub struct Showing {
+    pub strict: bool,
+    pub omitted: Omitted,
+}
+
+// The text of bytes that this rule refuses, or none.
+fn shown_text(
+    alloc: Global,
+    omitted: Omitted,
+    bytes: &[u8],
+    refusal: Option<Refusal>,
+) -> Result<Vec<u8>, NoMemory>
+    ensures text { IfOk result (λ text. IsShown omitted bytes.now refusal text.items) }
+    ensures again { IfOk result (λ text. omitted.contents ≡ false
+        → text_bytes text.items ≡ Ok bytes.now) }
+{
+    match refusal {
+        None => {
+            let view = View {
+                omitted,
+                refused: None,
+                why: b"",
+            };
+            show(alloc, bytes, view)
+        }
+        Some(refusal) => {
+            let line = line_of(alloc, bytes, refusal)?;
+            let why = format!(in alloc; "{line}")?;
+            let view = View {
+                omitted,
+                refused: Some(offset_of(bytes, refusal.place)),
+                why: why.as_bytes(),
+            };
+            show(alloc, bytes, view)
+        }
+    }
+}
+
+/// What `show` answers to any bytes: lines of text on which all of them stand, but for what is left out. Where a rule refuses them, the
+/// line of its offset is marked, and the line that tells the refusal follows. A strict rule is marked if no other refuses the bytes.
+pub fn show_answer(alloc: Global, showing: Showing, bytes: &[u8]) -> Result<Answer, NoMemory>
+    ensures { IfOk result (IsAnswerTo (Show showing) bytes.now) }
+{
+    let refusal = refusal_in(alloc, showing.strict, bytes)?;
+    let text = shown_text(alloc, showing.omitted, bytes, refusal)?;
+    Ok(Answer::done(text))
+}
