@@ -1,5 +1,5 @@
-/* check FILE: checks a job file, and prints what `vc4check check` prints of it. Status 0: accepted, 1: refused, 3: the file can't
- * be read, 5: want of memory. */
+/* check FILE: checks a job file, and prints what `vc4check check` prints of it, and the facts of a refusal on standard error. Status 0: accepted,
+ * 1: refused, 3: the file can't be read, 5: want of memory. */
 #include <stdio.h>
 #include <stdlib.h>
 #include "vc4check.h"
@@ -50,6 +50,13 @@ static void print_accepted(const struct vc4check_answer *a, int version, const u
     puts("end");
 }
 
+/* What the file says where a rule refuses it. */
+static void print_facts(const uint8_t *bytes, size_t length, const struct vc4check_answer *answer) {
+    char text[256];
+    size_t size;
+    if (vc4check_facts(bytes, length, answer, text, sizeof text, &size) == VC4CHECK_ACCEPTED && size > 0) fprintf(stderr, "[%s]\n", text);
+}
+
 int main(int count, char **words) {
     size_t length = 0;
     uint8_t *bytes = count == 2 ? whole(words[1], &length) : NULL;
@@ -62,7 +69,10 @@ int main(int count, char **words) {
         status = block ? vc4check_check(bytes, length, block, answer.size, &answer) : VC4CHECK_NO_MEMORY;
     }
     if (status == VC4CHECK_ACCEPTED) print_accepted(&answer, bytes[4], block);
-    if (status == VC4CHECK_REFUSED) printf("refused %c%u at %llu\n", (int)answer.letter, answer.number, (unsigned long long)answer.offset);
+    if (status == VC4CHECK_REFUSED) {
+        printf("refused %c%u at %llu\n", (int)answer.letter, answer.number, (unsigned long long)answer.offset);
+        print_facts(bytes, length, &answer);
+    }
     free(block);
     free(bytes);
     return status > VC4CHECK_REFUSED ? 5 : (int)status;

@@ -33,7 +33,7 @@ extern "C" {
 #endif
 
 /* The version of this header. It is that of the library where vc4check_version() answers the same. */
-#define VC4CHECK_VERSION 5
+#define VC4CHECK_VERSION 6
 
 /* How a call ended. */
 enum {
@@ -359,6 +359,16 @@ size_t vc4check_sentence(uint32_t letter, uint32_t number, char *text, size_t ro
 
 /* Room that is enough for every sentence. */
 #define VC4CHECK_SENTENCE_ROOM 256
+
+/*
+ * What the job file says where a rule refuses it, as "needs 36 bytes, has 12". `answer` is what vc4check_check or vc4check_place told of these
+ * bytes. The text is put into `text` as by vc4check_sentence, and its whole length without the zero byte into `size`: 0 where there is no more to
+ * say than the sentence, or `answer` tells no refusal of these bytes. The rules are asked again.
+ *
+ * VC4CHECK_ACCEPTED   the text and its length are written.
+ * VC4CHECK_NO_MEMORY  `text` and `size` are as before.
+ */
+uint32_t vc4check_facts(const uint8_t *bytes, size_t length, const struct vc4check_answer *answer, char *text, size_t room, size_t *size);
 
 /*
  * Checks a shader by itself: `words` instructions of 64 bits. Where no rule is broken, its samples are put into `samples` and the

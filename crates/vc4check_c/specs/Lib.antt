@@ -1,5 +1,6 @@
 pub mod Block
 pub mod Bound
+pub mod Facts
 pub mod Hardware
 pub mod Jobs
 pub mod Joins

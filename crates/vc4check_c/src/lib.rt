@@ -6,6 +6,7 @@
 
 mod block;
 mod bound;
+mod facts;
 mod hardware;
 mod jobs;
 mod known;

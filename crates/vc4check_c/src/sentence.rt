@@ -51,19 +51,26 @@ fn put_text(text: &[u8], room: &mut [u8])
     room[text.len()] = 0;
 }
 
+/// Puts as much of a text as there is room for to the room's start, and a zero byte behind it; the result is the whole text's length.
+#[tactic(auto, unfolding(crate::specs::Sentence::c_text))]
+pub(crate) fn put_c_text(text: &[u8], room: &mut [u8]) -> usize
+    ensures whole { result ≡ length text.now }
+    ensures report { room.new ≡ with_front room.old (c_text (length room.old) text.now) }
+{
+    if !room.is_empty() {
+        put_text(cut(text, room.len()), room);
+    }
+    text.len()
+}
+
 /// Tells in a sentence what is wrong where the rule of this letter (in ASCII, in either case) and this number refuses. The text is put to
 /// the room's start with a zero byte behind it, cut off where the room is too small; the room's further bytes stay. The result is the
 /// length of the whole sentence without the zero byte: 0 where there is no such rule.
 #[unsafe(no_mangle)]
-#[tactic(auto, unfolding(crate::specs::Sentence::c_text))]
 pub extern "C" fn vc4check_sentence(letter: u32, number: u32, room: &mut [u8]) -> usize
     ensures whole { result ≡ length (sentence_reported letter number) }
     ensures report { room.new ≡ with_front room.old
         (c_text (length room.old) (sentence_reported letter number)) }
 {
-    let text = sentence(letter, number);
-    if !room.is_empty() {
-        put_text(cut(text, room.len()), room);
-    }
-    text.len()
+    put_c_text(sentence(letter, number), room)
 }

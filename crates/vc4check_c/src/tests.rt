@@ -3,6 +3,7 @@
 
 use crate::block::{MadeAnswer, vc4check_make_shader};
 use crate::bound::{NO_BOUND, vc4check_bound};
+use crate::facts::vc4check_facts;
 use crate::jobs::{JobLists, JobsAnswer, vc4check_check};
 use crate::place::vc4check_place;
 use crate::shader::{ShaderAnswer, ShaderSample, vc4check_shader};
@@ -76,6 +77,8 @@ fn refuses(rt: HostRuntime) -> Result<(), Fail> {
     assert!(rt; vc4check_check(alloc, &[], &mut [], &mut all) == REFUSED);
     assert!(rt; vc4check_place(alloc, &[], &mut [], &mut all) == REFUSED);
     assert!(rt; vc4check_bound(alloc, &[], &mut bound) == REFUSED);
+    let mut size = 0;
+    assert!(rt; vc4check_facts(alloc, &[], &all, &mut [], &mut size) == ACCEPTED);
     Ok(())
 }
 
