@@ -5,6 +5,7 @@
  * Environment: VC4CHECK_SAVE=FOLDER  writes each job as a job file, FOLDER/PID-NUMBER.vc4j, and beside it, .answer, what the call said of it
  *              VC4CHECK_STRICT=1     refuses a refused job with EINVAL, as the kernel does
  *              VC4CHECK_QUIET=1      no line for an accepted job
+ *              VC4CHECK_MOST=N       ends the program at its Nth job
  */
 #define _GNU_SOURCE
 #include <dlfcn.h>
@@ -220,6 +221,13 @@ static uint32_t check(const struct vc4check_submission *submission, struct vc4ch
     return status;
 }
 
+__attribute__((destructor)) static void sum_up(void) {
+    if (!jobs) return;
+    fprintf(stderr, "vc4check: %u jobs, %u accepted, %u refused", jobs, accepted, refused);
+    for (size_t i = 0; i < sizeof why / sizeof *why && why[i].count; i++) fprintf(stderr, "%s%s %u times", i ? ", " : " (", why[i].rule, why[i].count);
+    fprintf(stderr, "%s, %.0f microseconds a job\n", why[0].count ? ")" : "", 1e6 * seconds / jobs);
+}
+
 static int submit(struct drm_vc4_submit_cl *asked) {
     struct vc4check_submission submission;
     struct vc4check_verdict verdict = {0};
@@ -239,7 +247,10 @@ static int submit(struct drm_vc4_submit_cl *asked) {
     }
     free(entries);
     free(handles);
-    return judge(status, &verdict);
+    const char *most = getenv("VC4CHECK_MOST");
+    int answer = judge(status, &verdict);
+    if (most && jobs >= strtoul(most, NULL, 10)) sum_up(), _exit(0);
+    return answer;
 }
 
 static int tell_version(struct drm_version *asked) {
@@ -332,17 +343,21 @@ int open64(const char *name, int flags, ...) {
 }
 
 /* What libdrm would find in /sys: one platform device. */
-int drmGetDevice2(int fd, uint32_t flags, drmDevicePtr *found) {
+static drmDevicePtr the_device(void) {
     static char card[] = "/dev/dri/card0", render[] = "/dev/dri/renderD128";
     static char *nodes[DRM_NODE_MAX] = {[DRM_NODE_PRIMARY] = card, [DRM_NODE_RENDER] = render};
     static drmPlatformBusInfo bus = {"vc4"};
     static drmPlatformDeviceInfo info;
     static drmDevice device = {.nodes = nodes, .available_nodes = 1 << DRM_NODE_PRIMARY | 1 << DRM_NODE_RENDER, .bustype = DRM_BUS_PLATFORM};
-    (void)flags;
-    if (!is_device(fd)) return -ENODEV;
     device.businfo.platform = &bus;
     device.deviceinfo.platform = &info;
-    *found = &device;
+    return &device;
+}
+
+int drmGetDevice2(int fd, uint32_t flags, drmDevicePtr *found) {
+    (void)flags;
+    if (!is_device(fd)) return -ENODEV;
+    *found = the_device();
     return 0;
 }
 
@@ -351,12 +366,17 @@ int drmGetDevice(int fd, drmDevicePtr *found) {
 }
 
 int drmGetDevices2(uint32_t flags, drmDevicePtr found[], int most) {
-    (void)flags, (void)found, (void)most;
-    return 0;
+    (void)flags;
+    if (found && most > 0) found[0] = the_device();
+    return 1;
 }
 
 void drmFreeDevice(drmDevicePtr *device) {
     *device = NULL;
+}
+
+void drmFreeDevices(drmDevicePtr devices[], int count) {
+    (void)devices, (void)count;
 }
 
 int drmDevicesEqual(drmDevicePtr one, drmDevicePtr other) {
@@ -365,11 +385,4 @@ int drmDevicesEqual(drmDevicePtr one, drmDevicePtr other) {
 
 int drmGetNodeTypeFromFd(int fd) {
     return is_device(fd) ? DRM_NODE_RENDER : -1;
-}
-
-__attribute__((destructor)) static void sum_up(void) {
-    if (!jobs) return;
-    fprintf(stderr, "vc4check: %u jobs, %u accepted, %u refused", jobs, accepted, refused);
-    for (size_t i = 0; i < sizeof why / sizeof *why && why[i].count; i++) fprintf(stderr, "%s%s %u times", i ? ", " : " (", why[i].rule, why[i].count);
-    fprintf(stderr, "%s, %.0f microseconds a job\n", why[0].count ? ")" : "", 1e6 * seconds / jobs);
 }
