@@ -142,9 +142,10 @@ function refusalOf(text) {
 
 /** Shows a refusal, with the lines about the one where it is. */
 async function refused({ line }, lines, at, answer) {
-  const [, sentence, place, topic] = /^vc4check: (?:\w+: )?(.*?)(?: \(([^()]*)\))?(?:; see vc4check explain (.+))?$/.exec(line) ?? [null, line];
+  const [, sentence, place, facts, topic] = /^vc4check: (?:\w+: )?(.*?)(?: \(([^()]*)\))?(?: \[(.*)\])?(?:; see vc4check explain ([\w ]+).*)?$/.exec(line) ?? [null, line];
   const about = topic ? utf8((await run(["explain", ...topic.split(" ")])).text).replace(/(?<!\n)\n(?=[^\s-])/g, " ") : "";
-  verdict({ className: "refused", answer, why: sentence && `${sentence[0].toUpperCase()}${sentence.slice(1)}.`, place: place && !place.startsWith("instruction") ? `In the ${place}.` : "", about });
+  const where = place && !place.startsWith("instruction") ? `In the ${place}${facts ? `: ${facts}` : ""}.` : "";
+  verdict({ className: "refused", answer, why: sentence && `${sentence[0].toUpperCase()}${sentence.slice(1)}.`, place: where, about });
   if (at >= 0) mark($("marked"), lines, at, 3);
 }
 
