@@ -11,14 +11,18 @@ ghost use Rattle.std.specs.declared.io.ErrorKind.TheVariants.{OutOfMemory};
 use job_io::{ReaderSource, Sink, Source, WriterSink};
 use std::alloc::{AllocError, Global};
 use std::fs::File;
-use std::io::{Eprint, Read, Write};
+use std::io::{Eprint, IsTerminal, Read, Stderr, Write};
 use std::process::{ExitCode, Termination};
+use std::time::Instant;
 use std::{env, fmt, fs, io};
 
 /// What the ends of the program are called where no file is named.
 const STDIN: &str = "standard input";
 
 const STDOUT: &str = "standard output";
+
+/// What wipes a terminal's line from the cursor on.
+const WIPE: &str = "\x1b[K";
 
 /// How a run ended: its status, and why, where there is something to say.
 #[derive(Clone, Copy, Debug, Drop)]
@@ -156,23 +160,32 @@ fn tell_notice<P: Program>(rt: &HostRuntime, program: &P, status: u8) {
     }
 }
 
-/// Whether the reader of standard output has gone, which is no news to anybody.
-fn is_gone(failure: Option<io::Error>) -> bool {
-    match failure {
-        Some(error) => error.kind() == io::ErrorKind::BrokenPipe,
-        None => false,
-    }
+/// Says on standard error what a status means, and answers it.
+fn fail_with<P: Program>(rt: &HostRuntime, program: &P, status: u8) -> u8
+    ensures { result ≡ status }
+{
+    tell_notice(rt, program, status);
+    status
 }
 
-/// A writer that writes these bytes before the first that it is given.
+/// Whether the reader of standard output has gone, which is no news to anybody.
+fn is_gone(failure: Option<io::Error>) -> bool {
+    failure.is_some_and(|error| error.kind() == io::ErrorKind::BrokenPipe)
+}
+
+/// A writer that writes these bytes before the first that it is given, and before them what wipes a line on standard error.
 #[derive(Drop)]
 struct Headed<W> {
     inner: W,
     heading: Vec<u8>,
+    stderr: Stderr,
+    wipe: &'static str,
 }
 
 impl<W: Write> Write for Headed<W> {
     fn write(&mut self, bytes: &[u8]) -> io::Result<usize> {
+        let _ = self.stderr.eprint(self.wipe);
+        self.wipe = "";
         self.inner.write_all(&self.heading)?;
         self.heading.clear();
         self.inner.write(bytes)
@@ -183,13 +196,17 @@ impl<W: Write> Write for Headed<W> {
     }
 }
 
-/// A program that is to be run on a file, which is one of so many: its words, and the file's name, or `-` for standard input.
+/// A program that is to be run on a file, which is one of so many: its words, and the file's name, or `-` for standard input; and how many
+/// files are done since when.
 #[derive(Drop)]
 struct Turn<'a, P> {
+    rt: &'a HostRuntime,
     program: &'a P,
     words: &'a Vec<String>,
     name: &'a str,
     count: usize,
+    done: usize,
+    began: io::Result<Instant>,
 }
 
 impl<'a, P: Program> Turn<'a, P> {
@@ -201,108 +218,112 @@ impl<'a, P: Program> Turn<'a, P> {
         self.name
     }
 
-    /// Says on standard error what a status means. Where that fails there is nobody to tell.
-    fn tell_notice(&self, rt: &HostRuntime, status: u8) {
-        tell_notice(rt, self.program, status)
-    }
-
     /// Says what is wrong with the file, or with an end of the program.
-    fn tell_of<D: fmt::Display + Drop>(&self, rt: &HostRuntime, name: &str, reason: D) {
-        let _ = eprintln!(rt; "{}: {name}: {reason}", self.program.name());
+    fn tell_of<D: fmt::Display + Drop>(&self, name: &str, reason: D) {
+        let _ = eprintln!(self.rt; "{}: {name}: {reason}", self.program.name());
     }
 
     /// Says of the file, or of an end of the program, how it failed; or where that isn't known what the status means.
-    fn tell_failure(&self, rt: &HostRuntime, name: &str, failure: Option<io::Error>, status: u8) {
+    fn tell_failure(&self, name: &str, failure: Option<io::Error>, status: u8) {
         match failure {
-            Some(error) => self.tell_of(rt, name, error),
-            None => self.tell_notice(rt, status),
+            Some(error) => self.tell_of(name, error),
+            None => tell_notice(self.rt, self.program, status),
         }
     }
 
     /// Says why the run ended as it did, of which of several files.
-    fn tell_cause(&self, rt: &HostRuntime, cause: P::Cause) {
+    fn tell_cause(&self, cause: P::Cause) {
         let _ = if self.count > 1 {
-            eprintln!(rt; "{}: {cause}", self.input())
+            eprintln!(self.rt; "{}: {cause}", self.input())
         } else {
-            rt.eprintln(cause)
+            self.rt.eprintln(cause)
         };
+    }
+
+    /// Says on a terminal how many files are done where that took over a second, and answers what wipes this line, over which the next
+    /// is written.
+    fn show_progress(&self) -> io::Result<&'static str> {
+        if self.began?.elapsed(self.rt)?.as_secs() == 0 || !self.rt.stderr().is_terminal() {
+            return Ok("");
+        }
+        eprint!(self.rt; "{} of {} files\r", self.done, self.count)?;
+        Ok(WIPE)
     }
 
     /// Runs the program over this reader and a writer, and says what there is to say. A reader of standard output that has enough learns
     /// nothing.
-    fn run_between<R: Read + Drop, W: Write + Drop>(
-        &self,
-        rt: &HostRuntime,
-        reader: R,
-        writer: W,
-    ) -> u8 {
+    fn run_between<R: Read + Drop, W: Write + Drop>(&self, reader: R, writer: W) -> u8 {
+        let rt = self.rt;
         let named = self
             .program
             .heading(rt.alloc(), self.words, self.name, self.count);
         let Ok(heading) = named else {
-            self.tell_notice(rt, 5);
-            return 5;
+            return fail_with(rt, self.program, 5);
         };
+        let wipe = self.show_progress().unwrap_or("");
         let mut input = Watched::new(reader);
         let mut output = Watched::new(Headed {
             inner: writer,
             heading,
+            stderr: rt.stderr(),
+            wipe,
         });
         let mut source = ReaderSource::new(&mut input);
         let mut sink = WriterSink::new(&mut output);
         let ended = self
             .program
             .run(rt.alloc(), self.words, &mut source, &mut sink);
+        let _ = rt.eprint(wipe);
         let Ended { status, cause } = ended;
         match (cause, status) {
-            (Some(cause), _) => self.tell_cause(rt, cause),
+            (Some(cause), _) => self.tell_cause(cause),
             (None, _) if is_gone(output.failure) => {}
-            (None, 3) => self.tell_failure(rt, self.input(), input.failure, status),
-            (None, 4) => self.tell_failure(rt, STDOUT, output.failure, status),
-            (None, 6) => self.tell_of(rt, self.input(), self.program.excess(self.words)),
-            (None, _) => self.tell_notice(rt, status),
+            (None, 3) => self.tell_failure(self.input(), input.failure, status),
+            (None, 4) => self.tell_failure(STDOUT, output.failure, status),
+            (None, 6) => self.tell_of(self.input(), self.program.excess(self.words)),
+            (None, _) => tell_notice(rt, self.program, status),
         }
         status
     }
 
     /// Puts the output of a run into the file of this name where the status is 0, and else on standard output. It says the status, which
     /// is 4 where that failed.
-    fn deliver(&self, rt: &HostRuntime, to: &str, output: &Vec<u8>, status: u8) -> u8 {
+    fn deliver(&self, to: &str, output: &Vec<u8>, status: u8) -> u8 {
         let (place, done) = if status == 0 {
-            (to, fs::write(rt, to, output.as_slice()))
+            (to, fs::write(self.rt, to, output.as_slice()))
         } else {
-            (STDOUT, rt.stdout().write_all(output))
+            (STDOUT, self.rt.stdout().write_all(output))
         };
         match done {
             Ok(()) => status,
             Err(error) => {
-                self.tell_of(rt, place, error);
+                self.tell_of(place, error);
                 4
             }
         }
     }
 
     /// Runs the program over this reader, with standard output as its sink, or the file that the words name.
-    fn run_on<R: Read + Drop>(&self, rt: &HostRuntime, reader: R) -> u8 {
+    fn run_on<R: Read + Drop>(&self, reader: R) -> u8 {
         match self.words.get(2) {
             Some(to) if self.program.names_output(self.words) => {
-                let mut output = Vec::new(rt.alloc());
-                let status = self.run_between(rt, reader, &mut output);
-                self.deliver(rt, to, &output, status)
+                let mut output = Vec::new(self.rt.alloc());
+                let status = self.run_between(reader, &mut output);
+                self.deliver(to, &output, status)
             }
-            _ => self.run_between(rt, reader, rt.stdout()),
+            _ => self.run_between(reader, self.rt.stdout()),
         }
     }
 
     /// Runs the program on the file. One that can't be opened is status 3.
-    fn run(&self, rt: &HostRuntime) -> u8 {
+    fn run(&self) -> u8 {
         if self.name == "-" {
-            return self.run_on(rt, rt.stdin());
+            return self.run_on(self.rt.stdin());
         }
-        match File::open(rt, self.name) {
-            Ok(file) => self.run_on(rt, file),
+        match File::open(self.rt, self.name) {
+            Ok(file) => self.run_on(file),
             Err(error) => {
-                self.tell_of(rt, self.name, error);
+                self.tell_of(self.name, error);
                 3
             }
         }
@@ -311,10 +332,7 @@ impl<'a, P: Program> Turn<'a, P> {
 
 /// Whether this is the name of a folder.
 fn is_folder(rt: &HostRuntime, name: &str) -> bool {
-    match fs::metadata(rt, name) {
-        Ok(metadata) => metadata.is_dir(),
-        Err(_) => false,
-    }
+    fs::metadata(rt, name).is_ok_and(|metadata| metadata.is_dir())
 }
 
 /// The files of a folder in order of their names, each with the folder before it, without those of folders in it.
@@ -350,15 +368,19 @@ fn run_on_each<P: Program>(
     words: &Vec<String>,
     names: &Vec<String>,
 ) -> u8 {
+    let began = Instant::now(rt);
     let mut greatest = 0;
-    for name in names {
+    for (done, name) in names.iter().enumerate() {
         let turn = Turn {
+            rt,
             program,
             words,
             name,
             count: names.len(),
+            done,
+            began,
         };
-        greatest = greatest.max(turn.run(rt));
+        greatest = greatest.max(turn.run());
     }
     greatest
 }
@@ -394,10 +416,7 @@ fn take_names<P: Program>(
 fn run_on_words<P: Program>(rt: &HostRuntime, program: &P, mut words: Vec<String>) -> u8 {
     match take_names(rt, program, &mut words) {
         Ok(names) => run_on_each(rt, program, &words, &names),
-        Err(_) => {
-            tell_notice(rt, program, 5);
-            5
-        }
+        Err(_) => fail_with(rt, program, 5),
     }
 }
 
@@ -408,11 +427,7 @@ fn run_with<P: Program>(rt: &HostRuntime, program: &P, words: io::Result<Vec<Str
 {
     match words {
         Ok(words) => run_on_words(rt, program, words),
-        Err(error) => {
-            let status = wordless(&error);
-            tell_notice(rt, program, status);
-            status
-        }
+        Err(error) => fail_with(rt, program, wordless(&error)),
     }
 }
 
@@ -433,8 +448,8 @@ impl Termination for Ran {
 }
 
 /// Runs the program over standard input, or over the files that its last words name, one after the other, and standard output. The status
-/// is the greatest of these runs. It is 5 where memory
-/// ran out before the words were there, and 2 where they aren't text.
+/// is the greatest of these runs. It is 5 where memory ran out before the words were there, and 2 where they aren't text.
+/// Where several files take over a second, standard error shows how many are done, if it is a terminal.
 pub fn run<P: Program>(rt: &HostRuntime, program: &P) -> Ran
     ensures { P.promises }
 {
