@@ -1,9 +1,10 @@
 -- The walk over a binner list, from state to state.
-use Rattle.std.proofs.Common.{◌≡◌, ◌≢◌, ℕ, zero, suc, ◌≤◌, Bool, true, false, List, [], ◌∷◌, length, refl, ap, arith, ◌∙◌}
+use Rattle.std.proofs.Common.{◌≡◌, ◌≢◌, ℕ, zero, suc, ◌+◌, ◌≤◌, Bool, true, false, List, [], ◌∷◌, length, Option, Some, None, refl, ap, arith, ◌∙◌}
 use Rattle.std.specs.Prelude.{if◌then◌else◌, ◌==◌, max}
 use Rattle.field_words.specs.Words.{u32_at}
 use Rattle.packets.specs.Opcode.{gl_shader_state}
 use Rattle.bin_list.specs.{Packets.opcode, Packets.front_packet, Packets.behind, Packets.front_packets, Packets.packets, States.draws_to, States.greatest, States.state, States.states_of}
+use Rattle.refusal_facts.specs.{declared.lists.Draw.Draw, Lists.draw_of, Lists.handle_behind, Lists.draw_among}
 use Rattle.bin_list.proofs.Walk.{cut_step, cut_nothing, front_behind, front_some}
 
 -- A list that is long enough to be cut is cut in one way.
@@ -63,3 +64,25 @@ greatest_past rest some isnt =
 
 pub greatest_none : (rest : List ℕ) → length rest ≡ 0 → greatest (packets rest) ≡ 0
 greatest_none rest none = ap greatest (packets_none rest none)
+
+-- What the packet at a byte draws, by the first packet.
+draw_if : (byte : ℕ) (p : List ℕ) (later : List (List ℕ)) (at handle : ℕ) (b : Bool) → (at == byte) ≡ b
+    → draw_among byte (p ∷ later) at handle ≡ (if b then Some (draw_of handle p) else draw_among byte later (at + length p) (handle_behind p handle))
+unfolding draw_among
+draw_if byte p later at handle b is =
+    ap (λ b. if b then Some (draw_of handle p) else draw_among byte later (at + length p) (handle_behind p handle)) is
+
+pub draw_here : (byte : ℕ) (rest : List ℕ) (at handle : ℕ) → 1 ≤ length rest → at ≡ byte
+    → draw_among byte (packets rest) at handle ≡ Some (draw_of handle (front_packet rest))
+draw_here byte rest at handle some is =
+    ap (λ all. draw_among byte all at handle) (packets_step rest some) ∙ draw_if byte (front_packet rest) (packets (behind rest)) at handle true (grind arith)
+
+pub draw_past : (byte : ℕ) (rest : List ℕ) (at handle : ℕ) → 1 ≤ length rest → at ≢ byte
+    → draw_among byte (packets rest) at handle
+    ≡ draw_among byte (packets (behind rest)) (at + length (front_packet rest)) (handle_behind (front_packet rest) handle)
+draw_past byte rest at handle some isnt =
+    ap (λ all. draw_among byte all at handle) (packets_step rest some) ∙ draw_if byte (front_packet rest) (packets (behind rest)) at handle false (grind arith)
+
+pub draw_none : (byte : ℕ) (rest : List ℕ) (at handle : ℕ) → length rest ≡ 0 → draw_among byte (packets rest) at handle ≡ None
+unfolding draw_among
+draw_none byte rest at handle none = ap (λ all. draw_among byte all at handle) (packets_none rest none)

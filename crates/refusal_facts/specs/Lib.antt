@@ -1,9 +1,10 @@
 pub mod Cuts
 pub mod Items
+pub mod Lists
 pub mod Named
+pub mod Records
 pub mod Sources
 pub mod Text
 pub mod Textures
-pub mod Users
 pub mod Whole
 pub mod Line

@@ -1,81 +1,73 @@
--- A: what a shader record says of the attribute that a refusal speaks of.
-use Rattle.std.specs.Prelude.{ℕ, ◌+◌, ◌-◌, ◌*◌, ◌/◌, nat_lt, nat_le, List, [], ◌∷◌, length, slice_get, option_map, Option, Some, None, if◌then◌else◌}
+-- The records that a job's states start, and the shaders that take its uniforms.
+use Rattle.std.specs.Prelude.{ℕ, ◌+◌, ◌*◌, ◌^◌, ◌<◌, nat_lt, nat_le, List, [], ◌∷◌, length, slice_get, Option, Some, None, if◌then◌else◌}
 use Rattle.field_words.specs.Words.{u32_at}
-use Rattle.buffer_table.specs.declared.buffer.Buffer.{Buffer}
 use Rattle.bin_list.specs.{declared.state.State.State, Packets.packets, States.states_of}
-use Rattle.emitted_facts.specs.Records.{address_word, attribute_size, attribute_stride}
-use Rattle.job_format.specs.Model.{JobModel}
-use Rattle.packets.specs.StateWord.{record_size}
-use Rattle.shader_records.specs.Sources.{handles_size, source_size, word_from}
-use Rattle.refusal_facts.specs.{declared.fact.AttributeFact.AttributeFact, declared.fact.VertexFact.VertexFact, declared.fact.RoomFact.RoomFact, declared.sources.Source.Source}
+use Rattle.job_format.specs.{declared.rule.Part.Part, declared.rule.Part.TheVariants.Uniforms, declared.rule.Place.Place, Model.JobModel}
+use Rattle.qpu_isa.specs.Shader.{ShaderModel}
+use Rattle.shader_records.specs.Sources.{source_size, shader_behind, taken_by}
+use Rattle.refusal_facts.specs.{declared.sources.Source.Source, declared.sources.User.User, Named.KnownModel}
 
--- The records of these states stand one after the other from a place on, each behind its handles: where the one that has a byte begins, the
--- word of its state, and the greatest index that the state draws.
-unfoldable pub source_among : List State → (from at : ℕ) → Option Source
-source_among [] from at = None
-source_among (state ∷ later) from at =
-    if nat_lt at (from + source_size state.word) then Some (record { at = from; state = state.word; most = state.max_index })
-    else source_among later (from + source_size state.word) at
+-- what is known of a record's fragment (0), vertex (1) or coordinate shader (2), by the handle for its code
+unfoldable pub shader_of : KnownModel → Source → (stage : ℕ) → Option ShaderModel
+shader_of known source stage =
+    shader_behind known.shaders (slice_get known.job.handles (u32_at known.job.records (source.at + 4 * stage)))
 
--- of a byte that isn't past the job's records
-unfoldable pub source_at : JobModel → ℕ → Option Source
-source_at job at = if nat_le at (length job.records) then source_among (states_of (packets job.bin)) 0 at else None
+-- The three take uniforms one after the other: where the second's begin, where the third's do, and where those end.
+abbrev pub taken : KnownModel → Source → (stage : ℕ) → ℕ
+taken known source stage = taken_by (shader_of known source stage)
 
--- where a record begins, behind its handles, and its words by number
-abbrev pub record_at : Source → ℕ
-record_at source = source.at + handles_size source.state
+abbrev pub second : KnownModel → Source → ℕ
+second known source = source.from + taken known source 0
 
-abbrev pub record_word : List ℕ → Source → ℕ → ℕ
-record_word records source = word_from records (record_at source)
+abbrev pub third : KnownModel → Source → ℕ
+third known source = second known source + taken known source 1
 
--- the attribute whose two words have a byte of the records
-abbrev pub attribute_of : Source → ℕ → ℕ
-attribute_of source at = (at - record_at source - 36) / 8
+unfoldable pub uniforms_end : KnownModel → Source → ℕ
+uniforms_end known source = third known source + taken known source 2
 
--- the number of the buffer that the handle of an attribute names, and its entry
-abbrev pub numbered : List Buffer → ℕ → Option (ℕ × Buffer)
-numbered buffers number = option_map (λ buffer. (number, buffer)) (slice_get buffers number)
+-- where the record ends, behind its handles
+unfoldable pub record_end : Source → ℕ
+record_end source = source.at + source_size source.state
 
-abbrev pub named_by : List Buffer → Option ℕ → Option (ℕ × Buffer)
-named_by buffers None = None
-named_by buffers (Some number) = numbered buffers number
+-- of a record that has a byte of the records, or whose shaders take a byte of the uniforms: what ends behind it
+unfoldable pub end_in : KnownModel → Part → Source → ℕ
+end_in known Uniforms source = uniforms_end known source
+end_in known part source = record_end source
 
-unfoldable pub buffer_of : JobModel → List Buffer → Source → ℕ → Option (ℕ × Buffer)
-buffer_of job buffers source t = named_by buffers (slice_get job.handles (u32_at job.records (source.at + (12 + 4 * t))))
+-- The records of these states stand one after the other from a place on, and the uniforms of their shaders from another: the first that ends
+-- behind a place of these or of those.
+abbrev pub source_from : State → (at from : ℕ) → Source
+source_from state at from = record { at = at; state = state.word; most = state.max_index; from = from }
 
--- A9: the buffer, and where in it the attribute's data of the first vertex lie
-abbrev pub attribute_fact : JobModel → Source → (t : ℕ) → ℕ × Buffer → AttributeFact
-attribute_fact job source t buffer =
-    record { buffer = buffer.0; size = buffer.1.size; address = record_word job.records source (address_word t); length = attribute_size (record_word job.records source) t }
+unfoldable pub source_among : KnownModel → Place → List State → (at from : ℕ) → Option Source
+source_among known place [] at from = None
+source_among known place (state ∷ later) at from =
+    if nat_lt place.at (end_in known place.part (source_from state at from)) then Some (source_from state at from)
+    else source_among known place later (record_end (source_from state at from)) (uniforms_end known (source_from state at from))
 
-abbrev pub attribute_by : JobModel → List Buffer → ℕ → Option Source → Option AttributeFact
-attribute_by job buffers at None = None
-attribute_by job buffers at (Some source) =
-    option_map (attribute_fact job source (attribute_of source at)) (buffer_of job buffers source (attribute_of source at))
+-- of a place that isn't past the job's records, or its uniforms
+unfoldable pub part_size : JobModel → Part → ℕ
+part_size job Uniforms = length job.uniforms
+part_size job part = length job.records
 
-unfoldable pub attribute_at : JobModel → List Buffer → ℕ → Option AttributeFact
-attribute_at job buffers at = attribute_by job buffers at (source_at job at)
+unfoldable pub source_at : KnownModel → Place → Option Source
+source_at known place =
+    if nat_le place.at (part_size known.job place.part) then source_among known place (states_of (packets known.job.bin)) 0 0 else None
 
--- A10: the attribute, how far the next vertex's data are, and the greatest index
-abbrev pub vertex_fact : JobModel → Source → (t : ℕ) → ℕ × Buffer → VertexFact
-vertex_fact job source t buffer =
-    record { attribute = attribute_fact job source t buffer; stride = attribute_stride source.state (record_word job.records source) t; index = source.most }
+-- which of the three takes the uniforms at a byte, and where its own begin
+abbrev pub user : (stage from : ℕ) → User
+user stage from = record { stage = stage; from = from }
 
-abbrev pub vertex_by : JobModel → List Buffer → ℕ → Option Source → Option VertexFact
-vertex_by job buffers at None = None
-vertex_by job buffers at (Some source) =
-    option_map (vertex_fact job source (attribute_of source at)) (buffer_of job buffers source (attribute_of source at))
+unfoldable pub user_of : KnownModel → Source → (byte : ℕ) → User
+user_of known source byte =
+    if nat_lt byte (second known source) then user 0 source.from
+    else (if nat_lt byte (third known source) then user 1 (second known source) else user 2 (third known source))
 
-unfoldable pub vertex_at : JobModel → List Buffer → ℕ → Option VertexFact
-vertex_at job buffers at = vertex_by job buffers at (source_at job at)
+-- Its places are those of a file.
+pub record IsPlaced (source : Source) : Type 0 where
+  pub at : source.at < 2 ^ 32
+  pub from : source.from < 2 ^ 96
 
--- so many bytes of the records are needed from a place on
-abbrev pub room : JobModel → (needs at : ℕ) → RoomFact
-room job needs at = record { needs = needs; has = length job.records - at }
-
--- A1: the handles of a record. A2: a record behind them.
-unfoldable pub handles_room : JobModel → ℕ → Option RoomFact
-handles_room job at = option_map (λ source. room job (handles_size source.state) at) (source_at job at)
-
-unfoldable pub record_room : JobModel → ℕ → Option RoomFact
-record_room job at = option_map (λ source. room job (record_size source.state) at) (source_at job at)
+pub record IsUser (user : User) : Type 0 where
+  pub stage : user.stage < 3
+  pub from : user.from < 2 ^ 98

@@ -2,7 +2,7 @@
 
 use buffer_table::Kind;
 
-/// A part needs so many bytes, and so many are there: F2, M5, A1 and A2.
+/// So many bytes are needed, and so many are there: F2, M5, A1, A2 and X1.
 #[derive(Clone, Copy, Debug, PartialEq, Eq)]
 pub struct RoomFact {
     pub needs: u64,
@@ -31,6 +31,14 @@ pub struct PairFact {
     pub earlier: ItemFact,
 }
 
+/// A buffer by its number, its size in bytes, and its kind.
+#[derive(Clone, Copy, Debug, PartialEq, Eq)]
+pub struct BufferFact {
+    pub number: u32,
+    pub size: u32,
+    pub kind: Kind,
+}
+
 /// A job of `client` names the buffer `number`, which is `owner`'s, or isn't in the file: H1.
 #[derive(Clone, Copy, Debug, PartialEq, Eq)]
 pub struct HandleFact {
@@ -39,11 +47,34 @@ pub struct HandleFact {
     pub owner: Option<u32>,
 }
 
-/// A vertex's `length` bytes of an attribute, from `address` on in a buffer of `size` bytes: A9.
+/// So many indexes of 1 or 2 bytes, from `address` on in a buffer: B10.
+#[derive(Clone, Copy, Debug, PartialEq, Eq)]
+pub struct IndexFact {
+    pub buffer: BufferFact,
+    pub address: u32,
+    pub count: u32,
+    pub bytes: u32,
+}
+
+/// A job declares so many shader states, and its binner list has so many: B12.
+#[derive(Clone, Copy, Debug, PartialEq, Eq)]
+pub struct StateFact {
+    pub declared: u32,
+    pub states: u64,
+}
+
+/// The buffer of a fragment shader, whether its record's flags say that it is single-threaded, and whether it switches threads: A5.
+#[derive(Clone, Copy, Debug, PartialEq, Eq)]
+pub struct ThreadFact {
+    pub buffer: u32,
+    pub single: bool,
+    pub threaded: bool,
+}
+
+/// A vertex's `length` bytes of an attribute, from `address` on in a buffer: A9.
 #[derive(Clone, Copy, Debug, PartialEq, Eq)]
 pub struct AttributeFact {
-    pub buffer: u32,
-    pub size: u32,
+    pub buffer: BufferFact,
     pub address: u32,
     pub length: u32,
 }
@@ -64,20 +95,19 @@ pub struct UseFact {
     pub has: u64,
 }
 
-/// What lies in a buffer of `size` bytes ends at this byte of it: U7, G10 and G12.
+/// What lies in a buffer ends at this byte of it: U7, G10 and G12.
 #[derive(Clone, Copy, Debug, PartialEq, Eq)]
 pub struct EndFact {
-    pub buffer: u32,
-    pub size: u32,
+    pub buffer: BufferFact,
     pub end: u64,
 }
 
-/// A handle by its index, how many the job has, and the buffer that it names, with its kind: A3, A4 and G6.
+/// A handle by its index, how many the job has, and the buffer that it names: A3, A4 and G6.
 #[derive(Clone, Copy, Debug, PartialEq, Eq)]
 pub struct NameFact {
     pub index: u32,
     pub handles: u64,
-    pub named: Option<(u32, Kind)>,
+    pub named: Option<BufferFact>,
 }
 
 /// The sides of a frame, of which one is over 4,096 pixels: G10.
@@ -97,6 +127,9 @@ pub enum Facts {
     Past(PastFact),
     Pair(PairFact),
     Handle(HandleFact),
+    Indexes(IndexFact),
+    States(StateFact),
+    Threads(ThreadFact),
     Attribute(AttributeFact),
     Vertex(VertexFact),
     Use(UseFact),
@@ -105,4 +138,5 @@ pub enum Facts {
     Pixels(PixelsFact),
     Surface(EndFact),
     Tile(EndFact),
+    Region(RoomFact),
 }

@@ -1,165 +1,86 @@
 //! The facts of a refusal.
 ghost use Rattle.std.specs.Prelude.{◌≡◌, ◌<◌, ◌^◌, IfOk};
-ghost use Rattle.job_format.specs.Parts.{parts_view, job_parts_view};
-ghost use Rattle.job_format.specs.File.{IsWellFormed, IsJobWellFormed};
+ghost use Rattle.job_format.specs.Parts.{parts_view};
+ghost use Rattle.job_format.specs.File.{IsWellFormed};
 ghost use Rattle.shader_records.specs.Inputs.{shaders_view};
-ghost use Rattle.refusal_facts.specs.Whole.{item_facts, table_facts, record_facts, uniform_facts, job_facts, jobs_facts, shaders_for, file_facts, stage_facts, facts_of};
+ghost use Rattle.refusal_facts.specs.Whole.{item_facts, table_facts, uniform_facts, job_facts, shaders_for, file_facts, stage_facts, facts_of};
 
 use crate::fact::{Facts, PastFact};
 use crate::format::cut_at;
-use crate::handles::{handle_at, name_at};
-use crate::records::{attribute_at, handles_room, record_room, vertex_at};
+use crate::known::{Known, handle_at};
+use crate::lists::bin_facts;
+use crate::records::record_facts;
+use crate::region::region_room;
+use crate::sources::source_at;
 use crate::surfaces::frame_facts;
 use crate::table::{content_room, index_of, item_fact, pair_at};
 use crate::textures::texture_end;
-use crate::users::use_at;
-use buffer_table::Buffer;
-use field_words::{NoMemory, Stop, word_at};
+use field_words::{NoMemory, Stop};
 use job_check::{job_at, shaders_stage};
-use job_format::{FileParts, JobParts, Place, Refusal, Rule, Stage, read_parts};
+use job_format::{FileParts, Place, Refusal, Rule, Stage, read_parts};
 use qpu_isa::ShaderInfo;
 use std::alloc::Global;
 
 // M2 to M5, of an item of the memory table.
-fn item_facts(file: &FileParts, number: u8, k: u64) -> Facts
+fn item_facts(file: &FileParts, number: u8, k: u64) -> Option<Facts>
     requires { k < 2 ^ 33 }
     ensures { result ≡ item_facts (parts_view file.now) number k }
 {
     let regions = &file.regions;
     let buffers = &file.buffers;
     match number {
-        2 => Facts::Off(item_fact(regions, buffers, k)),
-        3 => Facts::Past(PastFact {
+        2 => Some(Facts::Off(item_fact(regions, buffers, k))),
+        3 => Some(Facts::Past(PastFact {
             item: item_fact(regions, buffers, k),
             memory: file.mem_size,
-        }),
-        4 => match pair_at(regions, buffers, k) {
-            Some(pair) => Facts::Pair(pair),
-            None => Facts::Nothing,
-        },
-        5 => Facts::Room(content_room(regions, buffers, k)),
-        _ => Facts::Nothing,
+        })),
+        4 => Some(Facts::Pair(pair_at(regions, buffers, k)?)),
+        5 => Some(Facts::Room(content_room(regions, buffers, k))),
+        _ => None,
     }
 }
 
 // M2 to M5, where there is such an item.
 #[tactic(auto, unfolding(crate::specs::Whole::table_facts))]
-fn table_facts(file: &FileParts, number: u8, k: u64) -> Facts
+fn table_facts(file: &FileParts, number: u8, k: u64) -> Option<Facts>
     requires { k < 2 ^ 33 }
     ensures { result ≡ table_facts (parts_view file.now) number k }
 {
-    if k < 2 + file.buffers.len() as u64 {
-        item_facts(file, number, k)
-    } else {
-        Facts::Nothing
+    if k >= 2 + file.buffers.len() as u64 {
+        return None;
     }
+    item_facts(file, number, k)
 }
 
-// A1 to A4, A9 and A10, of a job, at a byte of its records, and A8 at one of its uniforms.
-fn record_facts(
-    job: &JobParts,
-    buffers: &[Buffer],
-    shaders: &[Option<ShaderInfo>],
-    number: u8,
-    at: u64,
-) -> Facts
-    requires { IsJobWellFormed (job_parts_view job.now) }
-    ensures { result ≡ record_facts (job_parts_view job.now) buffers.now
-        (shaders_view shaders.now) number at }
+// U7, of a job, at a place in its uniforms.
+fn uniform_facts(known: &Known, number: u8, place: Place) -> Option<Facts>
+    ensures { result ≡ uniform_facts known.now number place }
 {
     match number {
-        1 => match handles_room(job, at) {
-            Some(room) => Facts::Room(room),
-            None => Facts::Nothing,
-        },
-        2 => match record_room(job, at) {
-            Some(room) => Facts::Room(room),
-            None => Facts::Nothing,
-        },
-        3 | 4 => Facts::Name(name_at(job, buffers, word_at(job.records, at as usize))),
-        8 => match use_at(job, shaders, at) {
-            Some(shader) => Facts::Use(shader),
-            None => Facts::Nothing,
-        },
-        9 => match attribute_at(job, buffers, at) {
-            Some(attribute) => Facts::Attribute(attribute),
-            None => Facts::Nothing,
-        },
-        10 => match vertex_at(job, buffers, at) {
-            Some(vertex) => Facts::Vertex(vertex),
-            None => Facts::Nothing,
-        },
-        _ => Facts::Nothing,
-    }
-}
-
-// U7, of a job, at a byte of its uniforms.
-fn uniform_facts(
-    job: &JobParts,
-    buffers: &[Buffer],
-    shaders: &[Option<ShaderInfo>],
-    number: u8,
-    at: u64,
-) -> Facts
-    requires { IsJobWellFormed (job_parts_view job.now) }
-    ensures { result ≡ uniform_facts (job_parts_view job.now) buffers.now
-        (shaders_view shaders.now) number at }
-{
-    match number {
-        7 => match texture_end(job, buffers, shaders, at) {
-            Some(end) => Facts::Level(end),
-            None => Facts::Nothing,
-        },
-        _ => Facts::Nothing,
-    }
-}
-
-// H1, A, U and G, of a job, at a byte of its handles, its records, its uniforms or its entry.
-#[tactic(auto, unfolding(crate::specs::Whole::job_facts))]
-fn job_facts(
-    job: &JobParts,
-    buffers: &[Buffer],
-    shaders: &[Option<ShaderInfo>],
-    rule: Rule,
-    at: u64,
-) -> Facts
-    requires { IsJobWellFormed (job_parts_view job.now) }
-    ensures { result ≡ job_facts (job_parts_view job.now) buffers.now (shaders_view shaders.now)
-        rule.stage rule.number at }
-{
-    match (rule.stage, rule.number) {
-        (Stage::H, _) => match handle_at(job, buffers, at / 4) {
-            Some(handle) => Facts::Handle(handle),
-            None => Facts::Nothing,
-        },
-        (Stage::A, number) => record_facts(job, buffers, shaders, number, at),
-        (Stage::U, number) => uniform_facts(job, buffers, shaders, number, at),
-        (Stage::G, number) => {
-            let k = at.saturating_sub(36) / 12;
-            frame_facts(job, buffers, number, k as usize)
+        7 => {
+            let source = source_at(known, place)?;
+            Some(Facts::Level(texture_end(known, source, place.at)?))
         }
-        _ => Facts::Nothing,
+        _ => None,
     }
 }
 
-// Of a job of this number, where there is one.
-#[tactic(auto, unfolding(crate::specs::Whole::jobs_facts))]
-fn jobs_facts(
-    file: &FileParts,
-    shaders: &[Option<ShaderInfo>],
-    rule: Rule,
-    j: u32,
-    at: u64,
-) -> Facts
-    requires { IsWellFormed (parts_view file.now) }
-    ensures { result ≡ jobs_facts (parts_view file.now) (shaders_view shaders.now)
-        rule.stage rule.number j at }
+// H1, B, A, U and G, of a job, at a place in its handles, its binner list, its records, its uniforms or its entry.
+#[tactic(auto, unfolding(crate::specs::Whole::job_facts))]
+fn job_facts(known: &Known, rule: Rule, place: Place) -> Option<Facts>
+    ensures { result ≡ job_facts known.now rule.stage rule.number place }
 {
-    let j = j as usize;
-    if j < file.jobs.len() {
-        job_facts(job_at(file, j), &file.buffers, shaders, rule, at)
-    } else {
-        Facts::Nothing
+    let Rule { stage, number } = rule;
+    match stage {
+        Stage::H => Some(Facts::Handle(handle_at(known, place.at / 4)?)),
+        Stage::B => bin_facts(known, number, place.at),
+        Stage::A => record_facts(known, source_at(known, place)?, number, place.at),
+        Stage::U => uniform_facts(known, number, place),
+        Stage::G => {
+            let k = place.at.saturating_sub(36) / 12;
+            frame_facts(known, number, k as usize)
+        }
+        _ => None,
     }
 }
 
@@ -184,35 +105,60 @@ fn shaders_for(
     }
 }
 
-// Of a file that was read.
+// Of a file that was read: M, and X1 and the others of a job of this number, where there is one.
 #[tactic(auto, unfolding(crate::specs::Whole::file_facts))]
-fn file_facts(file: &FileParts, shaders: &[Option<ShaderInfo>], rule: Rule, place: Place) -> Facts
+fn file_facts(
+    file: &FileParts,
+    shaders: &[Option<ShaderInfo>],
+    rule: Rule,
+    place: Place,
+) -> Option<Facts>
     requires { IsWellFormed (parts_view file.now) }
     ensures { result ≡ file_facts (parts_view file.now) (shaders_view shaders.now)
         rule.stage rule.number place }
 {
+    let j = place.index as usize;
     match rule.stage {
         Stage::M => table_facts(file, rule.number, index_of(place)),
-        _ => jobs_facts(file, shaders, rule, place.index, place.at),
+        _ if j >= file.jobs.len() => None,
+        Stage::X => Some(Facts::Region(region_room(file, j))),
+        _ => {
+            let known = Known {
+                job: job_at(file, j),
+                buffers: &file.buffers,
+                shaders,
+            };
+            job_facts(&known, rule, place)
+        }
     }
 }
 
-/// The facts of a refusal of these bytes. A refusal that isn't theirs has some, or none.
-#[tactic(auto, unfolding(crate::specs::Whole::facts_of, crate::specs::Whole::stage_facts))]
-pub fn facts_of(alloc: Global, bytes: &[u8], refusal: Refusal) -> Result<Facts, NoMemory>
-    ensures { IfOk result (λ facts. facts ≡ facts_of bytes.now refusal) }
+// By stage: those of the format of the bytes, and all others of the file that the bytes hold, where they hold one.
+#[tactic(auto, unfolding(crate::specs::Whole::stage_facts))]
+fn stage_facts(alloc: Global, bytes: &[u8], refusal: Refusal) -> Result<Option<Facts>, NoMemory>
+    ensures { IfOk result (λ facts. facts
+        ≡ stage_facts bytes.now refusal.rule.stage refusal.rule.number refusal.place) }
 {
     let Refusal { rule, place } = refusal;
     match (rule.stage, rule.number) {
-        (Stage::F, 2) => Ok(Facts::Room(cut_at(bytes, place))),
-        (Stage::F, _) => Ok(Facts::Nothing),
+        (Stage::F, 2) => Ok(Some(Facts::Room(cut_at(bytes, place)))),
+        (Stage::F, _) => Ok(None),
         _ => match read_parts(alloc, bytes) {
             Ok(file) => {
                 let shaders = shaders_for(alloc, &file, rule.stage)?;
                 Ok(file_facts(&file, &shaders, rule, place))
             }
-            Err(Stop::Fault(_)) => Ok(Facts::Nothing),
+            Err(Stop::Fault(_)) => Ok(None),
             Err(Stop::NoMemory) => Err(NoMemory),
         },
     }
+}
+
+/// The facts of a refusal of these bytes. A refusal that isn't theirs has some, or none.
+#[tactic(auto, unfolding(crate::specs::Whole::facts_of))]
+pub fn facts_of(alloc: Global, bytes: &[u8], refusal: Refusal) -> Result<Facts, NoMemory>
+    ensures { IfOk result (λ facts. facts ≡ facts_of bytes.now refusal) }
+{
+    let facts = stage_facts(alloc, bytes, refusal)?;
+    Ok(facts.unwrap_or(Facts::Nothing))
 }

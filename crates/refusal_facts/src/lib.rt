@@ -5,20 +5,21 @@
 mod fact;
 mod facts;
 mod format;
-mod handles;
+mod known;
 mod line;
 mod list_text;
+mod lists;
 mod records;
+mod region;
 mod sources;
 mod surfaces;
 mod table;
 mod text;
 mod textures;
-mod users;
 
 pub use fact::{
-    AttributeFact, EndFact, Facts, HandleFact, ItemFact, NameFact, PairFact, PastFact, PixelsFact,
-    RoomFact, UseFact, VertexFact,
+    AttributeFact, BufferFact, EndFact, Facts, HandleFact, IndexFact, ItemFact, NameFact, PairFact,
+    PastFact, PixelsFact, RoomFact, StateFact, ThreadFact, UseFact, VertexFact,
 };
 pub use facts::facts_of;
 pub use line::{Line, line_of};

@@ -1,8 +1,11 @@
 //! The facts of a job's lists and surfaces as a person reads them.
 ghost use Rattle.std.specs.Prelude.{◌≡◌, Some};
-ghost use Rattle.refusal_facts.specs.Text.{stage_text, use_text, sized_text, end_text, kind_text, name_text, pixels_text};
+ghost use Rattle.refusal_facts.specs.Text.{room_text, stage_text, use_text, width_text, index_text, state_text, said_text, switch_text, thread_text, end_text, kind_text, name_text, pixels_text};
 
-use crate::fact::{EndFact, NameFact, PixelsFact, UseFact};
+use crate::fact::{
+    EndFact, IndexFact, NameFact, PixelsFact, RoomFact, StateFact, ThreadFact, UseFact,
+};
+use crate::text::Address;
 use buffer_table::Kind;
 use std::fmt;
 
@@ -28,19 +31,107 @@ impl fmt::Display for UseFact {
     }
 }
 
-/// A buffer and its size.
-#[derive(Clone, Copy)]
-pub(crate) struct Sized {
-    pub(crate) buffer: u32,
-    pub(crate) size: u32,
+/// What indexes of so many bytes are.
+#[tactic(auto, unfolding(crate::specs::Text::width_text))]
+fn width_name(bytes: u32) -> &'static str
+    ensures { result.now ≡ width_text bytes }
+{
+    if bytes == 1 {
+        "indexes of 1 byte"
+    } else {
+        "indexes of 2 bytes"
+    }
 }
 
-impl fmt::Display for Sized {
-    ghost output = { λ sized. Some (sized_text sized.buffer sized.size) };
+impl fmt::Display for IndexFact {
+    ghost output = { λ indexes. Some (index_text indexes) };
 
-    #[tactic(auto, unfolding(crate::specs::Text::sized_text))]
+    #[tactic(auto, unfolding(crate::specs::Text::index_text))]
     fn fmt<W: fmt::Write>(&self, f: &mut fmt::Formatter<W>) -> fmt::Result {
-        write!(f, "buffer {}: {} bytes", self.buffer, self.size)
+        let address = Address {
+            address: self.address,
+        };
+        let width = width_name(self.bytes);
+        write!(
+            f,
+            "{}; address {}, {} {}",
+            self.buffer, address, self.count, width
+        )
+    }
+}
+
+impl fmt::Display for StateFact {
+    ghost output = { λ states. Some (state_text states) };
+
+    #[tactic(auto, unfolding(crate::specs::Text::state_text))]
+    fn fmt<W: fmt::Write>(&self, f: &mut fmt::Formatter<W>) -> fmt::Result {
+        write!(
+            f,
+            "declares {}, the list has {}",
+            self.declared, self.states
+        )
+    }
+}
+
+/// What the flags say.
+#[tactic(auto, unfolding(crate::specs::Text::said_text))]
+fn said(single: bool) -> &'static str
+    ensures { result.now ≡ said_text single }
+{
+    if single {
+        "the flags say single-threaded"
+    } else {
+        "the flags don't say single-threaded"
+    }
+}
+
+/// What a shader does.
+#[tactic(auto, unfolding(crate::specs::Text::switch_text))]
+fn switched(threaded: bool) -> &'static str
+    ensures { result.now ≡ switch_text threaded }
+{
+    if threaded {
+        "switches threads"
+    } else {
+        "has no thread switch"
+    }
+}
+
+impl fmt::Display for ThreadFact {
+    ghost output = { λ threads. Some (thread_text threads) };
+
+    #[tactic(auto, unfolding(crate::specs::Text::thread_text))]
+    fn fmt<W: fmt::Write>(&self, f: &mut fmt::Formatter<W>) -> fmt::Result {
+        let said = said(self.single);
+        let switched = switched(self.threaded);
+        write!(f, "{}; buffer {} {}", said, self.buffer, switched)
+    }
+}
+
+/// What something needs, and what there is.
+#[derive(Clone, Copy)]
+pub(crate) struct Needs {
+    there: &'static str,
+    room: RoomFact,
+}
+
+impl RoomFact {
+    /// The room where these words say what has it.
+    pub(crate) fn at(self, there: &'static str) -> Needs
+        ensures there { result.there.now ≡ there.now }
+        ensures room { result.room ≡ self }
+    {
+        Needs { there, room: self }
+    }
+}
+
+impl fmt::Display for Needs {
+    ghost output = { λ n. Some (room_text n.there.now n.room) };
+
+    #[tactic(auto, unfolding(crate::specs::Text::room_text))]
+    fn fmt<W: fmt::Write>(&self, f: &mut fmt::Formatter<W>) -> fmt::Result {
+        let RoomFact { needs, has } = self.room;
+        write!(f, "needs {} bytes, {} {}", needs, self.there, has)
     }
 }
 
@@ -66,9 +157,8 @@ impl fmt::Display for Ending {
 
     #[tactic(auto, unfolding(crate::specs::Text::end_text))]
     fn fmt<W: fmt::Write>(&self, f: &mut fmt::Formatter<W>) -> fmt::Result {
-        let EndFact { buffer, size, end } = self.end;
-        let sized = Sized { buffer, size };
-        write!(f, "{}; {} ends at {}", sized, self.what, end)
+        let EndFact { buffer, end } = self.end;
+        write!(f, "{}; {} ends at {}", buffer, self.what, end)
     }
 }
 
@@ -90,9 +180,13 @@ impl fmt::Display for NameFact {
     fn fmt<W: fmt::Write>(&self, f: &mut fmt::Formatter<W>) -> fmt::Result {
         match self.named {
             None => write!(f, "handle {}; the job has {}", self.index, self.handles),
-            Some((number, kind)) => {
-                let kind = kind_name(kind);
-                write!(f, "handle {}: buffer {} is {}", self.index, number, kind)
+            Some(buffer) => {
+                let kind = kind_name(buffer.kind);
+                write!(
+                    f,
+                    "handle {}: buffer {} is {}",
+                    self.index, buffer.number, kind
+                )
             }
         }
     }

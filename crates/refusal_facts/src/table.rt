@@ -77,13 +77,11 @@ pub(crate) fn pair_at(regions: &Regions, buffers: &[Buffer], k: u64) -> Option<P
     requires { k < 2 ^ 33 }
     ensures { result ≡ pair_at (items_of regions.now buffers.now) k }
 {
-    match first_sharing(regions, buffers, k) {
-        Some(i) => Some(PairFact {
-            later: item_fact(regions, buffers, k),
-            earlier: item_fact(regions, buffers, i),
-        }),
-        None => None,
-    }
+    let i = first_sharing(regions, buffers, k)?;
+    Some(PairFact {
+        later: item_fact(regions, buffers, k),
+        earlier: item_fact(regions, buffers, i),
+    })
 }
 
 /// M5: the item needs room for what is given of it.

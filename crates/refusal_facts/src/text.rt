@@ -1,20 +1,10 @@
 //! The facts as a person reads them.
 ghost use Rattle.std.specs.Prelude.{◌≡◌, Some};
-ghost use Rattle.refusal_facts.specs.Text.{room_text, hex, item_name, item_text, off_text, past_text, client_text, owner_text, handle_text, address_text, cause_of, attribute_text, vertex_text, fact_text, facts_text};
+ghost use Rattle.refusal_facts.specs.Text.{hex, item_name, item_text, off_text, client_text, owner_text, handle_text, address_text, cause_of, buffer_text, attribute_text, vertex_text, fact_text, facts_text};
 
-use crate::fact::{AttributeFact, Facts, HandleFact, ItemFact, PastFact, RoomFact, VertexFact};
-use crate::list_text::Sized;
+use crate::fact::{AttributeFact, BufferFact, Facts, HandleFact, ItemFact, PastFact, VertexFact};
 use field_words::PAGE_SIZE;
 use std::fmt;
-
-impl fmt::Display for RoomFact {
-    ghost output = { λ room. Some (room_text room) };
-
-    #[tactic(auto, unfolding(crate::specs::Text::room_text))]
-    fn fmt<W: fmt::Write>(&self, f: &mut fmt::Formatter<W>) -> fmt::Result {
-        write!(f, "needs {} bytes, has {}", self.needs, self.has)
-    }
-}
 
 /// An item of the memory table by its number.
 #[derive(Clone, Copy)]
@@ -60,15 +50,6 @@ impl ItemFact {
             return "the size is no multiple of 4096";
         }
         "the size is 0"
-    }
-}
-
-impl fmt::Display for PastFact {
-    ghost output = { λ past. Some (past_text past) };
-
-    #[tactic(auto, unfolding(crate::specs::Text::past_text))]
-    fn fmt<W: fmt::Write>(&self, f: &mut fmt::Formatter<W>) -> fmt::Result {
-        write!(f, "the memory has {} bytes; {}", self.memory, self.item)
     }
 }
 
@@ -128,8 +109,8 @@ impl fmt::Display for HandleFact {
 
 /// An address, which may be meant as a negative number.
 #[derive(Clone, Copy)]
-struct Address {
-    address: u32,
+pub(crate) struct Address {
+    pub(crate) address: u32,
 }
 
 /// The least address that may be.
@@ -162,6 +143,15 @@ fn cause_of(address: u32) -> &'static str
     }
 }
 
+impl fmt::Display for BufferFact {
+    ghost output = { λ buffer. Some (buffer_text buffer) };
+
+    #[tactic(auto, unfolding(crate::specs::Text::buffer_text))]
+    fn fmt<W: fmt::Write>(&self, f: &mut fmt::Formatter<W>) -> fmt::Result {
+        write!(f, "buffer {}: {} bytes", self.number, self.size)
+    }
+}
+
 impl fmt::Display for AttributeFact {
     ghost output = { λ attribute. Some (attribute_text attribute) };
 
@@ -170,15 +160,11 @@ impl fmt::Display for AttributeFact {
         let address = Address {
             address: self.address,
         };
-        let sized = Sized {
-            buffer: self.buffer,
-            size: self.size,
-        };
         let cause = cause_of(self.address);
         write!(
             f,
             "{}; address {}, {} bytes{}",
-            sized, address, self.length, cause
+            self.buffer, address, self.length, cause
         )
     }
 }
@@ -209,14 +195,16 @@ impl fmt::Display for Inside {
     fn fmt<W: fmt::Write>(&self, f: &mut fmt::Formatter<W>) -> fmt::Result {
         match self.facts {
             Facts::Nothing => f.write_str(""),
-            Facts::Room(room) => write!(f, "{}", room),
-            Facts::Off(item) => {
-                let off = item.off();
-                write!(f, "{}; {}", item, off)
+            Facts::Room(room) => write!(f, "{}", room.at("has")),
+            Facts::Off(item) => write!(f, "{}; {}", item, item.off()),
+            Facts::Past(PastFact { item, memory }) => {
+                write!(f, "the memory has {} bytes; {}", memory, item)
             }
-            Facts::Past(past) => write!(f, "{}", past),
             Facts::Pair(pair) => write!(f, "{}; {}", pair.later, pair.earlier),
             Facts::Handle(handle) => write!(f, "{}", handle),
+            Facts::Indexes(indexes) => write!(f, "{}", indexes),
+            Facts::States(states) => write!(f, "{}", states),
+            Facts::Threads(threads) => write!(f, "{}", threads),
             Facts::Attribute(attribute) => write!(f, "{}", attribute),
             Facts::Vertex(vertex) => write!(f, "{}", vertex),
             Facts::Use(shader) => write!(f, "{}", shader),
@@ -225,6 +213,7 @@ impl fmt::Display for Inside {
             Facts::Pixels(pixels) => write!(f, "{}", pixels),
             Facts::Surface(end) => write!(f, "{}", end.of("surface")),
             Facts::Tile(end) => write!(f, "{}", end.of("last tile")),
+            Facts::Region(room) => write!(f, "{}", room.at("the region has")),
         }
     }
 }
