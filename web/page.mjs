@@ -184,7 +184,7 @@ function draw(place, svg, style) {
 function drawText(place, text, accesses = false) {
   const [before, style, behind] = text.split(/<\/?style>/); // the page's policy lets no style stand in a tree
   const svg = new DOMParser().parseFromString(before + behind, "image/svg+xml").documentElement;
-  const top = accesses ? svg.querySelectorAll(".head")[1].getAttribute("y") - 24 : 0;
+  const top = accesses ? 490 + Number(svg.querySelector("[transform]").getAttribute("transform").match(/\d+(?=\))/)[0]) : 0;
   const height = svg.getAttribute("height") - top;
   svg.setAttribute("viewBox", `0 ${top} 960 ${height}`);
   svg.setAttribute("height", height);

@@ -3,7 +3,7 @@ use Rattle.std.proofs.Common.{◌≡◌, ◌<◌, ◌≤◌, ◌⊎◌, inl, inr
 use Rattle.std.proofs.{lemmas.List.FromFn.fill_by_all, Math.Nat.suc-mul, Math.Nat.mod-add-div', Math.Nat.add-mul-div_right}
 use Rattle.std.proofs.{lemmas.Nat.div_below, lemmas.Nat.le-div, lemmas.List.take_all}
 use Rattle.std.proofs.lemmas.Bool.{lt-ltb, le-ltb, le-leb, lt-leb, cases_lt}
-use Rattle.std.proofs.lemmas.List.Sums.{count_by_more_yes, count_by_more_no, count_by-le-length}
+use Rattle.std.proofs.lemmas.List.Sums.{count_by_more_yes, count_by_more_no}
 use Rattle.std.specs.{Prelude.◌&&◌, Prelude.nat_le, Prelude.nat_lt, List.count_by, List.range_with_len, Prelude.map, Prelude.min}
 use Rattle.pictures.specs.{Counts.IsOneMoreWhere, Grid.overlaps}
 

@@ -1,5 +1,5 @@
 -- The boxes of the strip: each stands for the same number of pages, and no memory takes more than 512.
-use Rattle.std.specs.Prelude.{ℕ, ◌+◌, ◌-◌, ◌*◌, ◌/◌, ◌%◌, ◌==◌, ◌&&◌, nat_lt, Bool, List, [], ◌∷◌, codes, if◌then◌else◌, fold}
+use Rattle.std.specs.Prelude.{ℕ, ◌+◌, ◌-◌, ◌*◌, ◌/◌, ◌%◌, ◌==◌, ◌&&◌, nat_lt, Bool, List, codes, if◌then◌else◌, fold}
 use Rattle.field_words.specs.Sizes.{page_size, slot_size}
 use Rattle.buffer_table.specs.{declared.buffer.Buffer.Buffer, declared.buffer.Kind.Kind, declared.buffer.Regions.Regions}
 use Rattle.buffer_table.specs.declared.buffer.Kind.TheVariants.{Plain, Code as CodeKind}

@@ -1,3 +1,4 @@
+pub mod Buffers
 pub mod Counts
 pub mod Forest
 pub mod Grid
@@ -6,3 +7,4 @@ pub mod Memory
 pub mod Parts
 pub mod Run
 pub mod Table
+pub mod Title

@@ -5,10 +5,13 @@ use Rattle.pictures.specs.Forest.{Forest, Attribute, Nothing, Words, Leaf, Eleme
 use Rattle.pictures.specs.declared.parts.TheConstants.{STYLE, NAMESPACE}
 
 -- a box of 18 columns and 12 rows
+abbrev pub block_attributes : (x y : ℕ) → (class : List ℕ) → List Attribute
+block_attributes x y class =
+    number_attribute (codes "x") x ∷ number_attribute (codes "y") y ∷ number_attribute (codes "width") 18 ∷ number_attribute (codes "height") 12
+    ∷ word_attribute (codes "class") class ∷ []
+
 abbrev pub block : (x y : ℕ) → (class : List ℕ) → Forest
-block x y class = Leaf (codes "rect")
-    (number_attribute (codes "x") x ∷ number_attribute (codes "y") y ∷ number_attribute (codes "width") 18 ∷ number_attribute (codes "height") 12
-    ∷ word_attribute (codes "class") class ∷ [])
+block x y class = Leaf (codes "rect") (block_attributes x y class)
 
 abbrev pub paper : (height : ℕ) → Forest
 paper height = Leaf (codes "rect")

@@ -1,11 +1,11 @@
 -- The picture of a run: that of the memory; how far the run went; who touched what; and how often each box was touched.
-use Rattle.std.specs.Prelude.{ℕ, ◌+◌, ◌*◌, ◌/◌, max, List, length, codes, decimal}
+use Rattle.std.specs.Prelude.{ℕ, ◌+◌, ◌*◌, ◌/◌, max, List, [], ◌∷◌, ◌++◌, length, codes, decimal}
 use Rattle.field_words.specs.declared.access.Way.TheVariants.{Read, Write}
 use Rattle.job_format.specs.Model.{FileModel}
 use Rattle.relocation.specs.declared.layout.Layout.{Layout}
 use Rattle.replay.specs.declared.logged.Log.{Log}
 use Rattle.dumper.specs.Trace.{ending_name}
-use Rattle.pictures.specs.{Forest.Forest, Forest.Beside, Grid.box_size, Grid.box_count, Parts.label, Parts.drawing, Memory.places, Memory.memory_parts}
+use Rattle.pictures.specs.{Forest.Forest, Forest.Attribute, Forest.Element, Forest.Beside, Forest.word_attribute, Buffers.further_rows, Grid.box_size, Grid.box_count, Parts.label, Parts.drawing, Memory.places, Memory.memory_parts}
 use Rattle.pictures.specs.{Counts.box_counts, Counts.cell_counts, Heat.heat_top, Heat.heat, Table.unit_table}
 
 -- how many steps and accesses the run had, and how it ended
@@ -31,15 +31,24 @@ run_heat memory log =
     (heat (box_counts Read (box_size memory) (box_count memory) log.accesses.items)
     (box_counts Write (box_size memory) (box_count memory) log.accesses.items))
 
--- how many rows the drawing has: its strips, and beside them at least what their tones mean
-unfoldable pub run_height : (memory : ℕ) → ℕ
-run_height memory = heat_top + 20 + max (12 * ((box_count memory + 15) / 16)) 140
+-- how many rows the drawing has: its strips, beside them at least what their tones mean, and the further lines of its table of buffers
+unfoldable pub run_height : FileModel → ℕ
+run_height file = heat_top + 20 + max (12 * ((box_count file.mem_size + 15) / 16)) 140 + further_rows (length file.buffers)
+
+-- all that is said of the run; and the same, moved below the further lines of the table of buffers
+unfoldable pub run_below : FileModel → List Layout → Log → Forest
+run_below file layouts log = Beside (run_head log) (Beside (run_table file layouts log) (run_heat file.mem_size log))
+
+unfoldable pub shift : (rows : ℕ) → Attribute
+shift rows = word_attribute (codes "transform") (codes "translate(0 " ++ (decimal rows ++ codes ")"))
+
+unfoldable pub run_moved : FileModel → List Layout → Log → Forest
+run_moved file layouts log = Element (codes "g") (shift (further_rows (length file.buffers)) ∷ []) (run_below file layouts log)
 
 unfoldable pub run_parts : FileModel → List Layout → Log → Forest
-run_parts file layouts log =
-    Beside (memory_parts file) (Beside (run_head log) (Beside (run_table file layouts log) (run_heat file.mem_size log)))
+run_parts file layouts log = Beside (memory_parts file) (run_moved file layouts log)
 
 -- all of it
 unfoldable pub run_picture : FileModel → List Layout → Log → Forest
 run_picture file layouts log =
-    drawing (run_height file.mem_size) (codes "Accesses of a run in the memory of the jobs") (run_parts file layouts log)
+    drawing (run_height file) (codes "Accesses of a run in the memory of the jobs") (run_parts file layouts log)

@@ -1,5 +1,5 @@
 -- The table of a run: how many reads and writes each kind of unit makes to each kind of region.
-use Rattle.std.specs.Prelude.{◌≡◌, ℕ, ◌+◌, ◌*◌, ◌==◌, List, ◌++◌, length, slice_index_or, codes, if◌then◌else◌, decimal}
+use Rattle.std.specs.Prelude.{◌≡◌, ℕ, ◌+◌, ◌*◌, ◌==◌, List, length, slice_index_or, codes, if◌then◌else◌, decimal}
 use Rattle.pictures.specs.declared.table.Counts.{Counts}
 use Rattle.pictures.specs.{Forest.Forest, Forest.Beside, Parts.block, Parts.label, Parts.each}
 

@@ -48,8 +48,8 @@ pub fn box_count(memory: u32) -> u64
 }
 
 /// Whether one of so many bytes from a place on lies from `from` to before `to`.
-fn overlaps(begin: u32, size: u64, from: u64, to: u64) -> bool
-    requires { size < 18446744069414584320 }
+pub(crate) fn overlaps(begin: u32, size: u64, from: u64, to: u64) -> bool
+    requires { begin + size < 2 ^ 64 }
     ensures { result ≡ overlaps begin size from to }
 {
     u64::from(begin) < to && from < u64::from(begin) + size

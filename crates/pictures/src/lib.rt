@@ -2,6 +2,7 @@
 //! over it, with who touched what, and how often each box was touched.
 #![tactic(auto)]
 
+mod buffers;
 mod counts;
 mod grid;
 mod heat;
@@ -10,6 +11,7 @@ mod parts;
 mod run;
 mod svg;
 mod table;
+mod title;
 
 pub use memory::memory_picture;
 pub use run::run_picture;

@@ -2,7 +2,7 @@
 ghost use Rattle.std.specs.Prelude.{◌≡◌, ◌++◌, [], codes, flat_map, OnOk, IfOk};
 ghost use Rattle.std.specs.Fmt.{decimal};
 ghost use Rattle.pictures.specs.Forest.{forest_text, attribute_text};
-ghost use Rattle.pictures.specs.Parts.{block, paper, label, hex, word_element, root_attributes, opening};
+ghost use Rattle.pictures.specs.Parts.{block, block_attributes, paper, label, hex, word_element, root_attributes, opening};
 
 use crate::svg::{
     Drawn, begin, close, end_leaf, end_tag, numbered, push_number, push_words, worded,
@@ -14,7 +14,9 @@ const STYLE: &str = "
 svg{font-family:sans-serif;font-size:14px}
 text{fill:#222}
 .head{font-size:18px;font-weight:bold}
-.end{text-anchor:end}
+.end,.row{text-anchor:end}
+.row{font-size:11px}
+.number{font-size:7px;text-anchor:middle;pointer-events:none;paint-order:stroke;stroke:#fff;stroke-width:2px}
 .paper{fill:#fff}
 .frame{fill:none;stroke:#777}
 .free,.slots,.lists,.several,.data0,.data1,.data2,.data3,.code0,.code1,.code2,.code3{stroke:#fff}
@@ -50,16 +52,24 @@ text{fill:#222}
 /// The name of the elements' namespace.
 const NAMESPACE: &str = "http://www.w3.org/2000/svg";
 
-/// Appends a box of this class: 18 columns and 12 rows.
-pub fn push_box(out: &mut Vec<u8>, x: u64, y: u64, class: &str) -> Drawn
-    ensures { OnOk result (out.new.items ≡ out.old.items ++ forest_text (block x y class.now)) }
+/// The attributes of a box of this class: 18 columns and 12 rows.
+pub(crate) fn push_block(out: &mut Vec<u8>, x: u64, y: u64, class: &str) -> Drawn
+    ensures { OnOk result (out.new.items ≡ out.old.items
+        ++ flat_map attribute_text (block_attributes x y class.now)) }
 {
-    begin(out, "rect")?;
     numbered(out, "x", x)?;
     numbered(out, "y", y)?;
     numbered(out, "width", 18)?;
     numbered(out, "height", 12)?;
-    worded(out, "class", class)?;
+    worded(out, "class", class)
+}
+
+/// Appends a box.
+pub fn push_box(out: &mut Vec<u8>, x: u64, y: u64, class: &str) -> Drawn
+    ensures { OnOk result (out.new.items ≡ out.old.items ++ forest_text (block x y class.now)) }
+{
+    begin(out, "rect")?;
+    push_block(out, x, y, class)?;
     end_leaf(out)
 }
 

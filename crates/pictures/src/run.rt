@@ -2,15 +2,16 @@
 ghost use Rattle.std.specs.Prelude.{◌≡◌, ◌++◌, OnOk, IfOk};
 ghost use Rattle.dumper.specs.Trace.{ending_name};
 ghost use Rattle.job_format.specs.Parts.{parts_view};
-ghost use Rattle.pictures.specs.Forest.{forest_text};
-ghost use Rattle.pictures.specs.Run.{run_numbers, run_head, run_table, run_heat, run_height, run_parts, run_picture};
+ghost use Rattle.pictures.specs.Forest.{forest_text, attribute_text};
+ghost use Rattle.pictures.specs.Run.{run_numbers, run_head, run_table, run_heat, run_height, run_below, shift, run_moved, run_parts, run_picture};
 
+use crate::buffers::further_rows;
 use crate::counts::{box_counts, cell_counts};
 use crate::grid::{box_count, box_size};
 use crate::heat::{TOP, push_heat_strips};
 use crate::memory::{push_memory, push_places};
 use crate::parts::{begin_drawing, decimal, end_drawing, push_label};
-use crate::svg::Drawn;
+use crate::svg::{Drawn, begin, close, end_tag, worded};
 use crate::table::{Counts, push_table};
 use field_words::{NoMemory, Way};
 use job_format::FileParts;
@@ -88,10 +89,56 @@ fn push_run_heat(alloc: Global, out: &mut Vec<u8>, memory: u32, log: &Log) -> Dr
 }
 
 #[tactic(auto, unfolding(crate::specs::Run::run_height))]
-fn run_height(memory: u32) -> u64
-    ensures { result ≡ run_height memory }
+fn run_height(file: &FileParts) -> u64
+    ensures { result ≡ run_height (parts_view file.now) }
 {
-    TOP + 20 + (12 * ((box_count(memory) + 15) / 16)).max(140)
+    let strips = 12 * ((box_count(file.mem_size) + 15) / 16);
+    TOP + 20 + strips.max(140) + further_rows(&file.buffers)
+}
+
+// All that is said of the run.
+#[tactic(auto, unfolding(crate::specs::Run::run_below))]
+fn push_below(
+    alloc: Global,
+    out: &mut Vec<u8>,
+    file: &FileParts,
+    layouts: &[Layout],
+    log: &Log,
+) -> Drawn
+    ensures { OnOk result (out.new.items ≡ out.old.items
+        ++ forest_text (run_below (parts_view file.now) layouts.now log.now)) }
+{
+    push_head(alloc, out, log)?;
+    push_run_table(alloc, out, file, layouts, log)?;
+    push_run_heat(alloc, out, file.mem_size, log)
+}
+
+// The attribute by which a part moves down by so many rows.
+#[tactic(auto, unfolding(crate::specs::Run::shift))]
+fn push_shift(alloc: Global, out: &mut Vec<u8>, rows: u64) -> Drawn
+    ensures { OnOk result (out.new.items ≡ out.old.items ++ attribute_text (shift rows)) }
+{
+    let down = format!(in alloc; "translate(0 {rows})")?;
+    worded(out, "transform", down.as_str())
+}
+
+// The same, moved below the further lines of the table of buffers.
+#[tactic(auto, unfolding(crate::specs::Run::run_moved))]
+fn push_moved(
+    alloc: Global,
+    out: &mut Vec<u8>,
+    file: &FileParts,
+    layouts: &[Layout],
+    log: &Log,
+) -> Drawn
+    ensures { OnOk result (out.new.items ≡ out.old.items
+        ++ forest_text (run_moved (parts_view file.now) layouts.now log.now)) }
+{
+    begin(out, "g")?;
+    push_shift(alloc, out, further_rows(&file.buffers))?;
+    end_tag(out)?;
+    push_below(alloc, out, file, layouts, log)?;
+    close(out, "g")
 }
 
 #[tactic(auto, unfolding(crate::specs::Run::run_parts))]
@@ -106,9 +153,7 @@ fn push_parts(
         ++ forest_text (run_parts (parts_view file.now) layouts.now log.now)) }
 {
     push_memory(alloc, out, file)?;
-    push_head(alloc, out, log)?;
-    push_run_table(alloc, out, file, layouts, log)?;
-    push_run_heat(alloc, out, file.mem_size, log)
+    push_moved(alloc, out, file, layouts, log)
 }
 
 /// The picture of a file's memory, whose jobs' lists lie as these layouts say, and of a run over it,
@@ -126,7 +171,7 @@ pub fn run_picture(
 {
     let mut out = Vec::with_capacity(alloc, PICTURE)?;
     let title = "Accesses of a run in the memory of the jobs";
-    begin_drawing(alloc, &mut out, run_height(file.mem_size), title)?;
+    begin_drawing(alloc, &mut out, run_height(file), title)?;
     push_parts(alloc, &mut out, file, layouts, log)?;
     end_drawing(&mut out)?;
     Ok(out)

@@ -1,4 +1,4 @@
-use Rattle.std.proofs.Common.{◌≡◌, ◌<◌, ℕ, length, ◌++◌, drop, take, slice_index_or, ap, ◌∙◌}
+use Rattle.std.proofs.Common.{◌≡◌, length, ◌++◌, drop, take, slice_index_or, ap, ◌∙◌}
 use Rattle.std.proofs.lemmas.List.{take_at}
 use Rattle.job_format.specs.Parts.{parts_view}
 use Rattle.replay.specs.declared.logged.Logged.{Logged}

@@ -7,6 +7,6 @@ use Rattle.pictures.proofs.run.run_picture.Goals as goal
 pub returns : goal.returns
 unfolding run_picture
 returns c =
-    drawn c.run_height.result (run_height c.args.file.now.mem_size) (codes "Accesses of a run in the memory of the jobs")
+    drawn c.run_height.result (run_height (parts_view c.args.file.now)) (codes "Accesses of a run in the memory of the jobs")
     (run_parts (parts_view c.args.file.now) c.args.layouts.now c.args.log.now) _ _ _ _ c.in_ok-out.ensures.items c.run_height.ensures
     c.in_ok-begin_drawing.ensures c.in_ok-push_parts.ensures c.in_ok-end_drawing.ensures

@@ -1,7 +1,7 @@
 use Rattle.std.proofs.Common.{◌≡◌, ◌++◌}
 use Rattle.pictures.specs.Forest.{forest_text}
-use Rattle.pictures.specs.{Parts.each, Memory.row_part}
-use Rattle.pictures.proofs.memory.push_rows.Given as goal
+use Rattle.pictures.specs.{Parts.each, Buffers.row_part}
+use Rattle.pictures.proofs.buffers.push_rows.Given as goal
 
 abbrev pub invariant-loop-n : goal.invariant-loop-n
 invariant-loop-n l = l.out.items ≡ l.fn.out.items ++ forest_text (each (row_part l.buffers) l.n)
