@@ -3,7 +3,7 @@ use Rattle.std.specs.Prelude.{◌≡◌, ℕ, ◌%◌, ◌==◌, Bool, true, fal
 use Rattle.field_words.specs.{Questions.first_of, Sizes.most_words}
 use Rattle.job_format.specs.{declared.rule.Refusal.Refusal, declared.rule.Stage.TheVariants.S, declared.rule.Stage.TheVariants.U, declared.rule.Stage.TheVariants.E}
 use Rattle.job_check.specs.{Shaders.code_questions, Shaders.words_of, Whole.refusal_of}
-use Rattle.job_text.specs.{declared.fault.MakeFault.MakeFault, Made.text_bytes, Sentences.sentence_of as mistake_of}
+use Rattle.job_make.specs.{declared.fault.MakeFault.MakeFault, Made.text_bytes, Sentences.sentence_of as mistake_of}
 use Rattle.qpu_asm.specs.{declared.fault.AsmFault.AsmFault, Assembly.Assembled, Place.fault_place, Place.wanted_text}
 use Rattle.qpu_asm.specs.{declared.place.FaultPlace.FaultPlace, declared.place.Opcode.TheVariants.Nop, declared.place.Wanted.Wanted}
 use Rattle.qpu_asm.specs.declared.place.Wanted.TheVariants.{Item}

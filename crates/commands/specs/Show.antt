@@ -1,7 +1,8 @@
 -- What `show` and `make` answer to all of their input.
 use Rattle.std.specs.Prelude.{◌≡◌, ◌⊎◌, ℕ, false, List, [], Ok, Err, Option, Some, None}
 use Rattle.job_format.specs.{declared.rule.Refusal.Refusal, Places.offset_of}
-use Rattle.job_text.specs.{declared.fault.MakeFault.MakeFault, declared.note.Piece.Piece, Made.text_bytes, Shown.text_shown}
+use Rattle.job_make.specs.{declared.fault.MakeFault.MakeFault, Made.text_bytes}
+use Rattle.job_text.specs.{declared.note.Piece.Piece, Shown.text_shown}
 use Rattle.job_text.specs.declared.view.Omitted.{Omitted}
 use Rattle.refusal_facts.specs.Line.{line_text, line_of}
 

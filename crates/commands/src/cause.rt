@@ -5,7 +5,7 @@ ghost use Rattle.commands.specs.Cause.{cause_text, is_bare, report_text, text_hi
 use super::scripts::Script;
 use super::word_fault::WordFault;
 use job_format::Stage;
-use job_text::MakeFault;
+use job_make::MakeFault;
 use qpu_asm::{AsmFault, FaultPlace, Opcode, Wanted};
 use refusal_facts::Line;
 use rule_words::{Family, RuleName};

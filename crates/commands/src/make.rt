@@ -6,7 +6,7 @@ ghost use Rattle.commands.specs.declared.command.Command.TheVariants.{FromText};
 use super::answer::Answer;
 use super::cause::Cause;
 use field_words::{NoMemory, Stop};
-use job_text::make;
+use job_make::make;
 use std::alloc::Global;
 
 /// What `make` answers to a text: its bytes, or nothing where it has a fault, of which a person learns.

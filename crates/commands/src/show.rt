@@ -1,6 +1,6 @@
 //! The command `show`.
 ghost use Rattle.std.specs.Prelude.{◌≡◌, false, Ok, IfOk};
-ghost use Rattle.job_text.specs.Made.{text_bytes};
+ghost use Rattle.job_make.specs.Made.{text_bytes};
 ghost use Rattle.commands.specs.{Answer.IsAnswerTo, Show.IsShown};
 ghost use Rattle.commands.specs.declared.command.Command.TheVariants.{Show};
 

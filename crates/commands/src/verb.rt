@@ -77,7 +77,8 @@ The text is some three times as long, and make reads at most 48 MiB of it again.
 
 const MAKE: Usage = (
     "make [FILE]",
-    "Reads such text, at most 48 MiB, and writes its bytes; or nothing where it has a mistake, which standard error tells.",
+    "Reads such text, at most 48 MiB, and writes its bytes; or nothing where it has a mistake, which standard error tells.
+u32:len:NAME is the length of a section: the bytes behind a line section NAME, up to the next such line or the end.",
 );
 
 const GEN: Usage = (

@@ -1,13 +1,13 @@
 -- The text of any bytes is read as these bytes.
 use Rattle.std.proofs.Common.{◌≡◌, ℕ, zero, suc, ◌+◌, ◌*◌, ◌/◌, ◌%◌, ◌<◌, Bool, true, false, List, [], ◌∷◌, ◌++◌, length, take, drop, codes, Ok, Option, Some, None, refl, sym, ◌∙◌, ap, append_assoc, append-nil, arith, eq-eqb}
 use Rattle.std.proofs.lemmas.Bool.{eqb-true}
-use Rattle.std.specs.Prelude.{slice_index, ◌==◌}
+use Rattle.std.specs.Prelude.{slice_index, bytes_eq, ◌==◌}
 use Rattle.hex.specs.Hex.{encode_lower, encode_with, lower_digits, hex_digit_value}
 use Rattle.hex.proofs.HexLemmas.{IsDigits-lower_digits}
 use Rattle.field_words.specs.Words.{IsBytes}
 use Rattle.script.specs.Lines.{before, lines_of, onto_line}
 use Rattle.job_text.proofs.Marks.{Free, free_append, free_before, free_by}
-use Rattle.job_text.specs.Made.{words_of, digits_read, size_named, word_by, word_read, words_read, line_read, part_read, stays_inside, lines_read, both, text_bytes, is_blank, past_blanks, says}
+use Rattle.job_make.specs.Made.{Sections, words_of, full_of, is_alone, says, named_by, section_named, digits_read, size_named, word_by, word_read, words_read, line_read, part_read, stays_inside, lines_read, both, text_sections, text_bytes, is_blank}
 use Rattle.job_text.specs.Meanings.{said_if}
 use Rattle.job_text.specs.Shown.{Look, remark, is_in, is_past, is_content, is_left_out, reason_text, end_text, whole_line, line_text, lines_text, text_shown}
 use Rattle.job_text.specs.{declared.note.Note.Note, declared.note.Note.TheVariants.Unread, declared.note.Piece.Piece}
@@ -83,45 +83,55 @@ no_size : (d v : ℕ) (ds : List ℕ) → hex_digit_value d ≡ Some v → size_
 unfolding before size_named
 no_size d v ds some = rw (digit_free 58 d v refl some (d == 58) refl, digit_free 117 d v refl some (d == 117) refl) refl
 
-word_back : (line column b : ℕ) (bytes : List ℕ) → IsBytes (b ∷ bytes) → word_read line column (encode_lower (b ∷ bytes)) ≡ Ok (b ∷ bytes)
+word_back : (sections : Sections) (line column b : ℕ) (bytes : List ℕ) → IsBytes (b ∷ bytes) → word_read sections line column (encode_lower (b ∷ bytes)) ≡ Ok (b ∷ bytes)
 unfolding word_read encode_with
-word_back line column b bytes fits =
+word_back sections line column b bytes fits =
     let small : b < 256 = fits 0 in
     let is_high = IsDigits-lower_digits (b / 16) (omega arith) in
     let none : size_named (before 58 (encode_lower (b ∷ bytes))) ≡ None = no_size (slice_index lower_digits (b / 16)) (b / 16) _ is_high in
-    ap (word_by line column (encode_lower (b ∷ bytes))) none ∙ digits_back line column (b ∷ bytes) fits
+    ap (word_by sections line column (encode_lower (b ∷ bytes))) none ∙ digits_back line column (b ∷ bytes) fits
 
 -- the digits of a line, behind which two blanks stand
-front_back : (line column b : ℕ) (bytes : List ℕ) → IsBytes (b ∷ bytes) → words_read line column (words_of (encode_lower (b ∷ bytes) ++ codes "  ")) ≡ Ok (b ∷ bytes)
+front_back : (sections : Sections) (line column b : ℕ) (bytes : List ℕ) → IsBytes (b ∷ bytes) → words_read sections line column (words_of (encode_lower (b ∷ bytes) ++ codes "  ")) ≡ Ok (b ∷ bytes)
 unfolding words_read words_of word_read digits_read before size_named is_blank
-front_back line column b bytes fits =
+front_back sections line column b bytes fits =
     let digits = encode_lower (b ∷ bytes) in
-    ap (words_read line column) (words_word digits (32 ∷ []) (solid_digits (b ∷ bytes) fits))
-    ∙ ap (λ r. both r (words_read line (column + (length digits + 1)) (words_of (32 ∷ [])))) (word_back line column b bytes fits)
+    ap (words_read sections line column) (words_word digits (32 ∷ []) (solid_digits (b ∷ bytes) fits))
+    ∙ ap (λ r. both r (words_read sections line (column + (length digits + 1)) (words_of (32 ∷ [])))) (word_back sections line column b bytes fits)
     ∙ ap (λ (l : List ℕ). Ok l) (append-nil (b ∷ bytes))
 
-no_word : (c d : ℕ) (cs : List ℕ) (t : Bool) → (c == 97) ≡ t → is_blank c ≡ false → (d == 115) ≡ false → says (codes "asm") (c ∷ d ∷ cs) ≡ false
-unfolding says past_blanks
-no_word c d cs true is full other = rw (full, is, other) refl
-no_word c d cs false is full other = rw (full, is) refl
+-- the only word of a line of digits
+digits_only : (b : ℕ) (bytes line : List ℕ) → IsBytes (b ∷ bytes) → before 35 line ≡ encode_lower (b ∷ bytes) ++ codes "  "
+    → full_of (words_of (before 35 line)) ≡ encode_lower (b ∷ bytes) ∷ []
+unfolding full_of words_of is_blank encode_with
+digits_only b bytes line fits front =
+    ap (λ t. full_of (words_of t)) front ∙ ap full_of (words_word (encode_lower (b ∷ bytes)) (32 ∷ []) (solid_digits (b ∷ bytes) fits))
 
--- a line of digits doesn't say `asm`
-digits_plain : (b : ℕ) (bytes more : List ℕ) → IsBytes (b ∷ bytes) → says (codes "asm") (encode_lower (b ∷ bytes) ++ more) ≡ false
-unfolding encode_with
-digits_plain b bytes more fits =
+not_asm : (c d : ℕ) (cs : List ℕ) (t : Bool) → (c == 97) ≡ t → (d == 115) ≡ false → bytes_eq (c ∷ d ∷ cs) (codes "asm") ≡ false
+not_asm c d cs true is other = rw (is, other) refl
+not_asm c d cs false is other = rw is refl
+
+-- it isn't `asm`
+digits_plain : (b : ℕ) (bytes line : List ℕ) → IsBytes (b ∷ bytes) → full_of (words_of (before 35 line)) ≡ encode_lower (b ∷ bytes) ∷ []
+    → says (codes "asm") line ≡ false
+unfolding says encode_with
+digits_plain b bytes line fits only =
     let small : b < 256 = fits 0 in
     let high = slice_index lower_digits (b / 16) in
     let low = slice_index lower_digits (b % 16) in
-    let is_high = IsDigits-lower_digits (b / 16) (omega arith) in
-    let is_low = IsDigits-lower_digits (b % 16) (omega arith) in
-    no_word high low (encode_lower bytes ++ more) (high == 97) refl (digit_not_blank high (b / 16) is_high)
-    (digit_free 115 low (b % 16) refl is_low (low == 115) refl)
+    ap (is_alone (codes "asm")) only
+    ∙ not_asm high low (encode_lower bytes) (high == 97) refl (digit_free 115 low (b % 16) refl (IsDigits-lower_digits (b % 16) (omega arith)) (low == 115) refl)
 
--- a line that doesn't say `asm` is read by its words
-plain_line : (n : ℕ) (line : List ℕ) (lines : List (List ℕ)) → says (codes "asm") line ≡ false
-    → lines_read n false (line ∷ lines) ≡ both (line_read n line) (lines_read (n + 1) false lines)
+-- nor does such a line name a section
+digits_alone : (digits line : List ℕ) → full_of (words_of (before 35 line)) ≡ digits ∷ [] → section_named line ≡ None
+unfolding section_named
+digits_alone digits line only = ap named_by only
+
+-- a line that neither says `asm` nor names a section is read by its words
+plain_line : (sections : Sections) (n : ℕ) (line : List ℕ) (lines : List (List ℕ)) → says (codes "asm") line ≡ false → section_named line ≡ None
+    → lines_read sections n false (line ∷ lines) ≡ both (line_read sections n line) (lines_read sections (n + 1) false lines)
 unfolding lines_read part_read stays_inside
-plain_line n line lines is = rw is refl
+plain_line sections n line lines is none = rw (is, none) refl
 
 -- a line's end behind its last part
 to_end : (a b r m w rest : List ℕ) → (a ++ (b ++ (r ++ (m ++ 10 ∷ w)))) ++ rest ≡ (a ++ (b ++ (r ++ m))) ++ 10 ∷ (w ++ rest)
@@ -134,11 +144,11 @@ free_mark : (is : Bool) → Free 10 (said_if is (codes " <== refused here"))
 free_mark true = free_by 10 (codes " <== refused here") refl
 free_mark false = tt
 
-line_again : (look : Look) (n at b : ℕ) (bytes rest : List ℕ) (note : Note) (is : Bool) → IsBytes (b ∷ bytes)
-    → lines_read n false (lines_of (whole_line look at (b ∷ bytes) note is ++ rest))
-    ≡ both (Ok (b ∷ bytes)) (lines_read (n + 1) false (lines_of (reason_text is look.why ++ rest)))
+line_again : (sections : Sections) (look : Look) (n at b : ℕ) (bytes rest : List ℕ) (note : Note) (is : Bool) → IsBytes (b ∷ bytes)
+    → lines_read sections n false (lines_of (whole_line look at (b ∷ bytes) note is ++ rest))
+    ≡ both (Ok (b ∷ bytes)) (lines_read sections (n + 1) false (lines_of (reason_text is look.why ++ rest)))
 unfolding whole_line end_text remark
-line_again look n at b bytes rest note is fits =
+line_again sections look n at b bytes rest note is fits =
     let digits = encode_lower (b ∷ bytes) in
     let r = remark look.omitted at (b ∷ bytes) note in
     let m = said_if is (codes " <== refused here") in
@@ -150,11 +160,12 @@ line_again look n at b bytes rest note is fits =
     (free_append 10 (codes "  # ") (r ++ m) (free_by 10 (codes "  # ") refl) free_note) in
     let no_mark : Free 35 (digits ++ codes "  ") = free_append 35 digits (codes "  ") (free_digits 35 (b ∷ bytes) refl fits) (free_by 35 (codes "  ") refl) in
     let front : before 35 line ≡ digits ++ codes "  " = ap (before 35) (to_mark digits (r ++ m)) ∙ before_mark 35 (digits ++ codes "  ") (32 ∷ (r ++ m)) no_mark in
-    let read : line_read n line ≡ Ok (b ∷ bytes) = ap (λ t. words_read n 1 (words_of t)) front ∙ front_back n 1 b bytes fits in
-    ap (λ t. lines_read n false (lines_of t)) (to_end digits (codes "  # ") r m w rest)
-    ∙ ap (lines_read n false) (lines_line line (w ++ rest) no_feed)
-    ∙ plain_line n line (lines_of (w ++ rest)) (digits_plain b bytes (codes "  # " ++ (r ++ m)) fits)
-    ∙ ap (λ x. both x (lines_read (n + 1) false (lines_of (w ++ rest)))) read
+    let only = digits_only b bytes line fits front in
+    let read : line_read sections n line ≡ Ok (b ∷ bytes) = ap (λ t. words_read sections n 1 (words_of t)) front ∙ front_back sections n 1 b bytes fits in
+    ap (λ t. lines_read sections n false (lines_of t)) (to_end digits (codes "  # ") r m w rest)
+    ∙ ap (lines_read sections n false) (lines_line line (w ++ rest) no_feed)
+    ∙ plain_line sections n line (lines_of (w ++ rest)) (digits_plain b bytes line fits only) (digits_alone digits line only)
+    ∙ ap (λ x. both x (lines_read sections (n + 1) false (lines_of (w ++ rest)))) read
 
 -- nothing is left out where contents aren't
 line_kept : (look : Look) (at b : ℕ) (bytes : List ℕ) (note : Note) → look.omitted.contents ≡ false
@@ -163,30 +174,30 @@ unfolding line_text is_left_out
 line_kept look at b bytes note all = rw all refl
 
 -- the reason holds no bytes
-reason_again : (n : ℕ) (is : Bool) (why more rest : List ℕ)
-    → ((m : ℕ) → lines_read m false (lines_of rest) ≡ Ok more)
-    → lines_read n false (lines_of (reason_text is why ++ rest)) ≡ Ok more
-unfolding reason_text words_read words_of before is_blank
-reason_again n false why more rest later = later n
-reason_again n true why more rest later =
+reason_again : (sections : Sections) (n : ℕ) (is : Bool) (why more rest : List ℕ)
+    → ((m : ℕ) → lines_read sections m false (lines_of rest) ≡ Ok more)
+    → lines_read sections n false (lines_of (reason_text is why ++ rest)) ≡ Ok more
+unfolding reason_text words_read words_of full_of says section_named before is_blank
+reason_again sections n false why more rest later = later n
+reason_again sections n true why more rest later =
     let line = codes "# " ++ before 10 why in
     let no_feed : Free 10 line = free_append 10 (codes "# ") (before 10 why) (free_by 10 (codes "# ") refl) (free_before 10 why) in
-    ap (λ t. lines_read n false (lines_of t)) (append_assoc line (codes "\n") rest)
-    ∙ ap (lines_read n false) (lines_line line rest no_feed)
-    ∙ plain_line n line (lines_of rest) (no_word 35 32 (before 10 why) false refl refl refl)
+    ap (λ t. lines_read sections n false (lines_of t)) (append_assoc line (codes "\n") rest)
+    ∙ ap (lines_read sections n false) (lines_line line rest no_feed)
+    ∙ plain_line sections n line (lines_of rest) refl refl
     ∙ ap (both (Ok [])) (later (n + 1))
 
 -- the lines of some bytes, and of the bytes behind them
-piece_again : (look : Look) (n at : ℕ) (bytes more rest : List ℕ) (note : Note) → look.omitted.contents ≡ false → IsBytes bytes
-    → ((m : ℕ) → lines_read m false (lines_of rest) ≡ Ok more)
-    → lines_read n false (lines_of (line_text look at bytes note ++ rest)) ≡ Ok (bytes ++ more)
+piece_again : (sections : Sections) (look : Look) (n at : ℕ) (bytes more rest : List ℕ) (note : Note) → look.omitted.contents ≡ false → IsBytes bytes
+    → ((m : ℕ) → lines_read sections m false (lines_of rest) ≡ Ok more)
+    → lines_read sections n false (lines_of (line_text look at bytes note ++ rest)) ≡ Ok (bytes ++ more)
 unfolding line_text
-piece_again look n at [] more rest note all fits later = later n
-piece_again look n at (b ∷ bytes) more rest note all fits later =
+piece_again sections look n at [] more rest note all fits later = later n
+piece_again sections look n at (b ∷ bytes) more rest note all fits later =
     let is = is_in at (length (b ∷ bytes)) look.refused in
-    ap (λ t. lines_read n false (lines_of (t ++ rest))) (line_kept look at b bytes note all)
-    ∙ line_again look n at b bytes rest note is fits
-    ∙ ap (both (Ok (b ∷ bytes))) (reason_again (n + 1) is look.why more rest later)
+    ap (λ t. lines_read sections n false (lines_of (t ++ rest))) (line_kept look at b bytes note all)
+    ∙ line_again sections look n at b bytes rest note is fits
+    ∙ ap (both (Ok (b ∷ bytes))) (reason_again sections (n + 1) is look.why more rest later)
 
 bytes_take : (n : ℕ) (bytes : List ℕ) → IsBytes bytes → IsBytes (take n bytes)
 bytes_take zero bytes fits k = omega arith
@@ -204,31 +215,32 @@ halves zero bytes = refl
 halves (suc n) [] = refl
 halves (suc n) (b ∷ bytes) = ap (λ l. b ∷ l) (halves n bytes)
 
-lines_again : (look : Look) (pieces : List Piece) (n at : ℕ) (bytes rest : List ℕ) → look.omitted.contents ≡ false → IsBytes bytes
-    → ((m : ℕ) → lines_read m false (lines_of rest) ≡ Ok [])
-    → lines_read n false (lines_of (lines_text look at bytes pieces ++ rest)) ≡ Ok bytes
+lines_again : (sections : Sections) (look : Look) (pieces : List Piece) (n at : ℕ) (bytes rest : List ℕ) → look.omitted.contents ≡ false → IsBytes bytes
+    → ((m : ℕ) → lines_read sections m false (lines_of rest) ≡ Ok [])
+    → lines_read sections n false (lines_of (lines_text look at bytes pieces ++ rest)) ≡ Ok bytes
 unfolding lines_text
-lines_again look [] n at bytes rest all fits later =
-    piece_again look n at bytes [] rest Unread all fits later ∙ ap (λ (l : List ℕ). Ok l) (append-nil bytes)
-lines_again look (piece ∷ pieces) n at bytes rest all fits later =
+lines_again sections look [] n at bytes rest all fits later =
+    piece_again sections look n at bytes [] rest Unread all fits later ∙ ap (λ (l : List ℕ). Ok l) (append-nil bytes)
+lines_again sections look (piece ∷ pieces) n at bytes rest all fits later =
     let front = take piece.size bytes in
     let back = drop piece.size bytes in
     let others = lines_text look (at + length front) back pieces in
-    ap (λ t. lines_read n false (lines_of t)) (append_assoc (line_text look at front piece.note) others rest)
-    ∙ piece_again look n at front back (others ++ rest) piece.note all (bytes_take piece.size bytes fits)
-    (λ m. lines_again look pieces m (at + length front) back rest all (bytes_drop piece.size bytes fits) later)
+    ap (λ t. lines_read sections n false (lines_of t)) (append_assoc (line_text look at front piece.note) others rest)
+    ∙ piece_again sections look n at front back (others ++ rest) piece.note all (bytes_take piece.size bytes fits)
+    (λ m. lines_again sections look pieces m (at + length front) back rest all (bytes_drop piece.size bytes fits) later)
     ∙ ap (λ (l : List ℕ). Ok l) (halves piece.size bytes)
 
 -- the reason at the end holds none either
-last_again : (n : ℕ) (is : Bool) (why : List ℕ) → lines_read n false (lines_of (reason_text is why)) ≡ Ok []
+last_again : (sections : Sections) (n : ℕ) (is : Bool) (why : List ℕ) → lines_read sections n false (lines_of (reason_text is why)) ≡ Ok []
 unfolding lines_read lines_of
-last_again n is why =
-    ap (λ t. lines_read n false (lines_of t)) (sym (append-nil (reason_text is why))) ∙ reason_again n is why [] [] (λ m. refl)
+last_again sections n is why =
+    ap (λ t. lines_read sections n false (lines_of t)) (sym (append-nil (reason_text is why))) ∙ reason_again sections n is why [] [] (λ m. refl)
 
 pub shown_again : (look : Look) (bytes text : List ℕ) (pieces : List Piece) → look.omitted.contents ≡ false → IsBytes bytes
     → text ≡ text_shown look bytes pieces → text_bytes text ≡ Ok bytes
 unfolding text_shown
 shown_again look bytes text pieces all fits is =
     let past = is_past (length bytes) look.refused in
+    let sections = text_sections (text_shown look bytes pieces) in
     ap text_bytes is
-    ∙ lines_again look pieces 1 0 bytes (reason_text past look.why) all fits (λ m. last_again m past look.why)
+    ∙ lines_again sections look pieces 1 0 bytes (reason_text past look.why) all fits (λ m. last_again sections m past look.why)

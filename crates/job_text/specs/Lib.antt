@@ -1,12 +1,10 @@
 pub mod Cuts
 pub mod Floats
-pub mod Made
 pub mod Meanings
 pub mod Names
 pub mod Noted
 pub mod Notes
 pub mod Rows
-pub mod Sentences
 pub mod Shown
 pub mod Taken
 pub mod Uniforms

@@ -1,15 +1,12 @@
-//! A job file as text for people, and back.
+//! A job file as text for people.
 //!
-//! `show` writes any bytes as lines: some of the bytes in hexadecimal, a `#`, their offset in the file and what they are. `make`
-//! reads what stands before each `#`. So each byte is on one line, and `make` of what `show` wrote is the same bytes. Between lines
-//! `asm` and `end` it reads assembler text.
+//! `show` writes any bytes as lines: some of the bytes in hexadecimal, a `#`, their offset in the file and what they are. So each byte
+//! is on one line, and `job_make::make` of what `show` wrote is the same bytes.
 #![tactic(auto)]
 
-mod blocks;
 mod code;
 mod cuts;
 mod cutting;
-mod fault;
 mod floats;
 mod instructions;
 mod list;
@@ -19,16 +16,12 @@ mod note;
 mod noted;
 mod notes;
 mod numbers;
-mod reading;
 mod rows;
 mod streams;
 mod uniforms;
 mod view;
-mod words;
 mod writing;
 
-pub use fault::{MakeFault, Mistake};
 pub use noted::disassemble_noted;
-pub use reading::make;
 pub use view::{Omitted, View};
 pub use writing::show;

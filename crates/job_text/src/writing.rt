@@ -3,7 +3,7 @@ ghost use Rattle.std.specs.Prelude.{◌≡◌, ◌<◌, ◌^◌, ◌+◌, ◌++�
 ghost use Rattle.job_text.specs.declared.note.Piece.{Piece as PieceModel};
 ghost use Rattle.job_text.specs.Shown.{offset_text, remark, is_in, reason_text, end_text, whole_line, line_text, look_of, text_shown};
 ghost use Rattle.job_text.specs.Cuts.{AreLines, AreAllLines};
-ghost use Rattle.job_text.specs.Made.{text_bytes};
+ghost use Rattle.job_make.specs.Made.{text_bytes};
 
 use crate::code::{Taking, next, uniform_of};
 use crate::cuts::cuts_of;

@@ -1,0 +1,4 @@
+pub mod BlockSteps
+pub mod SectionSteps
+pub mod Steps
+pub mod WordSteps
