@@ -63,8 +63,9 @@ static bool in_stream(uint32_t position, uint32_t uniforms) {
 
 /* Whether the call can read a block: what docs/LIBRARY.md says of it. */
 static bool is_readable(const struct block *block) {
-    if (block->count == 0 || block->count - 1 < block->entries[0].words[2]) return false;
-    uint32_t uniforms = block->entries[0].words[0], samples = block->entries[0].words[2];
+    if (block->count == 0) return false;
+    uint32_t uniforms = block->entries[0].words[0], samples = block->entries[0].words[1];
+    if (block->count != (size_t)1 + samples + block->entries[0].words[2]) return false;
     for (size_t k = 1; k < block->count; k++) {
         const uint32_t *words = block->entries[k].words;
         if (k > samples && words[0] >= uniforms) return false;

@@ -332,8 +332,8 @@ uint32_t vc4check_make_shader(const uint8_t *code, size_t length, struct vc4chec
  * VC4CHECK_NO_MEMORY  `answer` and the window are as before.
  *
  * The answer rests on the blocks: each `known` of any entries is what vc4check_make_shader made of the buffer's content. Where one isn't,
- * nothing is read or written outside of what is given all the same. A block that can't be a shader's, as one cut off, is as none, and the call
- * checks all shaders; by one of another shader a job may be accepted that isn't safe, or refused that is.
+ * nothing is read or written outside of what is given all the same. A block that can't be a shader's, as an empty one or one cut off, is as none,
+ * and the call checks all shaders; by one of another shader a job may be accepted that isn't safe, or refused that is.
  *
  * An accepted job may run beside others, and in places of finished ones, where the driver keeps five duties (docs/LIBRARY.md, and driver.c).
  */

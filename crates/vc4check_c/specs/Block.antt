@@ -1,6 +1,7 @@
 -- What is kept of a checked shader for later calls: entries of five words, the first of which tells of the whole shader, and then one for
--- each sample and each address word.
-use Rattle.std.specs.Prelude.{◌≡◌, ◌≤◌, ◌==◌, ◌+◌, ◌*◌, ◌/◌, ◌%◌, ℕ, List, [], ◌∷◌, ◌++◌, length, map, take, drop, slice_index, slice_index_or, Option, Some, None, if◌then◌else◌}
+-- each sample and each address word. The first one's words are the uniforms, the numbers of samples and of address words, the word of what
+-- was found, and the place of a broken strict rule.
+use Rattle.std.specs.Prelude.{◌≡◌, ◌≤◌, ◌==◌, ◌+◌, ◌*◌, ◌/◌, ◌%◌, ℕ, Bool, List, [], ◌∷◌, ◌++◌, length, map, take, drop, slice_index, slice_index_or, Option, Some, None, if◌then◌else◌}
 use Rattle.field_words.specs.{Sizes.most_code, Questions.first_of, Questions.IsFirst}
 use Rattle.qpu_isa.specs.{declared.inst.Sample.Sample, Shader.ShaderModel, Shader.position, Shader.IsSoundShader}
 use Rattle.job_check.specs.Shaders.{words_of, code_questions, report_of}
@@ -11,8 +12,7 @@ use Rattle.strict_rules.specs.declared.rule.StrictRule.TheVariants.{SetupAtSwitc
 use Rattle.strict_check.specs.{declared.findings.Findings.Findings, Findings.findings_of}
 use Rattle.vc4check_c.specs.{declared.block.Known.Known, declared.block.MadeAnswer.MadeAnswer, Shader.position_report, Shader.flag_report}
 
--- a strict rule by its number, 0 for none; and what the strict check found, in two words: the rule and what the shader uses, and the rule's
--- instruction
+-- a strict rule by its number, 0 for none, and its instruction
 abbrev pub fault_number : Option StrictFault → ℕ
 fault_number None = 0
 fault_number (Some fault) = number_of fault.rule
@@ -21,12 +21,14 @@ abbrev pub fault_place : Option StrictFault → ℕ
 fault_place None = 0
 fault_place (Some fault) = fault.at
 
-unfoldable pub findings_word : Findings → ℕ
-findings_word findings = fault_number findings.fault + 8 * flag_report findings.uses.vpm + 16 * flag_report findings.uses.tile
+-- in one word: the rule, what the shader uses, and whether it switches threads
+unfoldable pub findings_word : (threaded : Bool) → Findings → ℕ
+findings_word threaded findings =
+    fault_number findings.fault + 8 * flag_report findings.uses.vpm + 16 * flag_report findings.uses.tile + 32 * flag_report threaded
 
 abbrev pub known_whole : ShaderModel → Findings → Known
 known_whole shader findings = record {
-  words = shader.uniforms ∷ flag_report shader.threaded ∷ length shader.samples ∷ findings_word findings ∷ fault_place findings.fault ∷ [];
+  words = shader.uniforms ∷ length shader.samples ∷ length shader.address_words ∷ findings_word shader.threaded findings ∷ fault_place findings.fault ∷ [];
 }
 
 unfoldable pub known_sample : Sample → Known
@@ -64,9 +66,9 @@ whole_word block i = slice_index (slice_index_or block 0 (record { words = [] })
 unfoldable pub read_of : List Known → ShaderModel
 read_of block = record {
   uniforms = whole_word block 0;
-  samples = map sample_in (take (whole_word block 2) (drop 1 block));
-  address_words = map address_in (drop (1 + whole_word block 2) block);
-  threaded = whole_word block 1 == 1;
+  samples = map sample_in (take (whole_word block 1) (drop 1 block));
+  address_words = map address_in (drop (1 + whole_word block 1) block);
+  threaded = whole_word block 3 / 32 == 1;
 }
 
 -- and of the strict rules
@@ -83,15 +85,15 @@ abbrev pub fault_in : (number at : ℕ) → Option StrictFault
 fault_in number at = if number == 0 then None else Some (record { rule = rule_in number; at = at })
 
 unfoldable pub findings_in_words : (word at : ℕ) → Findings
-findings_in_words word at = record { fault = fault_in (word % 8) at; uses = record { vpm = word / 8 % 2 == 1; tile = word / 16 == 1 } }
+findings_in_words word at = record { fault = fault_in (word % 8) at; uses = record { vpm = word / 8 % 2 == 1; tile = word / 16 % 2 == 1 } }
 
 abbrev pub findings_in_block : List Known → Findings
 findings_in_block block = findings_in_words (whole_word block 3) (whole_word block 4)
 
--- A block that can be read: it has as many entries as the first says, and what it tells has the shape that the check asks. Blocks that
--- weren't made of any shader may be like this too.
+-- A block that can be read: it has exactly as many entries as the first says, and what it tells has the shape that the check asks. Blocks
+-- that weren't made of any shader may be like this too.
 pub record IsReadable (block : List Known) : Type 0 where
-  pub count : 1 + whole_word block 2 ≤ length block
+  pub count : length block ≡ 1 + whole_word block 1 + whole_word block 2
   pub shaped : IsShaped (read_of block)
 
 -- No rule of shaders is broken by these bytes, no more than a shader may have, and the block tells of the shader that they hold.

@@ -17,6 +17,6 @@ pub record MayHandIn (s : Submission) (window : List ℕ) (answer : Verdict) (d 
 abbrev pub job_of : Submission → Verdict → Job
 job_of s answer = record { start = start_of answer.lists; rights = rights_of s answer.lists; plain = data_buffers s }
 
--- On each such day it may be admitted; and so the machine stays safe for ever, as `DriversAreSafe` (promises) says.
+-- On each such day it may be admitted; and so the machine stays safe for ever, as `days_are_safe` (day_law) says.
 abbrev pub MayJoin : Submission → (window : List ℕ) → Verdict → Type 0
 MayJoin s window answer = (d : Day) → MayHandIn s window answer d → MayHappen d (Admits (job_of s answer))

@@ -1,5 +1,5 @@
 //! A shader that is checked once, when it is made: what the check found out is kept in a block of the caller's.
-ghost use Rattle.std.specs.Prelude.{◌≡◌, ◌≢◌, ◌≤◌, ◌<◌, ◌+◌, ◌↔◌, ◌⊎◌, ℕ, true, length, map, Some, IfOk, IfSome};
+ghost use Rattle.std.specs.Prelude.{◌≡◌, ◌≢◌, ◌≤◌, ◌<◌, ◌+◌, ◌^◌, ◌↔◌, ◌⊎◌, ℕ, true, length, map, Some, IfOk, IfSome};
 ghost use Rattle.field_words.specs.Sizes.{most_code};
 ghost use Rattle.field_words.specs.Questions.{Answers, first_of};
 ghost use Rattle.qpu_isa.specs.Shader.{shader_view, sample_at, address_at};
@@ -20,8 +20,8 @@ use std::alloc::{AllocError, Global};
 use strict_check::{Findings, Uses, findings_in};
 use strict_rules::{StrictFault, StrictRule};
 
-/// An entry of what is kept of a checked shader: the first tells of the whole shader, and each other of a sample or an address
-/// word.
+/// An entry of what is kept of a checked shader. The first has the number of uniforms, that of samples, that of address words, the word of
+/// what was found (`findings_word`), and the instruction where a strict rule is broken; then comes one for each sample and each address word.
 #[repr(C)]
 #[derive(Clone, Copy, Debug, PartialEq, Eq)]
 pub struct Known {
@@ -78,22 +78,27 @@ fn known_addresses(alloc: Global, words: &[u32]) -> Result<Vec<Known>, AllocErro
     Ok(entries)
 }
 
-/// The number of a strict rule that is broken, 0 for none, and what the shader uses, in one word.
+/// In one word: the number of a strict rule that is broken, 0 for none, and 8 where the shader uses the VPM, 16 where it uses the tile buffer,
+/// and 32 where it switches threads.
 #[tactic(auto, unfolding(crate::specs::Block::findings_word))]
-fn findings_word(findings: &Findings) -> u32
-    ensures { result ≡ findings_word findings.now }
+fn findings_word(threaded: bool, findings: &Findings) -> u32
+    ensures { result ≡ findings_word threaded findings.now }
 {
     let number = match findings.fault {
         Some(fault) => u32::from(fault.rule.number()),
         None => 0,
     };
-    number + 8 * u32::from(findings.uses.vpm) + 16 * u32::from(findings.uses.tile)
+    number
+        + 8 * u32::from(findings.uses.vpm)
+        + 16 * u32::from(findings.uses.tile)
+        + 32 * u32::from(threaded)
 }
 
 /// What is kept of a shader.
 #[tactic(auto, unfolding(crate::specs::Block::block_of))]
 fn block_of(alloc: Global, info: &ShaderInfo, findings: &Findings) -> Result<Vec<Known>, AllocError>
-    requires { length info.now.samples.items < 4294967296 }
+    requires samples { length info.now.samples.items < 2 ^ 32 }
+    requires address_words { length info.now.address_words.items < 2 ^ 32 }
     ensures { IfOk result (λ block. block.items ≡ block_of (shader_view info.now) findings.now) }
 {
     let place = match findings.fault {
@@ -102,9 +107,9 @@ fn block_of(alloc: Global, info: &ShaderInfo, findings: &Findings) -> Result<Vec
     };
     let words = [
         info.uniforms,
-        u32::from(info.threaded),
         info.samples.len() as u32,
-        findings_word(findings),
+        info.address_words.len() as u32,
+        findings_word(info.threaded, findings),
         place,
     ];
     let mut block = vec![in alloc; Known { words }]?;
@@ -240,16 +245,16 @@ fn addresses_in(alloc: Global, entries: &[Known]) -> Result<Vec<u32>, AllocError
 /// What a block tells of a shader, which has as many entries as its first says.
 #[tactic(auto, unfolding(crate::specs::Block::read_of))]
 fn read(alloc: Global, block: &[Known]) -> Result<ShaderInfo, AllocError>
-    requires { 1 + whole_word block.now 2 ≤ length block.now }
+    requires { 1 + whole_word block.now 1 ≤ length block.now }
     ensures { IfOk result (λ info. shader_view info ≡ read_of block.now) }
 {
-    let [uniforms, threaded, count, _, _] = block[0].words;
-    let end = 1 + count as usize;
+    let [uniforms, samples, _, word, _] = block[0].words;
+    let end = 1 + samples as usize;
     Ok(ShaderInfo {
         uniforms,
         samples: samples_in(alloc, &block[1..end])?,
         address_words: addresses_in(alloc, &block[end..])?,
-        threaded: threaded == 1,
+        threaded: word / 32 == 1,
     })
 }
 
@@ -284,7 +289,7 @@ fn findings_in_words(word: u32, at: u32) -> Findings
     };
     let uses = Uses {
         vpm: word / 8 % 2 == 1,
-        tile: word / 16 == 1,
+        tile: word / 16 % 2 == 1,
     };
     Findings { fault, uses }
 }
@@ -349,7 +354,7 @@ fn are_addresses_inside(info: &ShaderInfo) -> bool
     true
 }
 
-/// What a block tells of a shader, and `None` where it can't be read: where it is shorter than it says, or what it tells hasn't the shape
+/// What a block tells of a shader, and `None` where it can't be read: where it isn't as long as it says, or what it tells hasn't the shape
 /// that the check asks. Whose shader it is isn't asked.
 pub(crate) fn shader_in_block(
     alloc: Global,
@@ -358,7 +363,9 @@ pub(crate) fn shader_in_block(
     ensures { IfOk result (λ found. IfSome found
         (λ info. IsReadable block.now × (shader_view info ≡ read_of block.now))) }
 {
-    if block.is_empty() || block.len() < 1 + block[0].words[2] as usize {
+    if block.is_empty()
+        || block.len() != 1 + block[0].words[1] as usize + block[0].words[2] as usize
+    {
         return Ok(None);
     }
     let info = read(alloc, block)?;
