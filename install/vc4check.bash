@@ -20,8 +20,9 @@ _vc4check() {
     "picture --run") words="--favour" ;;
     "check check") words="--strict --quiet --json --help -o" files=1 ;;
     "check --strict") words="--quiet --json" files=1 ;;
-    "show show") words="--strict --no-content --no-offsets --help -o" files=1 ;;
-    "show --strict") words="--no-content --no-offsets" files=1 ;;
+    "show show") words="--strict --draws --no-content --no-offsets --help -o" files=1 ;;
+    "show --strict") words="--draws --no-content --no-offsets" files=1 ;;
+    "show --draws") words="--no-content --no-offsets" files=1 ;;
     "show --no-content") words="--no-offsets" files=1 ;;
     "disasm disasm") words="--notes --help -o" files=1 ;;
     "shader shader") words="--strict --asm --help -o" files=1 ;;

@@ -22,8 +22,9 @@ case "$command $before" in
   ("picture --run") compadd -- --favour ;;
   ("check check") compadd -- --strict --quiet --json --help -o; _files ;;
   ("check --strict") compadd -- --quiet --json; _files ;;
-  ("show show") compadd -- --strict --no-content --no-offsets --help -o; _files ;;
-  ("show --strict") compadd -- --no-content --no-offsets; _files ;;
+  ("show show") compadd -- --strict --draws --no-content --no-offsets --help -o; _files ;;
+  ("show --strict") compadd -- --draws --no-content --no-offsets; _files ;;
+  ("show --draws") compadd -- --no-content --no-offsets; _files ;;
   ("show --no-content") compadd -- --no-offsets; _files ;;
   ("disasm disasm") compadd -- --notes --help -o; _files ;;
   ("shader shader") compadd -- --strict --asm --help -o; _files ;;

@@ -1,6 +1,6 @@
 -- Options: words that begin with a dash, and which of them a wrong one is near to.
 use Rattle.std.specs.Prelude.{ℕ, ◌==◌, ◌&&◌, nat_le, Bool, List, [], ◌∷◌, codes, Option, Some, None, if◌then◌else◌}
-use Rattle.commands.specs.declared.choice.Choice.TheVariants.{Help, Version, Output, Strict, Quiet, Json, NoContent, Asm, Notes, Favour, Accesses, Seeds, Run, List as ListOption}
+use Rattle.commands.specs.declared.choice.Choice.TheVariants.{Help, Version, Output, Strict, Quiet, Json, Draws, NoContent, Asm, Notes, Favour, Accesses, Seeds, Run, List as ListOption}
 use Rattle.commands.specs.declared.verb.Verb.TheVariants as verb
 use Rattle.commands.specs.{declared.choice.Choice.Choice, declared.verb.Verb.Verb}
 
@@ -12,6 +12,7 @@ choice_text Output = codes "-o"
 choice_text Strict = codes "--strict"
 choice_text Quiet = codes "--quiet"
 choice_text Json = codes "--json"
+choice_text Draws = codes "--draws"
 choice_text NoContent = codes "--no-content"
 choice_text Asm = codes "--asm"
 choice_text Notes = codes "--notes"
@@ -49,7 +50,8 @@ common letter = if letter == 111 then Output else Help
 unfoldable pub nearest : Verb → ℕ → Choice
 nearest verb.Check letter =
     if letter == 115 then Strict else (if letter == 113 then Quiet else (if letter == 106 then Json else common letter))
-nearest verb.Show letter = if letter == 115 then Strict else (if letter == 110 then NoContent else common letter)
+nearest verb.Show letter =
+    if letter == 115 then Strict else (if letter == 100 then Draws else (if letter == 110 then NoContent else common letter))
 nearest verb.Disasm letter = if letter == 110 then Notes else common letter
 nearest verb.Shader letter = if letter == 115 then Strict else (if letter == 97 then Asm else common letter)
 nearest verb.Replay letter =

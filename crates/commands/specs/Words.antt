@@ -74,10 +74,10 @@ abbrev pub check : Line → Result Task WordFault
 check = flag (codes "--strict") (λ strict. option (codes "--quiet") (ended (Read (Verdict strict Quiet)))
     (option (codes "--json") (ended (Read (Verdict strict Json))) (ended (Read (Check strict)))))
 
--- show [--strict] [--no-content] [--no-offsets]
+-- show [--strict] [--draws] [--no-content] [--no-offsets]
 abbrev pub show : Line → Result Task WordFault
-show = flag (codes "--strict") (λ strict. flag (codes "--no-content") (λ contents. flag (codes "--no-offsets") (λ offsets.
-    ended (Read (Show (record { strict = strict; omitted = record { contents = contents; offsets = offsets } }))))))
+show = flag (codes "--strict") (λ strict. flag (codes "--draws") (λ draws. flag (codes "--no-content") (λ contents. flag (codes "--no-offsets") (λ offsets.
+    ended (Read (Show (record { strict = strict; draws = draws; omitted = record { contents = contents; offsets = offsets } })))))))
 
 -- disasm [--notes]
 abbrev pub disasm : Line → Result Task WordFault

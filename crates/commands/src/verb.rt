@@ -68,10 +68,11 @@ where a shader branches back; or the first rule that it breaks.",
 );
 
 const SHOW: Usage = (
-    "show [--strict] [--no-content] [--no-offsets] [FILE]",
+    "show [--strict] [--draws] [--no-content] [--no-offsets] [FILE]",
     "Reads any bytes, at most 48 MiB, and writes them as text that says what each byte of a job file is, as far as they go, and marks the first
 rule that they break. With --strict it asks the strict rules (E) too, last of all. With --no-content it leaves out the contents of buffers, but
 for a line that is marked, and make can't read the text again; with --no-offsets the offset on each line: so two jobs can be compared by diff.
+With --draws it writes only the lists' packets, a paragraph a draw, and behind a shader state its record and its shaders' uniforms.
 The text is some three times as long, and make reads at most 48 MiB of it again.",
 );
 

@@ -162,10 +162,12 @@ fn show(mut line: Line) -> Result<Task, WordFault>
     ensures within { IfOk result ReadsWithin }
 {
     let strict = line.begins("--strict");
+    let draws = line.begins("--draws");
     let contents = line.begins("--no-content");
     let offsets = line.begins("--no-offsets");
     line.end(Task::Read(Command::Show(Showing {
         strict,
+        draws,
         omitted: Omitted { contents, offsets },
     })))
 }

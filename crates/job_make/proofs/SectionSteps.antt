@@ -3,7 +3,7 @@ use Rattle.std.proofs.Common.{◌≡◌, ℕ, ◌+◌, ◌≤◌, Bool, true, fa
 use Rattle.std.specs.{Option.option_or, Prelude.is_some, Prelude.bytes_eq, Prelude.if◌then◌else◌}
 use Rattle.script.specs.Lines.{lines_of}
 use Rattle.field_words.specs.{declared.stop.Stop.Stop, declared.stop.Stop.TheVariants.Fault}
-use Rattle.job_make.specs.Made.{Sections, any_section, both, part_read, stays_inside, section_named, counted, size_from, section_from, IsFaultOf}
+use Rattle.job_make.specs.Made.{Sections, any_section, both, part_read, stays_inside, name_on, counted, size_from, section_from, IsFaultOf}
 use Rattle.job_make.specs.{declared.fault.MakeFault.MakeFault, declared.sections.Section.Section}
 
 -- what was read, and how much it is
@@ -13,7 +13,7 @@ more_read out new (Ok bytes) later is = let whole : out ++ bytes ≡ new = cc in
 
 -- the lines of a section go on
 pub size_step : (line : ℕ) (inside : Bool) (out new first rest : List ℕ) (lines : List (List ℕ)) → lines_of rest ≡ first ∷ lines
-    → is_some (section_named first) ≡ false → both (Ok out) (part_read any_section line inside first lines) ≡ Ok new
+    → is_some (name_on inside first) ≡ false → both (Ok out) (part_read any_section line inside first lines) ≡ Ok new
     → length new + size_from (line + 1) (stays_inside inside first) lines ≡ length out + size_from line inside (lines_of rest)
 unfolding size_from
 size_step line inside out new first rest lines cut plain is =
@@ -29,12 +29,12 @@ found (Some x) name is same known = ap is_some (sym same) ∙ known
 
 -- they end at a name, at a fault, or with the text
 pub size_at_name : (line : ℕ) (inside : Bool) (first rest : List ℕ) (lines : List (List ℕ)) → lines_of rest ≡ first ∷ lines
-    → is_some (section_named first) ≡ true → size_from line inside (lines_of rest) ≡ 0
+    → is_some (name_on inside first) ≡ true → size_from line inside (lines_of rest) ≡ 0
 unfolding size_from
 size_at_name line inside first rest lines cut named = ap (size_from line inside) cut ∙ rw named refl
 
 pub size_fault : (line : ℕ) (inside : Bool) (first rest : List ℕ) (lines : List (List ℕ)) (stop : Stop MakeFault) (fault : MakeFault) → lines_of rest ≡ first ∷ lines
-    → is_some (section_named first) ≡ false → stop ≡ Fault fault → IsFaultOf (part_read any_section line inside first lines) stop
+    → is_some (name_on inside first) ≡ false → stop ≡ Fault fault → IsFaultOf (part_read any_section line inside first lines) stop
     → size_from line inside (lines_of rest) ≡ 0
 unfolding size_from
 size_fault line inside first rest lines stop fault cut plain is read =
@@ -54,28 +54,28 @@ later true named (Some section) before = refl
 later false named None before = refl
 later false named (Some section) before = refl
 
-pub section_step : (line size : ℕ) (name other first rest : List ℕ) (lines : List (List ℕ)) (old new : Option Section) → lines_of rest ≡ first ∷ lines
-    → section_named first ≡ Some other → size ≡ size_from (line + 1) false lines
+pub section_step : (line size : ℕ) (inside : Bool) (name other first rest : List ℕ) (lines : List (List ℕ)) (old new : Option Section) → lines_of rest ≡ first ∷ lines
+    → name_on inside first ≡ Some other → size ≡ size_from (line + 1) false lines
     → new ≡ cond (bytes_eq other name) (Some (record { line = line; size = size })) old
-    → option_or (section_from (line + 1) lines name) new ≡ option_or (section_from line (lines_of rest) name) old
+    → option_or (section_from (line + 1) (stays_inside inside first) lines name) new ≡ option_or (section_from line inside (lines_of rest) name) old
 unfolding section_from
-section_step line size name other first rest lines old new cut is here put =
-    let behind = section_from (line + 1) lines name in
+section_step line size inside name other first rest lines old new cut is here put =
+    let behind = section_from (line + 1) (stays_inside inside first) lines name in
     let named : Section = record { line = line; size = size } in
-    let begun : section_from line (first ∷ lines) name ≡ option_or behind (if bytes_eq other name then Some named else None) = rw (is, here) refl in
+    let begun : section_from line inside (first ∷ lines) name ≡ option_or behind (if bytes_eq other name then Some named else None) = rw (is, here) refl in
     ap (option_or behind) put ∙ later (bytes_eq other name) named behind old
-    ∙ ap (λ s. option_or s old) (sym begun ∙ ap (λ l. section_from line l name) (sym cut))
+    ∙ ap (λ s. option_or s old) (sym begun ∙ ap (λ l. section_from line inside l name) (sym cut))
 
-pub section_skip : (line : ℕ) (name first rest : List ℕ) (lines : List (List ℕ)) (old : Option Section) → lines_of rest ≡ first ∷ lines
-    → section_named first ≡ None → option_or (section_from (line + 1) lines name) old ≡ option_or (section_from line (lines_of rest) name) old
+pub section_skip : (line : ℕ) (inside : Bool) (name first rest : List ℕ) (lines : List (List ℕ)) (old : Option Section) → lines_of rest ≡ first ∷ lines
+    → name_on inside first ≡ None → option_or (section_from (line + 1) (stays_inside inside first) lines name) old ≡ option_or (section_from line inside (lines_of rest) name) old
 unfolding section_from
-section_skip line name first rest lines old cut is =
-    let behind = section_from (line + 1) lines name in
-    let none : section_from line (first ∷ lines) name ≡ option_or behind None = rw is refl in
-    later false (record { line = line; size = 0 }) behind old ∙ ap (λ s. option_or s old) (sym none ∙ ap (λ l. section_from line l name) (sym cut))
+section_skip line inside name first rest lines old cut is =
+    let behind = section_from (line + 1) (stays_inside inside first) lines name in
+    let none : section_from line inside (first ∷ lines) name ≡ option_or behind None = rw is refl in
+    later false (record { line = line; size = 0 }) behind old ∙ ap (λ s. option_or s old) (sym none ∙ ap (λ l. section_from line inside l name) (sym cut))
 
-pub sections_end : (line : ℕ) (rest : List ℕ) (old all : Sections) → length rest ≤ 0
-    → ((name : List ℕ) → option_or (section_from line (lines_of rest) name) (old name) ≡ all name) → old ≡ all
+pub sections_end : (line : ℕ) (inside : Bool) (rest : List ℕ) (old all : Sections) → length rest ≤ 0
+    → ((name : List ℕ) → option_or (section_from line inside (lines_of rest) name) (old name) ≡ all name) → old ≡ all
 unfolding section_from lines_of
-sections_end line [] old all none same = λ i name. same name i
-sections_end line (c ∷ rest) old all none same = absurd (omega (arith, none))
+sections_end line inside [] old all none same = λ i name. same name i
+sections_end line inside (c ∷ rest) old all none same = absurd (omega (arith, none))

@@ -43,6 +43,10 @@ named_by words = None
 unfoldable pub section_named : List ℕ → Option (List ℕ)
 section_named text = named_by (full_of (words_of (before 35 text)))
 
+-- the name of a section on a line that isn't assembler text
+unfoldable pub name_on : Bool → List ℕ → Option (List ℕ)
+name_on inside text = if inside then None else section_named text
+
 -- the section that a name stands for, where there is one
 abbrev pub Sections : Type 0
 Sections = List ℕ → Option Section
@@ -213,7 +217,7 @@ counted (Ok bytes) later = length bytes + later
 unfoldable pub size_from : ℕ → Bool → List (List ℕ) → ℕ
 size_from line inside [] = 0
 size_from line inside (text ∷ texts) =
-    if is_some (section_named text) then 0
+    if is_some (name_on inside text) then 0
     else counted (part_read any_section line inside text texts) (size_from (line + 1) (stays_inside inside text) texts)
 
 abbrev pub is_named : List ℕ → Option (List ℕ) → Bool
@@ -221,14 +225,14 @@ is_named name None = false
 is_named name (Some other) = bytes_eq other name
 
 -- the section of a name: it begins behind the last of these lines that names it
-unfoldable pub section_from : ℕ → List (List ℕ) → Sections
-section_from line [] name = None
-section_from line (text ∷ texts) name =
-    option_or (section_from (line + 1) texts name)
-    (if is_named name (section_named text) then Some (record { line = line; size = size_from (line + 1) false texts }) else None)
+unfoldable pub section_from : ℕ → Bool → List (List ℕ) → Sections
+section_from line inside [] name = None
+section_from line inside (text ∷ texts) name =
+    option_or (section_from (line + 1) (stays_inside inside text) texts name)
+    (if is_named name (name_on inside text) then Some (record { line = line; size = size_from (line + 1) false texts }) else None)
 
 abbrev pub text_sections : List ℕ → Sections
-text_sections text = section_from 1 (lines_of text)
+text_sections text = section_from 1 false (lines_of text)
 
 -- the bytes of a whole text, whose lines count from 1, or the first fault in it
 abbrev pub text_bytes : List ℕ → Result (List ℕ) MakeFault

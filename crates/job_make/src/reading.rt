@@ -1,8 +1,8 @@
 //! A text as bytes.
-ghost use Rattle.std.specs.Prelude.{◌≡◌, ◌+◌, ◌≤◌, ◌<◌, ◌^◌, [], false, length, IfOk, IfErr, IfSome, Ok, MatchResult};
+ghost use Rattle.std.specs.Prelude.{◌≡◌, ◌+◌, ◌≤◌, ◌<◌, ◌^◌, [], false, length, option_copied, IfOk, IfErr, IfSome, Ok, MatchResult};
 ghost use Rattle.field_words.specs.declared.stop.Stop.TheVariants.{Fault};
 ghost use Rattle.hex.specs.Hex.{hex_digit_value};
-ghost use Rattle.job_make.specs.Made.{byte_at, front_digit, both, digits_read, number_read, word_read, line_read, name_read, part_read, stays_inside, size_from, text_sections, text_bytes, IsFaultOf};
+ghost use Rattle.job_make.specs.Made.{byte_at, front_digit, both, digits_read, number_read, word_read, line_read, name_read, part_read, name_on, stays_inside, size_from, text_sections, text_bytes, IsFaultOf};
 ghost use Rattle.job_make.specs.Seen.{sections_in};
 ghost use Rattle.script.specs.Lines.{lines_of};
 
@@ -194,6 +194,17 @@ fn stays_inside(inside: bool, text: &[u8]) -> bool
     says(b"asm", text)
 }
 
+// The name of a section on a line that isn't assembler text.
+#[tactic(auto, unfolding(crate::specs::Made::name_on))]
+fn name_on(inside: bool, line: &[u8]) -> Option<&[u8]>
+    ensures { option_copied result ≡ name_on inside line.now }
+{
+    if inside {
+        return None;
+    }
+    section_named(line)
+}
+
 // How many bytes the lines from a number on give, up to the next that names a section, or up to a fault.
 fn size_from(alloc: Global, line: usize, lines: &[u8]) -> Result<usize, AllocError>
     requires { line + length lines.now ≤ 2 ^ 63 }
@@ -206,7 +217,7 @@ fn size_from(alloc: Global, line: usize, lines: &[u8]) -> Result<usize, AllocErr
     while !rest.is_empty() {
         let cut = next_line(rest);
         let size = out.len();
-        if section_named(cut.first).is_some() {
+        if name_on(inside, cut.first).is_some() {
             return Ok(size);
         }
         match Sections::Any.put_part(alloc, &mut out, line, inside, cut) {
@@ -228,12 +239,14 @@ fn sections_of(alloc: Global, text: &[u8]) -> Result<Sections<'_>, AllocError>
     let mut by_name = BTreeMap::new(alloc);
     let mut rest = text;
     let mut line = 1;
+    let mut inside = false;
     while !rest.is_empty() {
         let cut = next_line(rest);
-        if let Some(name) = section_named(cut.first) {
+        if let Some(name) = name_on(inside, cut.first) {
             let size = size_from(alloc, line + 1, cut.rest)?;
             by_name.insert(name, Section { line, size })?;
         }
+        inside = stays_inside(inside, cut.first);
         line += 1;
         rest = cut.rest;
     }

@@ -1,4 +1,5 @@
 pub mod Again
+pub mod DrawSteps
 pub mod FieldSteps
 pub mod Marks
 pub mod Pieces

@@ -37,7 +37,7 @@ lines_step look old pen mid all rest front back start at split here later = λ n
     later new (subst (λ l. AreLines look pen new at l) split (more_lines look pen mid new front back at here more))
 
 -- lines of all bytes
-pub whole_lines : (look : Look) (old new bytes : List ℕ) → AreLines look old new 0 bytes → AreAllLines look old new bytes
+pub whole_lines : (look : Look) (old new bytes : List ℕ) (at : ℕ) → AreLines look old new at bytes → AreAllLines look old new at bytes
 unfolding AreLines lines_text line_text
-whole_lines look old new bytes are =
-    let all = are [] [] in (all.0, sym (append-nil new) ∙ (all.1 ∙ ap (λ l. old ++ lines_text look 0 l all.0) (append-nil bytes)))
+whole_lines look old new bytes at are =
+    let all = are [] [] in (all.0, sym (append-nil new) ∙ (all.1 ∙ ap (λ l. old ++ lines_text look at l all.0) (append-nil bytes)))

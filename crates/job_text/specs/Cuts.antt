@@ -8,6 +8,6 @@ AreLines look old new at bytes =
     (rest : List ℕ) (later : List Piece) → (pieces : List Piece)
     × (new ++ lines_text look (at + length bytes) rest later ≡ old ++ lines_text look at (bytes ++ rest) pieces)
 
--- Lines of all bytes, for some cut into pieces, stand behind a text.
-abbrev pub AreAllLines : Look → (old new bytes : List ℕ) → Type 0
-AreAllLines look old new bytes = (pieces : List Piece) × (new ≡ old ++ lines_text look 0 bytes pieces)
+-- Lines of all bytes from an offset on, for some cut into pieces, stand behind a text.
+abbrev pub AreAllLines : Look → (old new : List ℕ) → ℕ → List ℕ → Type 0
+AreAllLines look old new at bytes = (pieces : List Piece) × (new ≡ old ++ lines_text look at bytes pieces)

@@ -1,4 +1,5 @@
 pub mod Cuts
+pub mod Draws
 pub mod Floats
 pub mod Meanings
 pub mod Names

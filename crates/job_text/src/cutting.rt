@@ -1,4 +1,5 @@
 //! The pieces of a file, as they are appended.
+ghost use Rattle.std.specs.Prelude.{◌≡◌, take, drop};
 
 use crate::names::field_size;
 use crate::note::{Cut, Field, Note, Part, Piece};
@@ -36,7 +37,9 @@ impl<'a> Job<'a> {
 }
 
 /// What stands in bytes from an offset on, up to a size.
-pub(crate) fn part_at(bytes: &[u8], start: usize, size: usize) -> &[u8] {
+pub(crate) fn part_at(bytes: &[u8], start: usize, size: usize) -> &[u8]
+    ensures { result.now ≡ take size (drop start bytes.now) }
+{
     let (_, rest) = bytes.split_at(start.min(bytes.len()));
     &rest[..size.min(rest.len())]
 }

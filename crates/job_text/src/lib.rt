@@ -7,6 +7,7 @@
 mod code;
 mod cuts;
 mod cutting;
+mod draws;
 mod floats;
 mod instructions;
 mod list;
@@ -22,6 +23,7 @@ mod uniforms;
 mod view;
 mod writing;
 
+pub use draws::show_draws;
 pub use noted::disassemble_noted;
 pub use view::{Omitted, View};
 pub use writing::show;

@@ -2,9 +2,10 @@
 
 use crate::cutting::{Job, Pieces};
 use crate::note::{Field, Note, Part, STAGES, Stage};
-use field_words::get_u32;
-use packets::opcode::{BUFFER_HANDLES, GL_SHADER_STATE, HALT, INDEXED_PRIMITIVE_LIST};
-use packets::{attribute_count, bin_taken, is_extended};
+use bin_list::split_front;
+use field_words::{byte_at, word_at};
+use packets::opcode::{BUFFER_HANDLES, GL_SHADER_STATE, INDEXED_PRIMITIVE_LIST};
+use packets::{attribute_count, is_extended};
 use std::alloc::AllocError;
 
 /// The words of a record for one shader.
@@ -27,11 +28,11 @@ const ATTRIBUTE: [Field; 5] = [
 
 const HIGH_STRIDE: [Field; 1] = [Field::Plain("high bits of the stride", 4)];
 
-// A record of a job by its number.
+/// A record of a job by its number.
 #[derive(Clone, Copy)]
-struct Record<'a> {
-    job: Job<'a>,
-    number: usize,
+pub(crate) struct Record<'a> {
+    pub job: Job<'a>,
+    pub number: usize,
 }
 
 impl<'a> Record<'a> {
@@ -44,25 +45,35 @@ impl<'a> Record<'a> {
     }
 }
 
+impl Job<'_> {
+    /// The buffer of indexes behind a packet of the job's list, by that before it.
+    pub fn indexes_behind(&self, packet: &[u8], buffer: Option<usize>) -> Option<usize> {
+        if byte_at(packet, 0) == BUFFER_HANDLES {
+            return self.buffer_at(packet, 1);
+        }
+        buffer
+    }
+}
+
+/// What a packet of a job's list is, where indexes are read from a buffer.
+pub(crate) fn packet_note(job: u32, packet: &[u8], buffer: Option<usize>) -> Note {
+    match byte_at(packet, 0) {
+        BUFFER_HANDLES | INDEXED_PRIMITIVE_LIST => Note::Packet(job, buffer),
+        _ => Note::Packet(job, None),
+    }
+}
+
 impl Pieces {
     /// Appends a job's binner list: its packets, and what stands behind a halt.
     pub fn push_list(&mut self, job: Job) -> Result<(), AllocError> {
         let mut rest = job.list;
         let mut buffer = job.buffer(0);
         self.left = rest.len();
-        while let Some((opcode, behind)) = rest.split_first() {
-            let opcode = *opcode;
-            let size = (bin_taken(opcode) as usize).min(rest.len());
-            if opcode == BUFFER_HANDLES {
-                buffer = job.buffer_at(behind, 0);
-            }
-            let is_named = opcode == BUFFER_HANDLES || opcode == INDEXED_PRIMITIVE_LIST;
-            let named = if is_named { buffer } else { None };
-            self.push(size, Note::Packet(job.number, named))?;
-            rest = &rest[size..];
-            if opcode == HALT {
-                break;
-            }
+        while !rest.is_empty() {
+            let (packet, behind) = split_front(rest);
+            buffer = job.indexes_behind(packet, buffer);
+            self.push(packet.len(), packet_note(job.number, packet, buffer))?;
+            rest = behind;
         }
         self.push_all(16, Note::BehindHalt(job.number))
     }
@@ -95,9 +106,9 @@ impl Pieces {
         self.push_fields(record.shader(Stage::Coordinate), &CODE)
     }
 
-    // Appends a record by its state's word. An extended one has behind its attributes the room of those up to eight, and the strides'
-    // words.
-    fn push_record(&mut self, record: Record, state: u32) -> Result<(), AllocError> {
+    /// Appends a record by its state's word. An extended one has behind its attributes the room of those up to eight, and the strides'
+    /// words.
+    pub fn push_record(&mut self, record: Record, state: u32) -> Result<(), AllocError> {
         let attributes = attribute_count(state) as usize;
         self.push_handles(record, attributes)?;
         self.push_fixed(record)?;
@@ -118,17 +129,14 @@ impl Pieces {
     pub fn push_records(&mut self, job: Job, starts: &mut Vec<usize>) -> Result<(), AllocError> {
         let mut rest = job.list;
         self.left = job.records.len();
-        while let Some((opcode, behind)) = rest.split_first() {
-            let size = (bin_taken(*opcode) as usize).min(rest.len());
-            if *opcode == HALT || self.left == 0 {
-                break;
-            }
-            if *opcode == GL_SHADER_STATE {
+        while !rest.is_empty() && self.left > 0 {
+            let (packet, behind) = split_front(rest);
+            if byte_at(packet, 0) == GL_SHADER_STATE {
                 let number = starts.len();
                 starts.push(job.records.len().saturating_sub(self.left))?;
-                self.push_record(Record { job, number }, get_u32(behind, 0).unwrap_or(0))?;
+                self.push_record(Record { job, number }, word_at(packet, 1))?;
             }
-            rest = &rest[size..];
+            rest = behind;
         }
         self.push_all(16, Note::Records(job.number))
     }

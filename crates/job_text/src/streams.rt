@@ -157,8 +157,8 @@ impl Pieces {
         Ok(true)
     }
 
-    // Appends the words that the shaders of a record take, which begins at an offset of the records, in the same way.
-    fn push_streams(
+    /// Appends the words that the shaders of a record take, which begins at an offset of the records, in the same way.
+    pub fn push_streams(
         &mut self,
         alloc: Global,
         job: Job,
@@ -178,6 +178,12 @@ impl Pieces {
         Ok(true)
     }
 
+    /// Appends the uniforms that are left, as numbers alone.
+    pub fn push_unknown(&mut self, job: Job) -> Result<(), AllocError> {
+        let taken = job.uniforms.len().saturating_sub(self.left) / 4;
+        self.push_all(4, Note::Uniform(job.number, taken))
+    }
+
     /// Appends a job's uniforms, by the shaders of the records that begin at these offsets. Behind a shader that isn't known they are
     /// numbers alone.
     pub fn push_uniforms(
@@ -193,7 +199,6 @@ impl Pieces {
                 break;
             }
         }
-        let taken = job.uniforms.len().saturating_sub(self.left) / 4;
-        self.push_all(4, Note::Uniform(job.number, taken))
+        self.push_unknown(job)
     }
 }

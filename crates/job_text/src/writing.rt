@@ -19,11 +19,11 @@ use std::alloc::{AllocError, Global};
 /// How many bytes a remark has at most, as a rule.
 const USUAL_REMARK: usize = 128;
 
-// Some bytes of a file, and their offset in it.
+/// Some bytes of a file, and their offset in it.
 #[derive(Clone, Copy)]
-struct Span<'a> {
-    at: usize,
-    bytes: &'a [u8],
+pub struct Span<'a> {
+    pub at: usize,
+    pub bytes: &'a [u8],
 }
 
 #[tactic(auto, unfolding(crate::specs::Shown::offset_text))]
@@ -99,8 +99,9 @@ fn put_whole_line(
     Ok(())
 }
 
+/// Writes the line of bytes, unless it is left out, and the reason where they are refused.
 #[tactic(auto, unfolding(crate::specs::Shown::line_text))]
-fn put_line(
+pub(crate) fn put_line(
     alloc: Global,
     out: &mut Vec<u8>,
     span: Span<'_>,
@@ -165,19 +166,20 @@ fn put_cut(
     }
 }
 
-// Writes the lines of bytes, part by part.
-fn put_lines(
+/// Writes the lines of bytes, part by part.
+pub(crate) fn put_lines(
     alloc: Global,
     out: &mut Vec<u8>,
-    bytes: &[u8],
+    span: Span<'_>,
     cuts: &[Cut],
     view: View<'_>,
 ) -> Result<(), NoMemory>
-    ensures { OnOk result
-        (AreAllLines (look_of view.entry) out.old.items out.new.items bytes.now) }
+    requires { span.at + length span.bytes.now < 2 ^ 64 }
+    ensures { OnOk result (AreAllLines (look_of view.entry) out.old.items out.new.items
+        span.entry.at span.entry.bytes.now) }
 {
-    let mut rest = bytes;
-    let mut at = 0;
+    let mut rest = span.bytes;
+    let mut at = span.at;
     for cut in cuts {
         let (front, back) = rest.split_at(cut.size().min(rest.len()));
         put_cut(alloc, out, Span { at, bytes: front }, *cut, view)?;
@@ -202,7 +204,7 @@ pub fn show(alloc: Global, bytes: &[u8], view: View<'_>) -> Result<Vec<u8>, NoMe
 {
     let cuts = cuts_of(alloc, bytes)?;
     let mut out = Vec::new(alloc);
-    put_lines(alloc, &mut out, bytes, &cuts, view)?;
+    put_lines(alloc, &mut out, Span { at: 0, bytes }, &cuts, view)?;
     put_reason(&mut out, view.is_refused_past(bytes.len()), view.why)?;
     Ok(out)
 }

@@ -8,7 +8,7 @@ use Rattle.job_make.proofs.reading.sections_of.Given as goal
 abbrev pub invariant-loop-rest : goal.invariant-loop-rest
 invariant-loop-rest l = record {
   line : l.line + length l.rest ≤ length l.fn.text + 1;
-  named : (name : List ℕ) → option_or (section_from l.line (lines_of l.rest) name) (get_by (λ key. slice_cmp nat_cmp name key.now) l.by_name)
+  named : (name : List ℕ) → option_or (section_from l.line l.inside (lines_of l.rest) name) (get_by (λ key. slice_cmp nat_cmp name key.now) l.by_name)
       ≡ text_sections l.fn.text name;
 }
 

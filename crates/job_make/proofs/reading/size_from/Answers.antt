@@ -1,12 +1,12 @@
 use Rattle.std.proofs.{Common.true, Common.false, Common.sym, Common.◌∙◌, Common.arith, lemmas.Bool.Decides.nat_tests}
 use Rattle.script.specs.Lines.{lines_of}
-use Rattle.job_make.specs.Made.{section_named}
+use Rattle.job_make.specs.Made.{name_on}
 use Rattle.job_make.proofs.SectionSteps.{found, size_step, size_at_name, size_fault, size_end}
 use Rattle.job_make.proofs.reading.size_from.Goals as goal
 
 pub returns-then-is_some : goal.returns-then-is_some
 returns-then-is_some c =
-    let named = found c.section_named.result (section_named c.next_line-cut.result.first.now) true c.section_named.ensures
+    let named = found c.name_on.result (name_on c.loop-rest.inside c.next_line-cut.result.first.now) true c.name_on.ensures
     (sym c.is_some.ensures ∙ c.if-is_some.true) in
     let none = size_at_name c.loop-rest.line c.loop-rest.inside c.next_line-cut.result.first.now c.loop-rest.rest.now
     (lines_of c.next_line-cut.result.rest.now) c.next_line-cut.ensures.lines named in
@@ -14,7 +14,7 @@ returns-then-is_some c =
 
 pub returns-in-Err-Fault : goal.returns-in-Err-Fault
 returns-in-Err-Fault c =
-    let plain = found c.section_named.result (section_named c.next_line-cut.result.first.now) false c.section_named.ensures
+    let plain = found c.name_on.result (name_on c.loop-rest.inside c.next_line-cut.result.first.now) false c.name_on.ensures
     (sym c.is_some.ensures ∙ c.if-is_some.false) in
     let none = size_fault c.loop-rest.line c.loop-rest.inside c.next_line-cut.result.first.now c.loop-rest.rest.now
     (lines_of c.next_line-cut.result.rest.now) c.in-Err-Fault.field-0 c.in-Err-Fault.field-0-0 c.next_line-cut.ensures.lines plain
@@ -23,7 +23,7 @@ returns-in-Err-Fault c =
 
 pub loop-rest-preserved : goal.loop-rest-preserved
 loop-rest-preserved c =
-    let plain = found c.section_named.result (section_named c.next_line-cut.result.first.now) false c.section_named.ensures
+    let plain = found c.name_on.result (name_on c.loop-rest.inside c.next_line-cut.result.first.now) false c.name_on.ensures
     (sym c.is_some.ensures ∙ c.if-is_some.false) in
     record {
       line = omega (arith, c.loop-rest.invariant.line, c.next_line-cut.ensures.shorter);
