@@ -1,17 +1,31 @@
 -- What `show` and `make` answer to all of their input.
-use Rattle.std.specs.Prelude.{◌≡◌, ◌⊎◌, ℕ, Bool, true, false, List, [], Ok, Err, Option, Some, None}
-use Rattle.job_format.specs.{declared.rule.Refusal.Refusal, Places.offset_of}
+use Rattle.std.specs.Prelude.{◌≡◌, ◌⊎◌, ℕ, ◌-◌, ◌==◌, ◌&&◌, Bool, true, false, not, List, [], Ok, Err, Option, Some, None, if◌then◌else◌}
+use Rattle.job_format.specs.{declared.rule.Place.Place, declared.rule.Refusal.Refusal, Places.offset_of}
 use Rattle.job_make.specs.{declared.fault.MakeFault.MakeFault, Made.text_bytes}
 use Rattle.job_text.specs.{declared.note.Piece.Piece, declared.view.Omitted.Omitted}
 use Rattle.job_text.specs.{Draws.IsDrawsText, Draws.jobs_drawn, Shown.Look, Shown.text_shown}
-use Rattle.refusal_facts.specs.Line.{line_text, line_of}
+use Rattle.refusal_facts.specs.{Cuts.size_of, Line.line_text, Line.line_of}
 use Rattle.commands.specs.declared.show.Showing.{Showing}
 
--- Where a rule refuses bytes, the line of its offset is marked, and the line follows that tells the refusal.
+-- a place is the end of a part that has bytes
+unfoldable pub is_end : List ℕ → Place → Bool
+is_end bytes place = not (place.at == 0) && (place.at == size_of bytes place.part place.index)
+
+-- the offset of the byte that is marked: that of a place, or the last before an end
+unfoldable pub marked_at : List ℕ → Place → ℕ
+marked_at bytes place = if is_end bytes place then offset_of bytes place - 1 else offset_of bytes place
+
+-- Where a rule refuses bytes, the line of its offset is marked, or a line of its own behind its part, and the line follows that
+-- tells the refusal.
 abbrev pub look_at : Omitted → List ℕ → Option Refusal → Look
-look_at omitted bytes None = record { omitted = omitted; refused = None; why = [] }
+look_at omitted bytes None = record { omitted = omitted; refused = None; behind = false; why = [] }
 look_at omitted bytes (Some refusal) =
-    record { omitted = omitted; refused = Some (offset_of bytes refusal.place); why = line_text (line_of bytes refusal) }
+    record {
+      omitted = omitted;
+      refused = Some (marked_at bytes refusal.place);
+      behind = is_end bytes refusal.place;
+      why = line_text (line_of bytes refusal);
+    }
 
 -- the lines of bytes, or of their draws alone
 abbrev pub IsShown : (draws : Bool) → Look → (bytes text : List ℕ) → Type 0

@@ -1,5 +1,5 @@
 -- The text of any bytes is read as these bytes.
-use Rattle.std.proofs.Common.{◌≡◌, ℕ, zero, suc, ◌+◌, ◌*◌, ◌/◌, ◌%◌, ◌<◌, Bool, true, false, List, [], ◌∷◌, ◌++◌, length, take, drop, codes, Ok, Option, Some, None, refl, sym, ◌∙◌, ap, append_assoc, append-nil, arith, eq-eqb}
+use Rattle.std.proofs.Common.{◌≡◌, ℕ, zero, suc, ◌+◌, ◌*◌, ◌/◌, ◌%◌, ◌<◌, Bool, true, false, not, List, [], ◌∷◌, ◌++◌, length, take, drop, codes, Ok, Option, Some, None, ◌&&◌, refl, sym, ◌∙◌, ap, append_assoc, append-nil, arith, eq-eqb}
 use Rattle.std.proofs.lemmas.Bool.{eqb-true}
 use Rattle.std.specs.Prelude.{slice_index, bytes_eq, ◌==◌}
 use Rattle.hex.specs.Hex.{encode_lower, encode_with, lower_digits, hex_digit_value}
@@ -9,7 +9,7 @@ use Rattle.script.specs.Lines.{before, lines_of, onto_line}
 use Rattle.job_text.proofs.Marks.{Free, free_append, free_before, free_by}
 use Rattle.job_make.specs.Made.{Sections, words_of, full_of, is_alone, says, named_by, section_named, digits_read, size_named, word_by, word_read, words_read, line_read, part_read, stays_inside, lines_read, both, text_sections, text_bytes, is_blank}
 use Rattle.job_text.specs.Meanings.{said_if}
-use Rattle.job_text.specs.Shown.{Look, remark, is_in, is_past, is_content, is_left_out, reason_text, end_text, whole_line, line_text, lines_text, text_shown}
+use Rattle.job_text.specs.Shown.{Look, remark, is_in, is_past, is_content, is_left_out, reason_text, below_text, end_text, whole_line, line_text, lines_text, text_shown}
 use Rattle.job_text.specs.{declared.note.Note.Note, declared.note.Note.TheVariants.Unread, declared.note.Piece.Piece}
 
 before_mark : (mark : ℕ) (xs rest : List ℕ) → Free mark xs → before mark (xs ++ mark ∷ rest) ≡ xs
@@ -146,15 +146,15 @@ free_mark false = tt
 
 line_again : (sections : Sections) (look : Look) (n at b : ℕ) (bytes rest : List ℕ) (note : Note) (is : Bool) → IsBytes (b ∷ bytes)
     → lines_read sections n false (lines_of (whole_line look at (b ∷ bytes) note is ++ rest))
-    ≡ both (Ok (b ∷ bytes)) (lines_read sections (n + 1) false (lines_of (reason_text is look.why ++ rest)))
+    ≡ both (Ok (b ∷ bytes)) (lines_read sections (n + 1) false (lines_of (below_text is look ++ rest)))
 unfolding whole_line end_text remark
 line_again sections look n at b bytes rest note is fits =
     let digits = encode_lower (b ∷ bytes) in
     let r = remark look.omitted at (b ∷ bytes) note in
-    let m = said_if is (codes " <== refused here") in
-    let w = reason_text is look.why in
+    let m = said_if (is && not look.behind) (codes " <== refused here") in
+    let w = below_text is look in
     let line = digits ++ (codes "  # " ++ (r ++ m)) in
-    let free_note : Free 10 (r ++ m) = free_append 10 r m (free_before 10 _) (free_mark is) in
+    let free_note : Free 10 (r ++ m) = free_append 10 r m (free_before 10 _) (free_mark (is && not look.behind)) in
     let no_feed : Free 10 line =
     free_append 10 digits (codes "  # " ++ (r ++ m)) (free_digits 10 (b ∷ bytes) refl fits)
     (free_append 10 (codes "  # ") (r ++ m) (free_by 10 (codes "  # ") refl) free_note) in
@@ -187,6 +187,16 @@ reason_again sections n true why more rest later =
     ∙ plain_line sections n line (lines_of rest) refl refl
     ∙ ap (both (Ok [])) (later (n + 1))
 
+-- nor does what stands below a line
+below_again : (sections : Sections) (look : Look) (n : ℕ) (is : Bool) (more rest : List ℕ)
+    → ((m : ℕ) → lines_read sections m false (lines_of rest) ≡ Ok more)
+    → lines_read sections n false (lines_of (below_text is look ++ rest)) ≡ Ok more
+unfolding below_text
+below_again sections look n is more rest later =
+    let mark = codes "<== refused here" in
+    ap (λ t. lines_read sections n false (lines_of t)) (append_assoc (reason_text (is && look.behind) mark) (reason_text is look.why) rest)
+    ∙ reason_again sections n (is && look.behind) mark more (reason_text is look.why ++ rest) (λ m. reason_again sections m is look.why more rest later)
+
 -- the lines of some bytes, and of the bytes behind them
 piece_again : (sections : Sections) (look : Look) (n at : ℕ) (bytes more rest : List ℕ) (note : Note) → look.omitted.contents ≡ false → IsBytes bytes
     → ((m : ℕ) → lines_read sections m false (lines_of rest) ≡ Ok more)
@@ -197,7 +207,7 @@ piece_again sections look n at (b ∷ bytes) more rest note all fits later =
     let is = is_in at (length (b ∷ bytes)) look.refused in
     ap (λ t. lines_read sections n false (lines_of (t ++ rest))) (line_kept look at b bytes note all)
     ∙ line_again sections look n at b bytes rest note is fits
-    ∙ ap (both (Ok (b ∷ bytes))) (reason_again sections (n + 1) is look.why more rest later)
+    ∙ ap (both (Ok (b ∷ bytes))) (below_again sections look (n + 1) is more rest later)
 
 bytes_take : (n : ℕ) (bytes : List ℕ) → IsBytes bytes → IsBytes (take n bytes)
 bytes_take zero bytes fits k = omega arith

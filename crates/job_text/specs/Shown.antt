@@ -5,14 +5,15 @@ use Rattle.script.specs.Lines.{before}
 use Rattle.job_text.specs.{declared.note.Note.Note, declared.note.Note.TheVariants.Unread, declared.note.Note.TheVariants.Data, declared.note.Note.TheVariants.Instruction}
 use Rattle.job_text.specs.{declared.note.Piece.Piece, declared.view.Omitted.Omitted, declared.view.View.View, Meanings.said_if, Notes.note_text}
 
--- How a file is shown: what is left out, the offset at which it is refused, if it is, and the reason.
+-- How a file is shown: what is left out, the offset of the byte at which it is refused, if it is, or behind which, and the reason.
 pub record Look : Type 0 where
   pub omitted : Omitted
   pub refused : Option ℕ
+  pub behind : Bool
   pub why : List ℕ
 
 abbrev pub look_of : View → Look
-look_of view = record { omitted = view.omitted; refused = view.refused; why = view.why.now }
+look_of view = record { omitted = view.omitted; refused = view.refused; behind = view.behind; why = view.why.now }
 
 -- the offset of the bytes, unless offsets are left out, and what they are, up to a line's end
 unfoldable pub offset_text : Omitted → ℕ → List ℕ
@@ -34,9 +35,13 @@ is_past count (Some offset) = nat_le count offset
 unfoldable pub reason_text : Bool → List ℕ → List ℕ
 reason_text is why = if is then codes "# " ++ (before 10 why ++ codes "\n") else []
 
--- a line's end: where it is refused there, a mark and the reason
-unfoldable pub end_text : Bool → List ℕ → List ℕ
-end_text is why = said_if is (codes " <== refused here") ++ (codes "\n" ++ reason_text is why)
+-- the lines below it: a mark where it is refused behind it, and the reason
+unfoldable pub below_text : Bool → Look → List ℕ
+below_text is look = reason_text (is && look.behind) (codes "<== refused here") ++ reason_text is look.why
+
+-- a line's end: a mark where it is refused there, and what is below
+unfoldable pub end_text : Bool → Look → List ℕ
+end_text is look = said_if (is && not look.behind) (codes " <== refused here") ++ (codes "\n" ++ below_text is look)
 
 -- bytes of a buffer's contents
 abbrev pub is_content : Note → Bool
@@ -51,7 +56,7 @@ is_left_out omitted note refused = omitted.contents && (is_content note && not r
 -- the line of some bytes, and the reason where they are refused
 unfoldable pub whole_line : Look → ℕ → List ℕ → Note → Bool → List ℕ
 whole_line look at bytes note refused =
-    encode_lower bytes ++ (codes "  # " ++ (remark look.omitted at bytes note ++ end_text refused look.why))
+    encode_lower bytes ++ (codes "  # " ++ (remark look.omitted at bytes note ++ end_text refused look))
 
 -- the line of some bytes; none where it is left out, or there is no byte
 unfoldable pub line_text : Look → ℕ → List ℕ → Note → List ℕ

@@ -13,12 +13,13 @@ pub struct Omitted {
     pub offsets: bool,
 }
 
-/// How a file is shown: what is left out; the offset at which it is refused, if it is, in bytes; and the reason, of which the
-/// first line is shown there.
+/// How a file is shown: what is left out; the offset in bytes of the byte at which it is refused, if it is, or behind which, so that the
+/// mark has a line of its own; and the reason, of which the first line is shown there.
 #[derive(Clone, Copy, Debug)]
 pub struct View<'a> {
     pub omitted: Omitted,
     pub refused: Option<u128>,
+    pub behind: bool,
     pub why: &'a [u8],
 }
 

@@ -67,14 +67,15 @@ fn put_reason(out: &mut Vec<u8>, is: bool, why: &[u8]) -> Result<(), AllocError>
     Ok(())
 }
 
-// Writes a line's end, and the line of the reason where it is refused there.
-#[tactic(auto, unfolding(crate::specs::Shown::end_text))]
-fn put_end(out: &mut Vec<u8>, is: bool, why: &[u8]) -> Result<(), AllocError>
-    ensures { OnOk result (out.new.items ≡ out.old.items ++ end_text is why.now) }
+// Writes a line's end, and the lines of the mark and the reason where it is refused there.
+#[tactic(auto, unfolding(crate::specs::Shown::end_text, crate::specs::Shown::below_text), using(crate::proofs::Texts::four_parts))]
+fn put_end(out: &mut Vec<u8>, is: bool, view: View<'_>) -> Result<(), AllocError>
+    ensures { OnOk result (out.new.items ≡ out.old.items ++ end_text is (look_of view.entry)) }
 {
-    put_if(out, is, b" <== refused here")?;
+    put_if(out, is && !view.behind, b" <== refused here")?;
     out.extend_from_slice(b"\n")?;
-    put_reason(out, is, why)
+    put_reason(out, is && view.behind, b"<== refused here")?;
+    put_reason(out, is, view.why)
 }
 
 // Writes the line of bytes, and the reason where they are refused.
@@ -95,7 +96,7 @@ fn put_whole_line(
     out.extend_from_slice(digits.as_bytes())?;
     out.extend_from_slice(b"  # ")?;
     put_remark(alloc, out, view.omitted, span, note)?;
-    put_end(out, refused, view.why)?;
+    put_end(out, refused, view)?;
     Ok(())
 }
 
@@ -192,9 +193,9 @@ pub(crate) fn put_lines(
 
 /// Any bytes as lines of text: on each line some of them in hexadecimal, a `#`, their offset and what they are, as far as they
 /// are a job file. All bytes stand on the lines, in order and each once, so that `make` gives them back; unless contents are left out.
-/// Where they are refused at an offset, its line is marked and the reason follows, up to its first line feed, on a line of its own; or
-/// it stands at the end, where the offset is no byte's. Which lines a file has isn't pinned: the clauses hold for any cut into pieces.
-/// Want of memory is the only error.
+/// Where they are refused at an offset, its line is marked, or behind it a line of its own, and the reason follows, up to its first line
+/// feed, on a line of its own; or it stands at the end, where the offset is no byte's. Which lines a file has isn't pinned: the clauses
+/// hold for any cut into pieces. Want of memory is the only error.
 #[tactic(auto, unfolding(crate::specs::Shown::text_shown))]
 pub fn show(alloc: Global, bytes: &[u8], view: View<'_>) -> Result<Vec<u8>, NoMemory>
     ensures text { IfOk result (λ text. (pieces : List PieceModel)

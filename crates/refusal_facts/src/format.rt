@@ -23,9 +23,9 @@ fn job_word(bytes: &[u8], j: u32, at: u32) -> u32
     word_at(bytes, entries + JOB_SIZE * j as usize + at as usize)
 }
 
-// The bytes of the part of this number.
+/// The bytes of the part of this number; 0 of the file.
 #[tactic(auto, unfolding(crate::specs::Cuts::size_of))]
-fn size_of(bytes: &[u8], part: Part, index: u32) -> u64
+pub fn size_of(bytes: &[u8], part: Part, index: u32) -> u64
     ensures { result ≡ size_of bytes.now part index }
 {
     match part {

@@ -22,5 +22,6 @@ pub use fact::{
     PastFact, PixelsFact, RoomFact, StateFact, ThreadFact, UseFact, VertexFact,
 };
 pub use facts::facts_of;
+pub use format::size_of;
 pub use line::{Line, line_of};
 pub use text::Inside;
