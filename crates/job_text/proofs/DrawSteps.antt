@@ -4,12 +4,10 @@ use Rattle.std.proofs.lemmas.List.{places}
 use Rattle.field_words.specs.Words.{u32_at}
 use Rattle.packets.specs.Opcode.{gl_shader_state}
 use Rattle.bin_list.specs.Packets.{opcode, front_packet, packets, behind as list_behind}
-use Rattle.job_format.specs.declared.rule.Part.TheVariants.{JobEntry, BinnerList, Records, Uniforms}
-use Rattle.job_format.specs.Offsets.{job_size}
 use Rattle.shader_records.specs.Sources.{source_size}
 use Rattle.refusal_facts.proofs.Walk.{packets_step, packets_none}
 use Rattle.job_text.specs.{declared.draws.Walk.Walk, Meanings.said_if, Shown.Look, Shown.lines_text, Shown.line_text}
-use Rattle.job_text.specs.Draws.{Stretch, stretch_of, part_in, front, behind, AreLinesOf, by_state, record_taken, is_draw, IsStateStep, IsPacketStep, AreDraws, AreJobDraws}
+use Rattle.job_text.specs.Draws.{Stretch, stretch_of, front, behind, AreLinesOf, by_state, record_taken, is_draw, IsStateStep, IsPacketStep, AreDraws}
 
 -- what is behind some bytes ends where they do
 pub behind_end : (size : ℕ) (before after : Stretch) → after ≡ behind size before → before.at + length before.bytes < 2 ^ 64
@@ -93,13 +91,3 @@ pub draws_end : (look : Look) (at : ℕ) (rest : List ℕ) (records uniforms : S
     → AreDraws look at (packets rest) records uniforms old old
 draws_end look at rest records uniforms old none =
     subst (λ l. AreDraws look at l records uniforms old old) (sym (packets_none rest none)) refl
-
-pub job_draws : (look : Look) (bytes : List ℕ) (j : ℕ) (entry list records uniforms : Stretch) (old new : List ℕ) → entry ≡ part_in bytes JobEntry j job_size
-    → list ≡ part_in bytes BinnerList j (u32_at entry.bytes 12) → records ≡ part_in bytes Records j (u32_at entry.bytes 16)
-    → uniforms ≡ part_in bytes Uniforms j (u32_at entry.bytes 24)
-    → AreDraws look list.at (packets list.bytes) records uniforms old new → AreJobDraws look bytes j old new
-job_draws look bytes j entry list records uniforms old new is_entry is_list is_records is_uniforms draws =
-    subst (λ (e : Stretch). AreDraws look (part_in bytes BinnerList j (u32_at e.bytes 12)).at (packets (part_in bytes BinnerList j (u32_at e.bytes 12)).bytes) (part_in bytes Records j (u32_at e.bytes 16)) (part_in bytes Uniforms j (u32_at e.bytes 24)) old new) is_entry
-    (subst (λ (l : Stretch). AreDraws look l.at (packets l.bytes) (part_in bytes Records j (u32_at entry.bytes 16)) (part_in bytes Uniforms j (u32_at entry.bytes 24)) old new) is_list
-    (subst (λ r. AreDraws look list.at (packets list.bytes) r (part_in bytes Uniforms j (u32_at entry.bytes 24)) old new) is_records
-    (subst (λ u. AreDraws look list.at (packets list.bytes) records u old new) is_uniforms draws)))
