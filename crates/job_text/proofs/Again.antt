@@ -1,5 +1,5 @@
 -- The text of any bytes is read as these bytes.
-use Rattle.std.proofs.Common.{◌≡◌, ℕ, zero, suc, ◌+◌, ◌*◌, ◌/◌, ◌%◌, ◌<◌, Bool, true, false, not, List, [], ◌∷◌, ◌++◌, length, take, drop, codes, Ok, Option, Some, None, ◌&&◌, refl, sym, ◌∙◌, ap, append_assoc, append-nil, arith, eq-eqb}
+use Rattle.std.proofs.Common.{◌≡◌, ℕ, zero, suc, ◌+◌, ◌*◌, ◌/◌, ◌%◌, ◌<◌, Bool, true, false, not, List, [], ◌∷◌, ◌++◌, length, take, drop, codes, Ok, Some, None, ◌&&◌, refl, sym, ◌∙◌, ap, append_assoc, append-nil, arith, eq-eqb}
 use Rattle.std.proofs.lemmas.Bool.{eqb-true}
 use Rattle.std.specs.Prelude.{slice_index, bytes_eq, ◌==◌}
 use Rattle.hex.specs.Hex.{encode_lower, encode_with, lower_digits, hex_digit_value}
@@ -9,7 +9,7 @@ use Rattle.script.specs.Lines.{before, lines_of, onto_line}
 use Rattle.job_text.proofs.Marks.{Free, free_append, free_before, free_by}
 use Rattle.job_make.specs.Made.{Sections, words_of, full_of, is_alone, says, named_by, section_named, digits_read, size_named, word_by, word_read, words_read, line_read, part_read, stays_inside, lines_read, both, text_sections, text_bytes, is_blank}
 use Rattle.job_text.specs.Meanings.{said_if}
-use Rattle.job_text.specs.Shown.{Look, remark, is_in, is_past, is_content, is_left_out, reason_text, below_text, end_text, whole_line, line_text, lines_text, text_shown}
+use Rattle.job_text.specs.Shown.{Look, remark, is_in, is_past, is_left_out, reason_text, below_text, end_text, whole_line, line_text, lines_text, text_shown}
 use Rattle.job_text.specs.{declared.note.Note.Note, declared.note.Note.TheVariants.Unread, declared.note.Piece.Piece}
 
 before_mark : (mark : ℕ) (xs rest : List ℕ) → Free mark xs → before mark (xs ++ mark ∷ rest) ≡ xs

@@ -1,7 +1,7 @@
 -- Lines behind others.
 use Rattle.std.proofs.Common.{◌≡◌, ℕ, ◌+◌, List, [], ◌∷◌, ◌++◌, length, length-append, sym, subst, ◌∙◌, ap, append_assoc, append-nil, arith}
 use Rattle.std.proofs.Math.Seq.{take-append_seam, drop-append_seam}
-use Rattle.job_text.specs.{declared.note.Note.Note, declared.note.Piece.Piece, Shown.Look, Shown.line_text, Shown.lines_text, Cuts.AreLines, Cuts.AreAllLines}
+use Rattle.job_text.specs.{declared.note.Note.Note, Shown.Look, Shown.line_text, Shown.lines_text, Cuts.AreLines, Cuts.AreAllLines}
 
 pub line_lines : (look : Look) (old new front : List ℕ) (at : ℕ) (note : Note) → new ≡ old ++ line_text look at front note
     → AreLines look old new at front

@@ -1,5 +1,5 @@
 -- Numbers with a fraction, in decimal.
-use Rattle.std.specs.Prelude.{ℕ, ◌+◌, ◌-◌, ◌*◌, ◌/◌, ◌%◌, ◌^◌, ◌==◌, nat_lt, List, [], ◌++◌, drop, map, codes, decimal, if◌then◌else◌}
+use Rattle.std.specs.Prelude.{ℕ, ◌+◌, ◌-◌, ◌*◌, ◌/◌, ◌%◌, ◌^◌, ◌==◌, nat_lt, List, ◌++◌, drop, map, codes, decimal, if◌then◌else◌}
 use Rattle.qpu_text.specs.Pieces.{named_in}
 use Rattle.job_text.specs.declared.floats.TheConstants.{SIXTEENTHS}
 

@@ -68,14 +68,18 @@ fn put_reason(out: &mut Vec<u8>, is: bool, why: &[u8]) -> Result<(), AllocError>
 }
 
 // Writes a line's end, and the lines of the mark and the reason where it is refused there.
-#[tactic(auto, unfolding(crate::specs::Shown::end_text, crate::specs::Shown::below_text), using(crate::proofs::Texts::four_parts))]
 fn put_end(out: &mut Vec<u8>, is: bool, view: View<'_>) -> Result<(), AllocError>
     ensures { OnOk result (out.new.items ≡ out.old.items ++ end_text is (look_of view.entry)) }
 {
-    put_if(out, is && !view.behind, b" <== refused here")?;
-    out.extend_from_slice(b"\n")?;
-    put_reason(out, is && view.behind, b"<== refused here")?;
-    put_reason(out, is, view.why)
+    if is {
+        put_if(out, !view.behind, b" <== refused here")?;
+        out.extend_from_slice(b"\n")?;
+        put_reason(out, view.behind, b"<== refused here")?;
+        put_reason(out, true, view.why)
+    } else {
+        out.extend_from_slice(b"\n")?;
+        Ok(())
+    }
 }
 
 // Writes the line of bytes, and the reason where they are refused.

@@ -1,4 +1,4 @@
-use Rattle.std.proofs.Common.{◌≡◌, ◌<◌, ◌+◌, ◌^◌, ℕ, ◌-◌, ◌*◌, ◌≤◌, ◌/◌, ◌%◌, arith}
+use Rattle.std.proofs.Common.{◌+◌, ◌^◌, ◌-◌, ◌*◌, ◌≤◌, ◌/◌, ◌%◌, arith}
 use Rattle.std.proofs.Math.Pow.{pow_mono}
 use Rattle.std.proofs.Math.Nat.{div-le_self, mul-le-mul}
 use Rattle.job_text.proofs.floats.millionths.Goals as goal
