@@ -5,6 +5,7 @@ pub mod Grid
 pub mod Heat
 pub mod Memory
 pub mod Parts
+pub mod Roles
 pub mod Run
 pub mod Table
 pub mod Title

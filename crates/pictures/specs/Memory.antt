@@ -70,7 +70,7 @@ legend = Beside legend_regions (Beside (legend_kind 112 (codes "data")) (Beside 
 unfoldable pub memory_parts : FileModel → Forest
 memory_parts file =
     Beside (head file.mem_size (box_size file.mem_size))
-    (Beside (strip file) (Beside (places 72 file.mem_size) (Beside legend (table file.buffers))))
+    (Beside (strip file) (Beside (places 72 file.mem_size) (Beside legend (table file))))
 
 unfoldable pub memory_picture : FileModel → Forest
 memory_picture file = drawing (490 + further_rows (length file.buffers)) (codes "Memory of the jobs") (memory_parts file)

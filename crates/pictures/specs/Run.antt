@@ -35,20 +35,17 @@ run_heat memory log =
 unfoldable pub run_height : FileModel → ℕ
 run_height file = heat_top + 20 + max (12 * ((box_count file.mem_size + 15) / 16)) 140 + further_rows (length file.buffers)
 
--- all that is said of the run; and the same, moved below the further lines of the table of buffers
-unfoldable pub run_below : FileModel → List Layout → Log → Forest
-run_below file layouts log = Beside (run_head log) (Beside (run_table file layouts log) (run_heat file.mem_size log))
-
+-- by which a part moves down by so many rows
 unfoldable pub shift : (rows : ℕ) → Attribute
 shift rows = word_attribute (codes "transform") (codes "translate(0 " ++ (decimal rows ++ codes ")"))
 
+-- all that is said of the run, moved below the further lines of the table of buffers
 unfoldable pub run_moved : FileModel → List Layout → Log → Forest
-run_moved file layouts log = Element (codes "g") (shift (further_rows (length file.buffers)) ∷ []) (run_below file layouts log)
-
-unfoldable pub run_parts : FileModel → List Layout → Log → Forest
-run_parts file layouts log = Beside (memory_parts file) (run_moved file layouts log)
+run_moved file layouts log =
+    Element (codes "g") (shift (further_rows (length file.buffers)) ∷ [])
+    (Beside (run_head log) (Beside (run_table file layouts log) (run_heat file.mem_size log)))
 
 -- all of it
 unfoldable pub run_picture : FileModel → List Layout → Log → Forest
 run_picture file layouts log =
-    drawing (run_height file) (codes "Accesses of a run in the memory of the jobs") (run_parts file layouts log)
+    drawing (run_height file) (codes "Accesses of a run in the memory of the jobs") (Beside (memory_parts file) (run_moved file layouts log))

@@ -36,12 +36,8 @@ fn push_heat(alloc: Global, out: &mut Vec<u8>, strip: Strip, n: u64, count: u64)
     let tone = (decimal(alloc, count)?.len() as u64).min(TONES);
     let name = strip.class;
     let class = format!(in alloc; "{name}{tone}")?;
-    push_box(
-        out,
-        strip.x + 18 * (n % 16),
-        TOP + 12 * (n / 16),
-        class.as_str(),
-    )
+    let x = strip.x + 18 * (n % 16);
+    push_box(out, x, TOP + 12 * (n / 16), class.as_str())
 }
 
 #[tactic(auto, using(crate::proofs::Each::each_more))]

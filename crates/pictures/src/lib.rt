@@ -8,6 +8,7 @@ mod grid;
 mod heat;
 mod memory;
 mod parts;
+mod roles;
 mod run;
 mod svg;
 mod table;

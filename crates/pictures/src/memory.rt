@@ -223,7 +223,7 @@ pub fn push_memory(alloc: Global, out: &mut Vec<u8>, file: &FileParts) -> Drawn
     push_strip(alloc, out, file)?;
     push_places(alloc, out, 72, memory)?;
     push_legend(alloc, out)?;
-    push_table(alloc, out, &file.buffers)
+    push_table(alloc, out, file)
 }
 
 /// The picture of a file's memory, with its regions and buffers, as SVG: the text of one element,

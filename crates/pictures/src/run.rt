@@ -3,7 +3,7 @@ ghost use Rattle.std.specs.Prelude.{◌≡◌, ◌++◌, OnOk, IfOk};
 ghost use Rattle.dumper.specs.Trace.{ending_name};
 ghost use Rattle.job_format.specs.Parts.{parts_view};
 ghost use Rattle.pictures.specs.Forest.{forest_text, attribute_text};
-ghost use Rattle.pictures.specs.Run.{run_numbers, run_head, run_table, run_heat, run_height, run_below, shift, run_moved, run_parts, run_picture};
+ghost use Rattle.pictures.specs.Run.{run_numbers, run_head, run_table, run_heat, run_height, shift, run_moved, run_picture};
 
 use crate::buffers::further_rows;
 use crate::counts::{box_counts, cell_counts};
@@ -36,16 +36,11 @@ fn ending_name(ending: Ending) -> &'static [u8]
 fn push_numbers(alloc: Global, out: &mut Vec<u8>, log: &Log) -> Drawn
     ensures { OnOk result (out.new.items ≡ out.old.items ++ forest_text (run_numbers log.now)) }
 {
+    let accesses = decimal(alloc, log.accesses.len() as u64)?;
     push_label(out, 96, 538, "note", b"steps:")?;
     push_label(out, 230, 538, "end", &decimal(alloc, u64::from(log.steps))?)?;
     push_label(out, 260, 538, "note", b"accesses:")?;
-    push_label(
-        out,
-        424,
-        538,
-        "end",
-        &decimal(alloc, log.accesses.len() as u64)?,
-    )
+    push_label(out, 424, 538, "end", &accesses)
 }
 
 #[tactic(auto, unfolding(crate::specs::Run::run_head))]
@@ -96,23 +91,6 @@ fn run_height(file: &FileParts) -> u64
     TOP + 20 + strips.max(140) + further_rows(&file.buffers)
 }
 
-// All that is said of the run.
-#[tactic(auto, unfolding(crate::specs::Run::run_below))]
-fn push_below(
-    alloc: Global,
-    out: &mut Vec<u8>,
-    file: &FileParts,
-    layouts: &[Layout],
-    log: &Log,
-) -> Drawn
-    ensures { OnOk result (out.new.items ≡ out.old.items
-        ++ forest_text (run_below (parts_view file.now) layouts.now log.now)) }
-{
-    push_head(alloc, out, log)?;
-    push_run_table(alloc, out, file, layouts, log)?;
-    push_run_heat(alloc, out, file.mem_size, log)
-}
-
 // The attribute by which a part moves down by so many rows.
 #[tactic(auto, unfolding(crate::specs::Run::shift))]
 fn push_shift(alloc: Global, out: &mut Vec<u8>, rows: u64) -> Drawn
@@ -122,7 +100,7 @@ fn push_shift(alloc: Global, out: &mut Vec<u8>, rows: u64) -> Drawn
     worded(out, "transform", down.as_str())
 }
 
-// The same, moved below the further lines of the table of buffers.
+// All that is said of the run, moved below the further lines of the table of buffers.
 #[tactic(auto, unfolding(crate::specs::Run::run_moved))]
 fn push_moved(
     alloc: Global,
@@ -137,23 +115,10 @@ fn push_moved(
     begin(out, "g")?;
     push_shift(alloc, out, further_rows(&file.buffers))?;
     end_tag(out)?;
-    push_below(alloc, out, file, layouts, log)?;
+    push_head(alloc, out, log)?;
+    push_run_table(alloc, out, file, layouts, log)?;
+    push_run_heat(alloc, out, file.mem_size, log)?;
     close(out, "g")
-}
-
-#[tactic(auto, unfolding(crate::specs::Run::run_parts))]
-fn push_parts(
-    alloc: Global,
-    out: &mut Vec<u8>,
-    file: &FileParts,
-    layouts: &[Layout],
-    log: &Log,
-) -> Drawn
-    ensures { OnOk result (out.new.items ≡ out.old.items
-        ++ forest_text (run_parts (parts_view file.now) layouts.now log.now)) }
-{
-    push_memory(alloc, out, file)?;
-    push_moved(alloc, out, file, layouts, log)
 }
 
 /// The picture of a file's memory, whose jobs' lists lie as these layouts say, and of a run over it,
@@ -172,7 +137,8 @@ pub fn run_picture(
     let mut out = Vec::with_capacity(alloc, PICTURE)?;
     let title = "Accesses of a run in the memory of the jobs";
     begin_drawing(alloc, &mut out, run_height(file), title)?;
-    push_parts(alloc, &mut out, file, layouts, log)?;
+    push_memory(alloc, &mut out, file)?;
+    push_moved(alloc, &mut out, file, layouts, log)?;
     end_drawing(&mut out)?;
     Ok(out)
 }
