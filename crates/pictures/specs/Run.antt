@@ -5,7 +5,7 @@ use Rattle.job_format.specs.Model.{FileModel}
 use Rattle.relocation.specs.declared.layout.Layout.{Layout}
 use Rattle.replay.specs.declared.logged.Log.{Log}
 use Rattle.dumper.specs.Trace.{ending_name}
-use Rattle.pictures.specs.{Forest.Forest, Forest.Attribute, Forest.Element, Forest.Beside, Forest.word_attribute, Buffers.further_rows, Grid.box_size, Grid.box_count, Parts.label, Parts.drawing, Memory.places, Memory.memory_parts}
+use Rattle.pictures.specs.{Forest.Forest, Forest.Element, Forest.Beside, Forest.word_attribute, Buffers.further_rows, Grid.box_size, Grid.box_count, Parts.label, Parts.drawing, Memory.places, Memory.memory_parts}
 use Rattle.pictures.specs.{Counts.box_counts, Counts.cell_counts, Heat.heat_top, Heat.heat, Table.unit_table}
 
 -- how many steps and accesses the run had, and how it ended
@@ -35,14 +35,14 @@ run_heat memory log =
 unfoldable pub run_height : FileModel → ℕ
 run_height file = heat_top + 20 + max (12 * ((box_count file.mem_size + 15) / 16)) 140 + further_rows (length file.buffers)
 
--- by which a part moves down by so many rows
-unfoldable pub shift : (rows : ℕ) → Attribute
-shift rows = word_attribute (codes "transform") (codes "translate(0 " ++ (decimal rows ++ codes ")"))
+-- the move down by so many rows
+unfoldable pub downward : (rows : ℕ) → List ℕ
+downward rows = codes "translate(0 " ++ (decimal rows ++ codes ")")
 
 -- all that is said of the run, moved below the further lines of the table of buffers
 unfoldable pub run_moved : FileModel → List Layout → Log → Forest
 run_moved file layouts log =
-    Element (codes "g") (shift (further_rows (length file.buffers)) ∷ [])
+    Element (codes "g") (word_attribute (codes "transform") (downward (further_rows (length file.buffers))) ∷ [])
     (Beside (run_head log) (Beside (run_table file layouts log) (run_heat file.mem_size log)))
 
 -- all of it

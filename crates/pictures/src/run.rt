@@ -1,9 +1,10 @@
 //! The picture of a run.
-ghost use Rattle.std.specs.Prelude.{◌≡◌, ◌++◌, OnOk, IfOk};
+ghost use Rattle.std.specs.Prelude.{◌≡◌, ◌++◌, codes, OnOk, IfOk, string_bytes};
 ghost use Rattle.dumper.specs.Trace.{ending_name};
 ghost use Rattle.job_format.specs.Parts.{parts_view};
-ghost use Rattle.pictures.specs.Forest.{forest_text, attribute_text};
-ghost use Rattle.pictures.specs.Run.{run_numbers, run_head, run_table, run_heat, run_height, shift, run_moved, run_picture};
+ghost use Rattle.pictures.specs.Forest.{forest_text};
+ghost use Rattle.pictures.specs.Parts.{label};
+ghost use Rattle.pictures.specs.Run.{run_numbers, run_head, run_table, run_heat, run_height, downward, run_moved, run_picture};
 
 use crate::buffers::further_rows;
 use crate::counts::{box_counts, cell_counts};
@@ -17,18 +18,19 @@ use field_words::{NoMemory, Way};
 use job_format::FileParts;
 use relocation::Layout;
 use replay::{Ending, Log};
-use std::alloc::Global;
+use std::alloc::{AllocError, Global};
 
 /// Room for most pictures.
 const PICTURE: usize = 131_072;
 
-fn ending_name(ending: Ending) -> &'static [u8]
-    ensures { result.now ≡ ending_name ending }
+fn push_ending(out: &mut Vec<u8>, ending: Ending) -> Drawn
+    ensures { OnOk result (out.new.items ≡ out.old.items
+        ++ forest_text (label 456 538 (codes "note") (ending_name ending))) }
 {
     match ending {
-        Ending::Finished => b"finished",
-        Ending::Waiting => b"waiting",
-        Ending::Spent => b"steps spent",
+        Ending::Finished => push_label(out, 456, 538, "note", b"finished"),
+        Ending::Waiting => push_label(out, 456, 538, "note", b"waiting"),
+        Ending::Spent => push_label(out, 456, 538, "note", b"steps spent"),
     }
 }
 
@@ -49,7 +51,7 @@ fn push_head(alloc: Global, out: &mut Vec<u8>, log: &Log) -> Drawn
 {
     push_label(out, 96, 514, "head", b"Accesses of a run")?;
     push_numbers(alloc, out, log)?;
-    push_label(out, 456, 538, "note", ending_name(log.ending))
+    push_ending(out, log.ending)
 }
 
 // The table over the whole run.
@@ -91,13 +93,12 @@ fn run_height(file: &FileParts) -> u64
     TOP + 20 + strips.max(140) + further_rows(&file.buffers)
 }
 
-// The attribute by which a part moves down by so many rows.
-#[tactic(auto, unfolding(crate::specs::Run::shift))]
-fn push_shift(alloc: Global, out: &mut Vec<u8>, rows: u64) -> Drawn
-    ensures { OnOk result (out.new.items ≡ out.old.items ++ attribute_text (shift rows)) }
+// The move down by so many rows.
+#[tactic(auto, unfolding(crate::specs::Run::downward))]
+fn downward(alloc: Global, rows: u64) -> Result<String, AllocError>
+    ensures { IfOk result (λ words. string_bytes words ≡ downward rows) }
 {
-    let down = format!(in alloc; "translate(0 {rows})")?;
-    worded(out, "transform", down.as_str())
+    format!(in alloc; "translate(0 {rows})")
 }
 
 // All that is said of the run, moved below the further lines of the table of buffers.
@@ -112,8 +113,9 @@ fn push_moved(
     ensures { OnOk result (out.new.items ≡ out.old.items
         ++ forest_text (run_moved (parts_view file.now) layouts.now log.now)) }
 {
+    let down = downward(alloc, further_rows(&file.buffers))?;
     begin(out, "g")?;
-    push_shift(alloc, out, further_rows(&file.buffers))?;
+    worded(out, "transform", down.as_str())?;
     end_tag(out)?;
     push_head(alloc, out, log)?;
     push_run_table(alloc, out, file, layouts, log)?;
