@@ -1,6 +1,6 @@
 //! Places in the file's bytes.
 ghost use Rattle.std.specs.Prelude.{◌≡◌, ◌<◌, ◌+◌, ◌^◌};
-ghost use Rattle.job_format.specs.Offsets.{job_word, content_offset, handles_offset};
+ghost use Rattle.job_format.specs.Offsets.{job_word, content_offset, handles_offset, bin_offset};
 ghost use Rattle.job_format.specs.Places.{start_of, offset_of};
 
 use crate::rule::{Part, Place};
@@ -47,26 +47,34 @@ fn handles_offset(bytes: &[u8], j: usize) -> u128
     offset
 }
 
-/// Where a part begins.
-#[tactic(auto, unfolding(crate::specs::Offsets::bin_offset, crate::specs::Offsets::records_offset, crate::specs::Offsets::uniforms_offset))]
+/// Where the binner list of job `j` begins.
+#[tactic(auto, unfolding(crate::specs::Offsets::bin_offset))]
+fn bin_offset(bytes: &[u8], j: usize) -> u128
+    requires few { j < 2 ^ 32 }
+    ensures value { result ≡ bin_offset bytes.now j }
+    ensures fits { result < 2 ^ 68 + 2 ^ 34 }
+{
+    handles_offset(bytes, j) + 4 * job_word(bytes, j, 8)
+}
+
+/// Where a part begins. A header may claim any number of buffers and jobs, so that only what the part needs is added up.
+#[tactic(auto, unfolding(crate::specs::Offsets::records_offset, crate::specs::Offsets::uniforms_offset))]
 fn start_of(bytes: &[u8], part: Part, index: u32) -> u128
     ensures value { result ≡ start_of bytes.now part index }
     ensures fits { result < 2 ^ 69 }
 {
     let index = index as usize;
-    let handles = handles_offset(bytes, index);
-    let bin = handles + 4 * job_word(bytes, index, 8);
-    let records = bin + job_word(bytes, index, 12);
     match part {
-        Part::File => 0,
-        Part::Header => 0,
+        Part::File | Part::Header => 0,
         Part::Entry => entry_offset(index) as u128,
         Part::JobEntry => job_offset(word_at(bytes, 28) as usize, index) as u128,
         Part::Contents => content_offset(bytes, index),
-        Part::Handles => handles,
-        Part::BinnerList => bin,
-        Part::Records => records,
-        Part::Uniforms => records + job_word(bytes, index, 16),
+        Part::Handles => handles_offset(bytes, index),
+        Part::BinnerList => bin_offset(bytes, index),
+        Part::Records => bin_offset(bytes, index) + job_word(bytes, index, 12),
+        Part::Uniforms => {
+            bin_offset(bytes, index) + job_word(bytes, index, 12) + job_word(bytes, index, 16)
+        }
     }
 }
 

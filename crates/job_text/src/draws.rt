@@ -13,14 +13,11 @@ use crate::view::View;
 use crate::writing::{Span, put_line, put_lines};
 use bin_list::split_front;
 use field_words::{NoMemory, byte_at, word_at};
-use job_format::{JOB_SIZE, MOST_BUFFERS, Part, Place, offset_of};
+use job_format::{JOB_SIZE, MOST_BUFFERS, MOST_JOBS, Part, Place, offset_of};
 use packets::opcode::{ARRAY_PRIMITIVE_LIST, GL_SHADER_STATE, INDEXED_PRIMITIVE_LIST};
 use qpu_isa::ShaderInfo;
 use shader_records::source_size;
 use std::alloc::Global;
-
-/// How many jobs a file has at most.
-const MOST_JOBS: u32 = 8;
 
 // A file, and what is known of its shaders.
 #[derive(Clone, Copy)]
