@@ -1,7 +1,7 @@
 -- The rules of a list are asked in the order of place and number, so the first that is broken is the least.
-use Rattle.std.proofs.Common.{◌≡◌, ℕ, zero, suc, ◌+◌, ◌*◌, ◌≤◌, ◌<◌, Bool, true, false, List, [], ◌∷◌, ◌++◌, length, refl, inl, inr, arith}
+use Rattle.std.proofs.Common.{◌≡◌, ℕ, zero, suc, ◌+◌, ◌≤◌, ◌<◌, Bool, true, false, List, [], ◌∷◌, length, refl, inl, inr, arith}
 use Rattle.std.specs.Prelude.{if◌then◌else◌, ◌==◌}
-use Rattle.field_words.specs.Questions.{Question, Ask, with_answers}
+use Rattle.field_words.specs.Questions.{Question, with_answers}
 use Rattle.field_words.proofs.Least.{IsOrder, Rises, pairs, wider, rises_append, rises_answered}
 use Rattle.packets.specs.Opcode.{flush, start_tile_binning, increment_semaphore, indexed_primitive_list, array_primitive_list, gl_shader_state, tile_binning_mode}
 use Rattle.bin_list.specs.declared.rule.BinRule.TheVariants.{UnknownOpcode, CutOff, NoEnd}
@@ -9,7 +9,7 @@ use Rattle.bin_list.specs.Rules.{GivenModel, cut_questions, flush_questions, sta
 use Rattle.bin_list.specs.{declared.fault.ListFault.ListFault, declared.rule.BinRule.BinRule, declared.seen.Seen.Seen}
 use Rattle.bin_list.specs.{Faults.number_of, Faults.fault, Faults.IsUpTo, Seen.place, Seen.seen_before}
 use Rattle.bin_list.specs.Packets.{opcode, front_packet, behind, front_packets, packets, onto, packets_passed}
-use Rattle.bin_list.proofs.Walk.{front_some, front_behind}
+use Rattle.bin_list.proofs.Packets.{front_some, front_behind}
 
 pub order : IsOrder IsUpTo
 order = pairs (λ (f : ListFault). (f.at, f.number))

@@ -1,5 +1,6 @@
 pub mod Cutting
 pub mod Inside
+pub mod Packets
 pub mod Walk
 pub mod Facts
 pub mod Plain

@@ -1,27 +1,19 @@
 -- The walk over a list, packet by packet.
-use Rattle.std.proofs.Common.{◌≡◌, ◌≢◌, ◌⊎◌, inl, inr, ℕ, zero, suc, ◌+◌, ◌≤◌, ◌<◌, Bool, true, false, List, [], ◌∷◌, ◌++◌, Option, Some, None, IsSome, length, take, drop, refl, sym, ap, subst, arith, ◌∙◌, length-append}
-use Rattle.std.proofs.{lemmas.List.places, lemmas.Bool.eqb-false, lemmas.Bool.eqb-true}
+use Rattle.std.proofs.Common.{◌≡◌, ◌≢◌, ◌⊎◌, inl, inr, ℕ, ◌+◌, ◌≤◌, Bool, true, false, List, [], ◌∷◌, ◌++◌, Option, Some, None, IsSome, length, refl, sym, ap, subst, arith, ◌∙◌, length-append}
+use Rattle.std.proofs.{lemmas.Bool.eqb-false, lemmas.Bool.eqb-true}
 use Rattle.std.specs.Prelude.{if◌then◌else◌, ◌==◌}
 use Rattle.field_words.specs.{Questions.first_of, Questions.with_answers, Writes.with_bytes}
 use Rattle.field_words.proofs.Questions.{passes, stops, answered_none, answered_some}
 use Rattle.field_words.proofs.Writes.{length-with_bytes, with_nothing, with_two}
 use Rattle.relocation.specs.declared.layout.Layout.{Layout}
-use Rattle.packets.specs.{Opcode.halt, Opcode.gl_shader_state, Length.bin_length, Length.bin_taken}
+use Rattle.packets.specs.{Opcode.gl_shader_state}
 use Rattle.bin_list.specs.{declared.fault.ListFault.ListFault, declared.seen.Seen.Seen, declared.state.State.State, Faults.fault}
-use Rattle.bin_list.specs.Packets.{opcode, front_packet, behind, front_packets, packets, onto, packets_passed}
+use Rattle.bin_list.specs.Packets.{opcode, front_packet, behind, packets, onto, packets_passed}
 use Rattle.bin_list.specs.Seen.{is_there, byte_of, word_of, place, states_in, seen_before, seen_after}
 use Rattle.bin_list.specs.{declared.check.Read.Read, declared.rule.BinRule.BinRule, Rules.GivenModel, Rules.packet_questions, Rules.questions_of_packets}
 use Rattle.bin_list.specs.{Fine.IsBounded, States.states_of, Collected.all_states, Emitted.packet_text, Emitted.texts}
 use Rattle.bin_list.specs.Info.{IsRead, MeetsState}
-
--- A packet takes a byte at least.
-one_or : (b : Bool) (n : ℕ) → (n == 0) ≡ b → 1 ≤ (if b then 1 else n)
-one_or true n is = omega arith
-one_or false n is = let some : n ≢ 0 = eqb-false n 0 is in omega arith
-
-pub taken_some : (o : ℕ) → 1 ≤ bin_taken o
-unfolding bin_taken
-taken_some o = one_or (bin_length o == 0) (bin_length o) refl
+use Rattle.bin_list.proofs.Packets.{front_behind, packets_step, packets_none}
 
 -- Bytes that are left, by the loop's test.
 pub some_left : (bytes : List ℕ) → (length bytes == 0) ≡ false → 1 ≤ length bytes
@@ -29,39 +21,6 @@ some_left bytes test = let some : length bytes ≢ 0 = eqb-false (length bytes) 
 
 pub none_left : (bytes : List ℕ) → (length bytes == 0) ≡ true → length bytes ≡ 0
 none_left bytes test = eqb-true (length bytes) 0 test
-
--- The packet at the front and what is still read behind it have no more bytes than the whole, and the rest has fewer.
-split_length : (halts : Bool) (n : ℕ) (bytes : List ℕ) → length (take n bytes) + length (if halts then [] else drop n bytes) ≤ length bytes
-split_length true n bytes = let e : length (take n bytes) ≤ length bytes = grind (arith, places) in omega arith
-split_length false n bytes = grind (arith, places)
-
-pub front_behind : (bytes : List ℕ) → length (front_packet bytes) + length (behind bytes) ≤ length bytes
-unfolding front_packet behind
-front_behind bytes = split_length (opcode bytes == halt) (bin_taken (opcode bytes)) bytes
-
-take_some : (n : ℕ) (bytes : List ℕ) → 1 ≤ n → 1 ≤ length bytes → 1 ≤ length (take n bytes)
-take_some n bytes some long = grind (arith, places)
-
-pub front_some : (bytes : List ℕ) → 1 ≤ length bytes → 1 ≤ length (front_packet bytes)
-unfolding front_packet
-front_some bytes some = take_some (bin_taken (opcode bytes)) bytes (taken_some (opcode bytes)) some
-
--- One packet is cut.
-pub record IsCut (n : ℕ) (fuel : ℕ) (rest : List ℕ) : Type 0 where
-  pub is : front_packets fuel rest ≡ front_packet rest ∷ front_packets n (behind rest)
-  pub enough : length (behind rest) ≤ n
-
-pub cut_step : (fuel : ℕ) (rest : List ℕ) → 1 ≤ length rest → length rest ≤ fuel → (n : ℕ) × IsCut n fuel rest
-cut_step zero rest some enough = absurd (omega arith)
-cut_step (suc n) [] some enough = absurd (omega arith)
-cut_step (suc n) (o ∷ body) some enough =
-    let whole = front_behind (o ∷ body) in
-    let one = front_some (o ∷ body) some in (n, record { is = refl; enough = omega arith })
-
-pub cut_nothing : (fuel : ℕ) (rest : List ℕ) → length rest ≡ 0 → front_packets fuel rest ≡ []
-cut_nothing zero rest none = refl
-cut_nothing (suc n) [] none = refl
-cut_nothing (suc n) (o ∷ body) none = absurd (omega arith)
 
 -- What is seen goes on by one packet.
 there_if : (b : Bool) (p : List ℕ) (o : Option (List ℕ)) → is_there (if b then Some p else o) ≡ (if b then true else is_there o)
@@ -90,9 +49,7 @@ asked_onto given earlier (p ∷ later) f some =
 -- How far the walk has come: which packets were read, and which the bytes that are left are cut into.
 pub record IsUnderway (given : GivenModel) (layout : Layout) (list window rest : List ℕ) (seen : Seen) (end : ℕ) (out : List ℕ) (done : List State) (current : Option State) : Type 0 where
   pub earlier : List (List ℕ)
-  pub fuel : ℕ
-  pub enough : length rest ≤ fuel
-  pub whole : onto earlier (front_packets fuel rest) ≡ packets_passed list
+  pub whole : onto earlier (packets rest) ≡ packets_passed list
   pub seen_is : seen ≡ seen_before earlier
   pub fine : first_of (questions_of_packets given earlier) ≡ None
   pub bounded : IsBounded seen
@@ -101,7 +58,7 @@ pub record IsUnderway (given : GivenModel) (layout : Layout) (list window rest :
   pub end_is : end ≡ layout.bin + length (texts given layout earlier)
   pub near : length (texts given layout earlier) ≤ seen.at
   pub room : length out ≡ length window
-  pub states : all_states done current (front_packets fuel rest) ≡ states_of (packets list)
+  pub states : all_states done current (packets rest) ≡ states_of (packets list)
   pub begun : IsSome current → 1 ≤ seen.states
 
 none_some : IsSome {T = State} None → ⊥
@@ -110,12 +67,10 @@ none_some some = cc
 pub begins : {given : GivenModel} {layout : Layout} {list window : List ℕ} {seen : Seen} {end : ℕ} {done : List State} {current : Option State}
     → layout.bin + length list ≤ length window → seen ≡ seen_before [] → end ≡ layout.bin → done ≡ [] → current ≡ None
     → IsUnderway given layout list window list seen end window done current
-unfolding packets packets_passed seen_before
+unfolding packets_passed seen_before
 begins {layout} {list} {window} {current} room nothing first none_done none =
     record {
       earlier = [];
-      fuel = length list;
-      enough = omega arith;
       whole = refl;
       seen_is = nothing;
       fine = refl;
@@ -125,7 +80,7 @@ begins {layout} {list} {window} {current} room nothing first none_done none =
       end_is = omega arith;
       near = omega arith;
       room = refl;
-      states = ap (λ d. all_states d current (front_packets (length list) list)) none_done ∙ ap (λ o. all_states [] o (front_packets (length list) list)) none;
+      states = ap (λ d. all_states d current (packets list)) none_done ∙ ap (λ o. all_states [] o (packets list)) none;
       begun = λ some. absurd (none_some (subst IsSome none some));
     }
 
@@ -157,10 +112,9 @@ pub stops_at : {given : GivenModel} {layout : Layout} {list window rest : List �
     → (rule : BinRule) → first_of (packet_questions given seen (front_packet rest)) ≡ Some rule
     → first_of (questions_of_packets given (packets_passed list)) ≡ Some (fault seen.at rule)
 stops_at {given} {list = list} {rest} {seen} under some rule broken =
-    let step = cut_step under.fuel rest some under.enough in
     let here = here_asked given under.earlier seen (front_packet rest) rule under.seen_is broken under.fine in
-    ap (λ l. first_of (questions_of_packets given l)) (sym under.whole ∙ ap (onto under.earlier) step.1.is)
-    ∙ asked_onto given (front_packet rest ∷ under.earlier) (front_packets step.0 (behind rest)) (fault seen.at rule) here
+    ap (λ l. first_of (questions_of_packets given l)) (sym under.whole ∙ ap (onto under.earlier) (packets_step rest some))
+    ∙ asked_onto given (front_packet rest ∷ under.earlier) (packets (behind rest)) (fault seen.at rule) here
 
 -- A state packet adds one to the states, and no packet takes one away.
 states_grow : (b : Bool) (n : ℕ) → n ≤ (if b then n + 1 else n)
@@ -194,8 +148,6 @@ pub goes_on : {given : GivenModel} {layout : Layout} {list window rest : List �
     → IsUnderway given layout list window rest2 seen2 end2 out2 done2 current2
 goes_on {given} {layout} {list} {window} {rest} {seen} {end} {out} {done} {current} under some room {packet} packet_is none {seen2} seen2_is bounded {end2} {out2} puts moves short {done2} {current2} states begun {rest2} rest2_is =
     let earlier = under.earlier in
-    let step = cut_step under.fuel rest some under.enough in
-    let n = step.0 in
     let split = front_behind rest in
     let long : length packet ≡ length (front_packet rest) = ap length packet_is in
     let left : length rest2 ≡ length (behind rest) = ap length rest2_is in
@@ -208,12 +160,10 @@ goes_on {given} {layout} {list} {window} {rest} {seen} {end} {out} {done} {curre
     let fits : layout.bin + length (front ++ text) ≤ length window = omega (arith, total, same, short, long, split, under.near, under.inside, room) in
     record {
       earlier = packet ∷ earlier;
-      fuel = n;
-      enough = omega (arith, left, step.1.enough);
       whole =
-          ap (λ p. onto (p ∷ earlier) (front_packets n rest2)) packet_is
-          ∙ ap (λ r. onto (front_packet rest ∷ earlier) (front_packets n r)) rest2_is
-          ∙ sym (ap (onto earlier) step.1.is) ∙ under.whole;
+          ap (λ p. onto (p ∷ earlier) (packets rest2)) packet_is
+          ∙ ap (λ r. onto (front_packet rest ∷ earlier) (packets r)) rest2_is
+          ∙ sym (ap (onto earlier) (packets_step rest some)) ∙ under.whole;
       seen_is = seen2_is ∙ ap (λ s. seen_after s packet) under.seen_is ∙ sym (seen_step packet earlier);
       fine = here_fine given earlier seen packet under.seen_is none under.fine;
       bounded = bounded;
@@ -228,10 +178,10 @@ goes_on {given} {layout} {list} {window} {rest} {seen} {end} {out} {done} {curre
       near = omega (arith, at2, same, short, total, under.near);
       room = ap length puts ∙ length-with_bytes out end (packet_text given layout seen packet) (omega (arith, same, total, fits, under.end_is, under.room)) ∙ under.room;
       states =
-          ap (λ r. all_states done2 current2 (front_packets n r)) rest2_is
-          ∙ states (front_packets n (behind rest))
-          ∙ ap (λ p. all_states done current (p ∷ front_packets n (behind rest))) packet_is
-          ∙ sym (ap (all_states done current) step.1.is) ∙ under.states;
+          ap (λ r. all_states done2 current2 (packets r)) rest2_is
+          ∙ states (packets (behind rest))
+          ∙ ap (λ p. all_states done current (p ∷ packets (behind rest))) packet_is
+          ∙ sym (ap (all_states done current) (packets_step rest some)) ∙ under.states;
       begun = λ now.
           let grown : seen2.states ≡ (seen_after seen packet).states = ap (λ s. s.states) seen2_is in
           elim (begun now) [
@@ -247,14 +197,14 @@ unfolding seen_before
 meets {rest} {seen} under some =
     let one : 1 ≤ seen.states = under.begun some in
     let is : seen.states ≡ states_in under.earlier = ap (λ s. s.states) under.seen_is in
-    record { earlier = under.earlier; later = front_packets under.fuel rest; whole = under.whole; fine = under.fine; some = omega (arith, one, is) }
+    record { earlier = under.earlier; later = packets rest; whole = under.whole; fine = under.fine; some = omega (arith, one, is) }
 
 -- Nothing is left: no rule is broken, and the whole was read and written.
 pub through : {given : GivenModel} {layout : Layout} {list window rest out : List ℕ} (read : Read)
     → IsUnderway given layout list window rest read.seen read.end out read.states.done.items read.states.current → length rest ≡ 0
     → (first_of (questions_of_packets given (packets_passed list)) ≡ None) × IsRead given layout list read × (out ≡ with_bytes window layout.bin (texts given layout (packets_passed list)))
 through {given} {layout} {list} {window} read under none =
-    let empty : front_packets under.fuel _ ≡ [] = cut_nothing under.fuel _ none in
+    let empty : packets _ ≡ [] = packets_none _ none in
     let all : under.earlier ≡ packets_passed list = sym (ap (onto under.earlier) empty) ∙ under.whole in
     let near : length (texts given layout under.earlier) ≤ length list = omega (arith, under.near, under.inside) in (
       ap (λ e. first_of (questions_of_packets given e)) (sym all) ∙ under.fine,

@@ -17,7 +17,7 @@ use Rattle.bin_list.specs.Rules.{GivenModel, index_buffer, index_size, packet_qu
 use Rattle.bin_list.specs.States.{draws_to, greatest, state, states_of}
 use Rattle.bin_list.specs.Emitted.{index_text, state_text, config_text, packet_text, texts}
 use Rattle.bin_list.proofs.Facts.{onto_none, packet_none, start_fine, config_fine, state_fine}
-use Rattle.bin_list.proofs.Walk.{front_some, taken_some}
+use Rattle.bin_list.proofs.Packets.{front_some, taken_some}
 use Rattle.bin_walks.specs.{Walks.Kept, Walks.kept_after, Walks.Drawing, Walks.Tame, Walks.Walks, Emission.emission, Emission.config_of}
 use Rattle.bin_walks.specs.Draws.{IsStateAt, IsDrawn}
 use Rattle.bin_walks.proofs.Texts.{addressed, state_opcode, state_long, state_word, config_opcode, config_long, config_read}

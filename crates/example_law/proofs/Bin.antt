@@ -14,7 +14,8 @@ use Rattle.bin_list.specs.{Seen.seen_before, Seen.seen_after, States.draws_to, S
 use Rattle.job_check.specs.Jobs.{grid_from}
 use Rattle.example_job.specs.Lists.{config, start, state, triangle, states_from, packets_of, bin_of}
 use Rattle.example_job.proofs.Formed.{bin_length as bytes_of_bin}
-use Rattle.example_law.proofs.Numbers.{states_are, IsTiles, is_over, is_some, is_same, is_within, AreWhole, packets_joined, seen_after_all, Pass, no_fault, seen_joined}
+use Rattle.bin_list.proofs.Packets.{AreWhole, packets_joined}
+use Rattle.example_law.proofs.Numbers.{states_are, IsTiles, is_over, is_some, is_same, is_within, seen_after_all, Pass, no_fault, seen_joined}
 
 -- each packet is whole
 states_whole : (j n : ℕ) → AreWhole (states_from j n)

@@ -17,7 +17,7 @@ use Rattle.render_list.specs.Frame.{is_present, is_full}
 use Rattle.render_list.specs.Length.{load_size, loads_size, writes_size, tile_size, render_length}
 use Rattle.job_check.specs.Jobs.{render_room}
 use Rattle.packets.specs.{Opcode.halt, Length.bin_taken}
-use Rattle.bin_list.proofs.Walk.{cut_step, cut_nothing, taken_some, seen_step}
+use Rattle.bin_list.proofs.{Packets.AreWhole, Packets.packets_joined, Walk.seen_step}
 
 -- What the binner list of an example tells, and its shader.
 
@@ -153,46 +153,6 @@ lists_fit bin records render bin_most records_most render_most = grind (arith, c
 
 -- A binner list that is made of whole packets: what it is cut into, what is seen of it, and that no rule is broken by it where none
 -- is broken for a packet after what is seen before it.
-
--- a packet of its opcode's length, after which the list goes on
-pub record IsWhole (packet : List ℕ) : Type 0 where
-  pub taken : length packet ≡ bin_taken (opcode packet)
-  pub goes_on : (opcode packet == halt) ≡ false
-
-abbrev pub AreWhole : List (List ℕ) → Type 0
-AreWhole [] = Unit {0}
-AreWhole (packet ∷ later) = IsWhole packet × AreWhole later
-
-opcode_front : (packet rest : List ℕ) → 1 ≤ length packet → opcode (packet ++ rest) ≡ opcode packet
-opcode_front [] rest some = absurd (omega arith)
-opcode_front (o ∷ body) rest some = refl
-
-some_bytes : (packet : List ℕ) → IsWhole packet → 1 ≤ length packet
-some_bytes packet whole = let some = taken_some (opcode packet) in let is = whole.taken in omega arith
-
-front_is : (packet rest : List ℕ) → IsWhole packet → front_packet (packet ++ rest) ≡ packet
-unfolding front_packet
-front_is packet rest whole = grind (arith, common_steps, nat_tests, opcode_front, some_bytes, take_at)
-
-behind_is : (packet rest : List ℕ) → IsWhole packet → behind (packet ++ rest) ≡ rest
-unfolding behind
-behind_is packet rest whole = grind (arith, common_steps, nat_tests, opcode_front, some_bytes, drop_at)
-
-pub cut_joined : (fuel : ℕ) (all : List (List ℕ)) → AreWhole all → length (joined_texts all) ≤ fuel → front_packets fuel (joined_texts all) ≡ all
-cut_joined fuel [] whole enough = cut_nothing fuel [] refl
-cut_joined fuel (packet ∷ later) whole enough =
-    let some = some_bytes packet whole.0 in
-    let sizes = length-append packet (joined_texts later) in
-    let step = cut_step fuel (packet ++ joined_texts later) (omega arith) enough in
-    let rest_is = behind_is packet (joined_texts later) whole.0 in
-    step.1.is
-    ∙ ap (λ p. p ∷ front_packets step.0 (behind (packet ++ joined_texts later))) (front_is packet (joined_texts later) whole.0)
-    ∙ ap (λ rest. packet ∷ front_packets step.0 rest) rest_is
-    ∙ ap (λ ps. packet ∷ ps) (cut_joined step.0 later whole.1 (subst (λ rest. length rest ≤ step.0) rest_is step.1.enough))
-
-pub packets_joined : (all : List (List ℕ)) → AreWhole all → packets (joined_texts all) ≡ all
-unfolding packets
-packets_joined all whole = cut_joined (length (joined_texts all)) all whole (omega arith)
 
 pub passed_joined : (all : List (List ℕ)) → AreWhole all → packets_passed (joined_texts all) ≡ onto [] all
 unfolding packets_passed

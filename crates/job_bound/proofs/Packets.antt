@@ -3,48 +3,26 @@ use Rattle.std.proofs.Common.{◌≡◌, ℕ, zero, suc, ◌+◌, ◌-◌, ◌*�
 use Rattle.std.proofs.{lemmas.Bool.or_cases, lemmas.Bool.eqb-true, lemmas.Bool.Decides.nat_tests, lemmas.Grind.common_steps}
 use Rattle.field_words.specs.Words.{u32_at}
 use Rattle.packets.specs.{Opcode.indexed_primitive_list, Opcode.array_primitive_list, Length.bin_length}
-use Rattle.bin_list.specs.Packets.{opcode, front_packet, behind, front_packets, packets}
-use Rattle.bin_list.proofs.Walk.{front_behind, front_some, cut_nothing}
+use Rattle.bin_list.specs.Packets.{opcode, front_packet, behind, packets}
+use Rattle.bin_list.proofs.Packets.{front_behind, front_some, packets_step, packets_none}
 use Rattle.list_machine.specs.Binner.{work_of, primitive_of}
 use Rattle.ends_law.specs.Left.{IsWhole, AllWhole}
 use Rattle.promises.specs.Steps.{room_in, room_of, draws, programs_left, work_steps, packet_steps, bin_steps}
 use Rattle.bin_walks.proofs.Walking.{long_indexed}
 
--- Cutting at most as many packets as there are bytes cuts all.
-cut_same : (n k : ℕ) (bytes : List ℕ) → length bytes ≤ n → length bytes ≤ k → front_packets n bytes ≡ front_packets k bytes
-cut_same n k [] enough more = cut_nothing n [] refl ∙ sym (cut_nothing k [] refl)
-cut_same zero k (o ∷ body) enough more = absurd (omega (arith, enough))
-cut_same (suc n) zero (o ∷ body) enough more = absurd (omega (arith, more))
-cut_same (suc n) (suc k) (o ∷ body) enough more =
-    let whole = front_behind (o ∷ body) in
-    let some = front_some (o ∷ body) (omega arith) in
-    ap (λ rest. front_packet (o ∷ body) ∷ rest) (cut_same n k (behind (o ∷ body)) (omega (arith, whole, some, enough)) (omega (arith, whole, some, more)))
-
-pub packets_none : (bytes : List ℕ) → length bytes ≡ 0 → packets bytes ≡ []
-unfolding packets
-packets_none bytes none = cut_nothing (length bytes) bytes none
-
-pub packets_more : (bytes : List ℕ) → 1 ≤ length bytes → packets bytes ≡ front_packet bytes ∷ packets (behind bytes)
-unfolding packets
-packets_more [] some = absurd (omega (arith, some))
-packets_more (o ∷ body) some =
-    let whole = front_behind (o ∷ body) in
-    let front = front_some (o ∷ body) some in
-    ap (λ rest. front_packet (o ∷ body) ∷ rest) (cut_same (length body) (length (behind (o ∷ body))) (behind (o ∷ body)) (omega (arith, whole, front)) (omega arith))
-
 -- The packet at the front is whole where all are, and takes its part of the steps.
 pub whole_more : (bytes : List ℕ) → 1 ≤ length bytes → AllWhole (packets bytes) → IsWhole (front_packet bytes) × AllWhole (packets (behind bytes))
-whole_more bytes some all = subst AllWhole (packets_more bytes some) all
+whole_more bytes some all = subst AllWhole (packets_step bytes some) all
 
 pub steps_more : (w : ℕ) (bytes : List ℕ) → 1 ≤ length bytes → bin_steps w (packets bytes) ≡ packet_steps w (front_packet bytes) + bin_steps w (packets (behind bytes))
-steps_more w bytes some = ap (bin_steps w) (packets_more bytes some)
+steps_more w bytes some = ap (bin_steps w) (packets_step bytes some)
 
 pub steps_none : (w : ℕ) (bytes : List ℕ) → length bytes ≡ 0 → bin_steps w (packets bytes) ≡ 0
 steps_none w bytes none = ap (bin_steps w) (packets_none bytes none)
 
 -- So the room: that of the packet at the front, or more.
 pub room_more : (bytes : List ℕ) → 1 ≤ length bytes → room_of (packets bytes) ≡ max (room_in (front_packet bytes)) (room_of (packets (behind bytes)))
-room_more bytes some = ap room_of (packets_more bytes some)
+room_more bytes some = ap room_of (packets_step bytes some)
 
 pub room_none : (bytes : List ℕ) → length bytes ≡ 0 → room_of (packets bytes) ≡ 0
 room_none bytes none = ap room_of (packets_none bytes none)

@@ -7,7 +7,7 @@ use Rattle.packets.specs.declared.packet.Packet.TheVariants.{WaitOnSemaphore, Br
 use Rattle.packets.specs.declared.{packet.Packet.Packet, config.Config.Config}
 use Rattle.packets.specs.{Length.bin_length, Length.bin_taken, Length.render_taken, Packet.packet_decoded, Packet.packet_named}
 use Rattle.packets.specs.Opcode.{buffer_handles, wait_on_semaphore, start_tile_binning}
-use Rattle.bin_list.proofs.Walk.{taken_some}
+use Rattle.bin_list.proofs.Packets.{taken_some}
 use Rattle.machine_plan.specs.{declared.launch.Free.Free, declared.who.Who.Who, Plan.Plan, Plan.Wilds, Plan.outcome_of, Plan.Writes}
 use Rattle.machine_plan.specs.{Memory.bytes_at, Memory.bytes_stored, World.Safe, World.plan_mapped}
 use Rattle.machine_plan.specs.Regions.{Every, Rights, IsSafeAccess, Inside, rights_of}

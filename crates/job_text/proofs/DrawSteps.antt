@@ -5,7 +5,7 @@ use Rattle.field_words.specs.Words.{u32_at}
 use Rattle.packets.specs.Opcode.{gl_shader_state}
 use Rattle.bin_list.specs.Packets.{opcode, front_packet, packets, behind as list_behind}
 use Rattle.shader_records.specs.Sources.{source_size}
-use Rattle.refusal_facts.proofs.Walk.{packets_step, packets_none}
+use Rattle.bin_list.proofs.Packets.{packets_step, packets_none}
 use Rattle.job_text.specs.{declared.draws.Walk.Walk, Meanings.said_if, Shown.Look, Shown.lines_text, Shown.line_text}
 use Rattle.job_text.specs.Draws.{Stretch, stretch_of, front, behind, AreLinesOf, by_state, record_taken, is_draw, IsStateStep, IsPacketStep, AreDraws}
 

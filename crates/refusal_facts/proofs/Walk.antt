@@ -3,47 +3,18 @@ use Rattle.std.proofs.Common.{◌≡◌, ◌≢◌, ℕ, zero, suc, ◌+◌, ◌
 use Rattle.std.specs.Prelude.{if◌then◌else◌, ◌==◌, max}
 use Rattle.field_words.specs.Words.{u32_at}
 use Rattle.packets.specs.Opcode.{gl_shader_state}
-use Rattle.bin_list.specs.{Packets.opcode, Packets.front_packet, Packets.behind, Packets.front_packets, Packets.packets, States.draws_to, States.greatest, States.state, States.states_of}
+use Rattle.bin_list.specs.{Packets.opcode, Packets.front_packet, Packets.behind, Packets.packets, States.draws_to, States.greatest, States.state, States.states_of}
 use Rattle.refusal_facts.specs.{declared.lists.Draw.Draw, Lists.draw_of, Lists.handle_behind, Lists.draw_among}
-use Rattle.bin_list.proofs.Walk.{cut_step, cut_nothing, front_behind, front_some}
-
--- A list that is long enough to be cut is cut in one way.
-one_way : (n m : ℕ) (bytes : List ℕ) → length bytes ≤ n → length bytes ≤ m → front_packets n bytes ≡ front_packets m bytes
-one_way zero zero bytes few many = refl
-one_way zero (suc m) [] few many = refl
-one_way (suc n) zero [] few many = refl
-one_way (suc n) (suc m) [] few many = refl
-one_way zero (suc m) (o ∷ body) few many = absurd (omega arith)
-one_way (suc n) zero (o ∷ body) few many = absurd (omega arith)
-one_way (suc n) (suc m) (o ∷ body) few many =
-    let whole = front_behind (o ∷ body) in
-    let one = front_some (o ∷ body) (omega arith) in
-    ap (λ later. front_packet (o ∷ body) ∷ later) (one_way n m (behind (o ∷ body)) (omega arith) (omega arith))
-
-pub packets_step : (rest : List ℕ) → 1 ≤ length rest → packets rest ≡ front_packet rest ∷ packets (behind rest)
-unfolding packets
-packets_step rest some =
-    let cut = cut_step (length rest) rest some (omega arith) in
-    cut.1.is ∙ ap (λ later. front_packet rest ∷ later) (one_way cut.0 (length (behind rest)) (behind rest) cut.1.enough (omega arith))
-
-pub packets_none : (rest : List ℕ) → length rest ≡ 0 → packets rest ≡ []
-unfolding packets
-packets_none rest none = cut_nothing (length rest) rest none
+use Rattle.bin_list.proofs.Packets.{packets_step, packets_none, states_step}
 
 -- The states of a list, by its first packet.
-states_if : (p : List ℕ) (later : List (List ℕ)) → (b : Bool) → (opcode p == gl_shader_state) ≡ b
-    → states_of (p ∷ later) ≡ (if b then state (u32_at p 1) (greatest later) ∷ states_of later else states_of later)
-states_if p later b is = ap (λ b. if b then state (u32_at p 1) (greatest later) ∷ states_of later else states_of later) is
-
 pub states_here : (rest : List ℕ) → 1 ≤ length rest → opcode (front_packet rest) ≡ gl_shader_state
     → states_of (packets rest) ≡ state (u32_at (front_packet rest) 1) (greatest (packets (behind rest))) ∷ states_of (packets (behind rest))
-states_here rest some is =
-    ap states_of (packets_step rest some) ∙ states_if (front_packet rest) (packets (behind rest)) true (grind arith)
+states_here rest some is = states_step rest true some (grind arith)
 
 pub states_past : (rest : List ℕ) → 1 ≤ length rest → opcode (front_packet rest) ≢ gl_shader_state
     → states_of (packets rest) ≡ states_of (packets (behind rest))
-states_past rest some isnt =
-    ap states_of (packets_step rest some) ∙ states_if (front_packet rest) (packets (behind rest)) false (grind arith)
+states_past rest some isnt = states_step rest false some (grind arith)
 
 pub states_none : (rest : List ℕ) → length rest ≡ 0 → states_of (packets rest) ≡ []
 states_none rest none = ap states_of (packets_none rest none)

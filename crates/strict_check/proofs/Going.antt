@@ -5,8 +5,8 @@ use Rattle.std.specs.Result.{IsErrAnd}
 use Rattle.field_words.specs.{Questions.Question, Questions.first_of, Questions.GoesOn, Words.u32_at}
 use Rattle.field_words.proofs.Questions.{passes, stops, answered_none, answered_some}
 use Rattle.packets.specs.{Opcode.gl_shader_state, StateWord.attribute_count}
-use Rattle.bin_list.specs.{Packets.opcode, Packets.front_packet, Packets.behind, Packets.front_packets, Packets.packets, States.greatest, States.state, States.states_of}
-use Rattle.bin_list.proofs.Walk.{cut_step, cut_nothing}
+use Rattle.bin_list.specs.{Packets.opcode, Packets.front_packet, Packets.behind, Packets.packets, States.greatest, States.state, States.states_of}
+use Rattle.bin_list.proofs.Packets.{packets_none, states_step}
 use Rattle.job_format.specs.{declared.rule.Refusal.Refusal, Model.FileModel}
 use Rattle.job_check.specs.Jobs.{job_of, states_in}
 use Rattle.shader_records.specs.Sources.{source_size}
@@ -49,48 +49,33 @@ record_passes f j at word records from count records_are from_is count_is none b
 -- How far it has come: where T holds, what is asked of the states of the bytes that are left decides; and the place of the next source is
 -- small.
 pub record IsUnderway (T : Type 0) (f : FileModel) (j : ℕ) (rest : List ℕ) (at : ℕ) : Type 0 where
-  pub fuel : ℕ
-  pub enough : length rest ≤ fuel
   pub near : at + 176 * length rest ≤ 176 * length (job_of f j).bin
-  pub none : T → first_of (records_from f j at (states_of (front_packets fuel rest))) ≡ first_of (records_stage f j)
+  pub none : T → first_of (records_from f j at (states_of (packets rest))) ≡ first_of (records_stage f j)
 
 pub begins : (T : Type 0) (f : FileModel) (j : ℕ) (list : List ℕ) → list ≡ (job_of f j).bin → IsUnderway T f j list 0
-unfolding records_stage states_in packets
+unfolding records_stage states_in
 begins T f j list is = record {
-  fuel = length list;
-  enough = omega arith;
   near = omega (arith, ap length is);
-  none = λ holds. ap (λ l. first_of (records_from f j 0 (states_of (front_packets (length l) l)))) is;
+  none = λ holds. ap (λ l. first_of (records_from f j 0 (states_of (packets l)))) is;
 }
 
--- the states of a list whose first packet is one, or isn't
-here : (p : List ℕ) (later : List (List ℕ)) → (opcode p == gl_shader_state) ≡ true
-    → states_of (p ∷ later) ≡ state (u32_at p 1) (greatest later) ∷ states_of later
-here p later is = ap (λ b. if b then state (u32_at p 1) (greatest later) ∷ states_of later else states_of later) is
-
-past : (p : List ℕ) (later : List (List ℕ)) → (opcode p == gl_shader_state) ≡ false → states_of (p ∷ later) ≡ states_of later
-past p later is = ap (λ b. if b then state (u32_at p 1) (greatest later) ∷ states_of later else states_of later) is
-
 -- what is asked of the bytes that are left, at a packet
-left : (T : Type 0) (f : FileModel) (j : ℕ) (rest : List ℕ) (at : ℕ) (u : IsUnderway T f j rest at) (holds : T) (n : ℕ) → front_packets u.fuel rest ≡ front_packet rest ∷ front_packets n (behind rest)
-    → first_of (records_stage f j) ≡ first_of (records_from f j at (states_of (front_packet rest ∷ front_packets n (behind rest))))
-left T f j rest at u holds n is = sym (u.none holds) ∙ ap (λ l. first_of (records_from f j at (states_of l))) is
-
--- what is asked of the bytes that are left, at a state
-at_state : (T : Type 0) (f : FileModel) (j : ℕ) (rest : List ℕ) (at : ℕ) (u : IsUnderway T f j rest at) (holds : T) (n : ℕ) → front_packets u.fuel rest ≡ front_packet rest ∷ front_packets n (behind rest)
-    → (opcode (front_packet rest) == gl_shader_state) ≡ true
+left : (T : Type 0) (f : FileModel) (j : ℕ) (rest packet : List ℕ) (at : ℕ) (b : Bool) → IsUnderway T f j rest at → T → 1 ≤ length rest
+    → packet ≡ front_packet rest → (opcode packet == gl_shader_state) ≡ b
     → first_of (records_stage f j)
-    ≡ first_of (record_questions f j at (u32_at (front_packet rest) 1) ++ records_from f j (at + source_size (u32_at (front_packet rest) 1)) (states_of (front_packets n (behind rest))))
-at_state T f j rest at u holds n is test =
-    left T f j rest at u holds n is ∙ ap (λ l. first_of (records_from f j at l)) (here (front_packet rest) (front_packets n (behind rest)) test)
+    ≡ (if b then first_of (record_questions f j at (u32_at (front_packet rest) 1) ++ records_from f j (at + source_size (u32_at (front_packet rest) 1)) (states_of (packets (behind rest))))
+    else first_of (records_from f j at (states_of (packets (behind rest)))))
+left T f j rest packet at true u holds some is test =
+    sym (u.none holds) ∙ ap (λ l. first_of (records_from f j at l)) (states_step rest true some (sym (ap (λ p. opcode p == gl_shader_state) is) ∙ test))
+left T f j rest packet at false u holds some is test =
+    sym (u.none holds) ∙ ap (λ l. first_of (records_from f j at l)) (states_step rest false some (sym (ap (λ p. opcode p == gl_shader_state) is) ∙ test))
 
 pub stops_at : (T : Type 0) (f : FileModel) (j : ℕ) (rest packet : List ℕ) (at word : ℕ) (refusal : Refusal) → IsUnderway T f j rest at → T → 1 ≤ length rest
     → packet ≡ front_packet rest → (opcode packet == gl_shader_state) ≡ true → word ≡ u32_at packet 1
     → first_of (record_questions f j at word) ≡ Some refusal → first_of (records_stage f j) ≡ Some refusal
 stops_at T f j rest packet at word refusal u holds some is test word_is broken =
-    let step = cut_step u.fuel rest some u.enough in
     let same = word_is ∙ ap (λ p. u32_at p 1) is in
-    at_state T f j rest at u holds step.0 step.1.is (sym (ap (λ p. opcode p == gl_shader_state) is) ∙ test)
+    left T f j rest packet at true u holds some is test
     ∙ stops (record_questions f j at (u32_at (front_packet rest) 1)) _ refusal (sym (ap (λ w. first_of (record_questions f j at w)) same) ∙ broken)
 
 pub goes_on : (T : Type 0) (f : FileModel) (j : ℕ) (rest packet later : List ℕ) (at word size : ℕ) → IsUnderway T f j rest at → 1 ≤ length rest
@@ -98,17 +83,14 @@ pub goes_on : (T : Type 0) (f : FileModel) (j : ℕ) (rest packet later : List �
     → (opcode packet == gl_shader_state) ≡ true → word ≡ u32_at packet 1 → (T → first_of (record_questions f j at word) ≡ None)
     → size ≡ source_size word → size ≤ 176 → IsUnderway T f j later (at + size)
 goes_on T f j rest packet later at word size u some is rest_is long fits test word_is broken size_is limit =
-    let step = cut_step u.fuel rest some u.enough in
     let same = word_is ∙ ap (λ p. u32_at p 1) is in
     record {
-      fuel = step.0;
-      enough = omega (arith, step.1.enough, ap length rest_is);
       near = omega (arith, u.near, fits, long, limit);
       none = λ holds.
-          ap (λ l. first_of (records_from f j (at + size) (states_of (front_packets step.0 l)))) rest_is
-          ∙ ap (λ n. first_of (records_from f j (at + n) (states_of (front_packets step.0 (behind rest))))) (size_is ∙ ap source_size same)
+          ap (λ l. first_of (records_from f j (at + size) (states_of (packets l)))) rest_is
+          ∙ ap (λ n. first_of (records_from f j (at + n) (states_of (packets (behind rest))))) (size_is ∙ ap source_size same)
           ∙ sym (passes (record_questions f j at (u32_at (front_packet rest) 1)) _ (sym (ap (λ w. first_of (record_questions f j at w)) same) ∙ broken holds))
-          ∙ sym (at_state T f j rest at u holds step.0 step.1.is (sym (ap (λ p. opcode p == gl_shader_state) is) ∙ test));
+          ∙ sym (left T f j rest packet at true u holds some is test);
     }
 
 -- another packet
@@ -116,16 +98,12 @@ pub passes_by : (T : Type 0) (f : FileModel) (j : ℕ) (rest packet later : List
     → packet ≡ front_packet rest → later ≡ behind rest → length packet + length later ≤ length rest
     → (opcode packet == gl_shader_state) ≡ false → IsUnderway T f j later at
 passes_by T f j rest packet later at u some is rest_is fits test =
-    let step = cut_step u.fuel rest some u.enough in
     record {
-      fuel = step.0;
-      enough = omega (arith, step.1.enough, ap length rest_is);
       near = omega (arith, u.near, fits);
       none = λ holds.
-          ap (λ l. first_of (records_from f j at (states_of (front_packets step.0 l)))) rest_is
-          ∙ sym (ap (λ l. first_of (records_from f j at l)) (past (front_packet rest) (front_packets step.0 (behind rest)) (sym (ap (λ p. opcode p == gl_shader_state) is) ∙ test)))
-          ∙ sym (left T f j rest at u holds step.0 step.1.is);
+          ap (λ l. first_of (records_from f j at (states_of (packets l)))) rest_is
+          ∙ sym (left T f j rest packet at false u holds some is test);
     }
 
 pub through : (T : Type 0) (f : FileModel) (j : ℕ) (rest : List ℕ) (at : ℕ) → IsUnderway T f j rest at → T → length rest ≡ 0 → first_of (records_stage f j) ≡ None
-through T f j rest at u holds none = sym (u.none holds) ∙ ap (λ l. first_of (records_from f j at (states_of l))) (cut_nothing u.fuel rest none)
+through T f j rest at u holds none = sym (u.none holds) ∙ ap (λ l. first_of (records_from f j at (states_of l))) (packets_none rest none)

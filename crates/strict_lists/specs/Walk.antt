@@ -2,7 +2,7 @@
 use Rattle.std.specs.Prelude.{◌≡◌, ◌≤◌, ℕ, ◌+◌, ◌==◌, ◌||◌, List, length, if◌then◌else◌}
 use Rattle.field_words.specs.Questions.{first_of}
 use Rattle.packets.specs.Opcode.{start_tile_binning}
-use Rattle.bin_list.specs.Packets.{opcode, front_packets}
+use Rattle.bin_list.specs.Packets.{opcode, packets}
 use Rattle.strict_lists.specs.{declared.course.Course.Course, Rules.is_primitive, Rules.course_before, Rules.asked_from, Rules.list_questions}
 
 -- what is kept one packet later
@@ -16,9 +16,7 @@ course_after course packet = record {
 
 pub record IsUnderway (list rest : List ℕ) (course : Course) : Type 0 where
   pub earlier : List (List ℕ)
-  pub fuel : ℕ
-  pub enough : length rest ≤ fuel
   pub kept : course ≡ course_before earlier
   pub inside : course.at + length rest ≤ length list
   pub near : course.primitives ≤ course.at
-  pub none : first_of (asked_from earlier (front_packets fuel rest)) ≡ first_of (list_questions list)
+  pub none : first_of (asked_from earlier (packets rest)) ≡ first_of (list_questions list)

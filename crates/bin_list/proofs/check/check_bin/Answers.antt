@@ -1,9 +1,8 @@
-use Rattle.std.proofs.Common.{ℕ, ◌≡◌, List, [], Ok, Err, Result, OnOk, length, subst, refl}
-use Rattle.field_words.specs.{Questions.Answers, Questions.with_answers, declared.stop.Stop.Stop}
-use Rattle.field_words.specs.declared.stop.Stop.TheVariants.{Fault, NoMemory}
+use Rattle.std.proofs.Common.{[], Ok, Err, Result, OnOk, refl}
+use Rattle.field_words.specs.{Questions.with_answers, declared.stop.Stop.Stop}
 use Rattle.field_words.proofs.{Questions.answers_later, Questions.refuses_front, Least.names_least}
 use Rattle.bin_list.specs.{declared.fault.ListFault.ListFault, declared.info.BinInfo.BinInfo, Faults.fault, Faults.IsUpTo, Packets.packets_passed}
-use Rattle.bin_list.specs.{Seen.seen_before, Rules.GivenModel, Rules.questions_of_packets, Rules.end_questions, Rules.questions_of, Rules.given_of}
+use Rattle.bin_list.specs.{Seen.seen_before, Rules.questions_of_packets, Rules.end_questions, Rules.questions_of, Rules.given_of}
 use Rattle.bin_list.specs.Info.{IsInfo}
 use Rattle.bin_list.proofs.Least.{order, rises_list}
 use Rattle.bin_list.proofs.check.check_bin.Goals as goal

@@ -1,5 +1,5 @@
 use Rattle.std.proofs.Common.{length, ap, arith}
-use Rattle.bin_list.proofs.Walk.{front_some, front_behind}
+use Rattle.bin_list.proofs.Packets.{front_some, front_behind}
 use Rattle.bin_list.proofs.cut.split_front.Goals as goal
 
 pub returns-clause-some : goal.returns-clause-some
