@@ -6,7 +6,7 @@ use Rattle.bin_list.specs.Packets.{opcode, packets}
 use Rattle.shader_records.specs.Sources.{source_size}
 use Rattle.job_format.specs.declared.rule.Part.TheVariants.{JobEntry, BinnerList, Records, Uniforms}
 use Rattle.job_format.specs.{declared.rule.Part.Part, Places.start_of, Offsets.job_size, Offsets.most_buffers, Offsets.most_jobs, Offsets.buffer_count, Offsets.job_count}
-use Rattle.job_text.specs.{declared.draws.Walk.Walk, declared.writing.Span.Span, Cuts.AreAllLines, Meanings.said_if, Shown.Look}
+use Rattle.job_text.specs.{declared.span.Span.Span, Cuts.AreAllLines, Meanings.said_if, Shown.Look}
 
 -- Some bytes of a file, and the offset at which they begin.
 pub record Stretch : Type 0 where
@@ -58,22 +58,6 @@ IsPacketPut look packet records uniforms taken old new =
     × AreLinesOf look (front (record_taken packet.bytes) records) first second
     × AreLinesOf look (front (by_state packet.bytes taken) uniforms) second third
     × (new ≡ third ++ said_if (is_draw packet.bytes) (codes "\n"))
-
--- what a state with a record of so many bytes adds
-abbrev pub IsStateStep : Look → ℕ → (walk next : Walk) → (old new : List ℕ) → Type 0
-IsStateStep look size walk next old new =
-    (taken : ℕ) × (mid : List ℕ)
-    × AreLinesOf look (front size (stretch_of walk.records)) old mid
-    × AreLinesOf look (front taken (stretch_of walk.uniforms)) mid new
-    × (stretch_of next.records ≡ behind size (stretch_of walk.records))
-    × (stretch_of next.uniforms ≡ behind taken (stretch_of walk.uniforms))
-
--- the same, and what is left then of the records and the uniforms
-abbrev pub IsPacketStep : Look → Stretch → (walk next : Walk) → (old new : List ℕ) → Type 0
-IsPacketStep look packet walk next old new =
-    (taken : ℕ) × IsPacketPut look packet (stretch_of walk.records) (stretch_of walk.uniforms) taken old new
-    × (stretch_of next.records ≡ behind (record_taken packet.bytes) (stretch_of walk.records))
-    × (stretch_of next.uniforms ≡ behind (by_state packet.bytes taken) (stretch_of walk.uniforms))
 
 -- Behind a text stand the lines of packets, of which the first begins at an offset, and of their states' records and uniforms, which begin what
 -- is left of them. How many uniforms a record's shaders take isn't said.

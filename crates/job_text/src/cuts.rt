@@ -227,10 +227,7 @@ impl Pieces {
 /// The parts of a file, in order, as far as it goes. Behind the header of one that claims more buffers than a file may have, nothing is
 /// read.
 pub(crate) fn cuts_of(alloc: Global, bytes: &[u8]) -> Result<Vec<Cut>, NoMemory> {
-    let mut out = Pieces {
-        cuts: Vec::new(alloc),
-        left: usize::MAX,
-    };
+    let mut out = Pieces::new(alloc, usize::MAX);
     out.push_fields(Part::Header, &HEADER)?;
     if word_at(bytes, 28) > MOST_BUFFERS {
         out.push_unread(bytes, HEADER_SIZE)?;

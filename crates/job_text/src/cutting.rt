@@ -4,7 +4,7 @@ ghost use Rattle.std.specs.Prelude.{◌≡◌, take, drop};
 use crate::names::field_size;
 use crate::note::{Cut, Field, Note, Part, Piece};
 use field_words::get_u32;
-use std::alloc::AllocError;
+use std::alloc::{AllocError, Global};
 
 /// The pieces so far, and how many bytes are left of the part of the file that is being cut.
 #[derive(Drop)]
@@ -54,6 +54,14 @@ fn numbered(note: Note, number: usize) -> Note {
 }
 
 impl Pieces {
+    /// No pieces yet, of a part of so many bytes.
+    pub fn new(alloc: Global, left: usize) -> Self {
+        Pieces {
+            cuts: Vec::new(alloc),
+            left,
+        }
+    }
+
     /// Appends a piece of a size, or of what is left.
     pub fn push(&mut self, size: usize, note: Note) -> Result<(), AllocError> {
         let size = size.min(self.left);

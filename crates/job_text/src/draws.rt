@@ -1,16 +1,17 @@
 //! The draws of a file as text.
-ghost use Rattle.std.specs.Prelude.{ℕ, ◌≡◌, ◌<◌, ◌^◌, ◌+◌, length, IfOk, OnOk};
+ghost use Rattle.std.specs.Prelude.{ℕ, ◌≡◌, IfOk, OnOk};
 ghost use Rattle.bin_list.specs.Packets.{packets};
-ghost use Rattle.shader_records.specs.Sources.{source_size};
-ghost use Rattle.job_text.specs.Draws.{stretch_of, part_in, front, behind, AreLinesOf, is_draw, IsStateStep, IsPacketStep, AreDraws, AreJobDraws, IsDrawsText, jobs_drawn};
+ghost use Rattle.job_text.specs.Draws.{stretch_of, part_in, job_part, front, behind, by_state, record_taken, is_draw, IsPacketPut, AreDraws, AreJobDraws, IsDrawsText, jobs_drawn};
 ghost use Rattle.job_text.specs.Shown.{look_of};
 
 use crate::cutting::{Job, Pieces, part_at};
 use crate::list::{Record, packet_note};
 use crate::meanings::put_if;
+use crate::note::Cut;
+use crate::span::Span;
 use crate::streams::known_shaders;
 use crate::view::View;
-use crate::writing::{Span, put_line, put_lines};
+use crate::writing::{put_line, put_lines};
 use bin_list::split_front;
 use field_words::{NoMemory, byte_at, word_at};
 use job_format::{JOB_SIZE, MOST_BUFFERS, MOST_JOBS, Part, Place, offset_of};
@@ -40,8 +41,7 @@ pub struct Walk<'a> {
 // So many bytes of a part of the file, as far as the file goes.
 #[tactic(auto, unfolding(crate::specs::Draws::part_in))]
 fn part_in(bytes: &[u8], part: Part, index: u32, size: usize) -> Span<'_>
-    ensures part { stretch_of result ≡ part_in bytes.now part index size }
-    ensures inside { result.at + length result.bytes.now < 2 ^ 64 }
+    ensures { stretch_of result ≡ part_in bytes.now part index size }
 {
     let start = offset_of(bytes, Place { part, index, at: 0 });
     let at = start.min(bytes.len() as u128) as usize;
@@ -51,12 +51,18 @@ fn part_in(bytes: &[u8], part: Part, index: u32, size: usize) -> Span<'_>
     }
 }
 
+// A part of a job, whose size its entry has at a byte.
+fn job_part(bytes: &[u8], part: Part, job: u32, at: usize) -> Span<'_>
+    ensures { stretch_of result ≡ job_part bytes.now part job at }
+{
+    let entry = part_in(bytes, Part::JobEntry, job, JOB_SIZE);
+    part_in(bytes, part, job, word_at(entry.bytes, at) as usize)
+}
+
 // The front of some bytes, of a size, and what is behind it.
 fn split(span: Span<'_>, size: usize) -> (Span<'_>, Span<'_>)
-    requires { span.at + length span.bytes.now < 2 ^ 64 }
     ensures front { stretch_of result.0 ≡ front size (stretch_of span.entry) }
     ensures rest { stretch_of result.1 ≡ behind size (stretch_of span.entry) }
-    ensures inside { result.1.at + length result.1.bytes.now ≡ span.entry.at + length span.entry.bytes.now }
 {
     let (front, rest) = span.bytes.split_at(size.min(span.bytes.len()));
     (
@@ -71,85 +77,24 @@ fn split(span: Span<'_>, size: usize) -> (Span<'_>, Span<'_>)
     )
 }
 
-// Writes the lines of the next record, that of a state of this word, and says what is left of the records.
-fn put_record<'a>(
-    alloc: Global,
-    out: &mut Vec<u8>,
-    walk: Walk<'a>,
-    state: u32,
-    view: View<'_>,
-) -> Result<Span<'a>, NoMemory>
-    requires { walk.records.at + length walk.records.bytes.now < 2 ^ 64 }
-    ensures lines { IfOk result (λ _. AreLinesOf (look_of view.entry)
-        (front (source_size state) (stretch_of walk.entry.records)) out.old.items out.new.items) }
-    ensures rest { IfOk result (λ rest.
-        stretch_of rest ≡ behind (source_size state) (stretch_of walk.entry.records)) }
+// Behind a shader state so many bytes are taken, behind any other packet none.
+#[tactic(auto, unfolding(crate::specs::Draws::by_state))]
+fn by_state(packet: &[u8], size: usize) -> usize
+    ensures { result ≡ by_state packet.now size }
 {
-    let (record, rest) = split(walk.records, source_size(state));
-    let mut pieces = Pieces {
-        cuts: Vec::new(alloc),
-        left: walk.records.bytes.len(),
-    };
-    let (job, number) = (walk.job, walk.number);
-    pieces.push_record(Record { job, number }, state)?;
-    put_lines(alloc, out, record, &pieces.cuts, view)?;
-    Ok(rest)
-}
-
-// Writes the lines of the uniforms that the shaders of the next record take, and says what is left of the uniforms.
-fn put_uniforms<'a>(
-    alloc: Global,
-    out: &mut Vec<u8>,
-    walk: Walk<'a>,
-    view: View<'_>,
-) -> Result<Span<'a>, NoMemory>
-    requires { walk.uniforms.at + length walk.uniforms.bytes.now < 2 ^ 64 }
-    ensures { IfOk result (λ rest. (taken : ℕ)
-        × AreLinesOf (look_of view.entry) (front taken (stretch_of walk.entry.uniforms))
-        out.old.items out.new.items
-        × (stretch_of rest ≡ behind taken (stretch_of walk.entry.uniforms))) }
-{
-    let left = walk.uniforms.bytes.len();
-    let mut pieces = Pieces {
-        cuts: Vec::new(alloc),
-        left,
-    };
-    let at = walk
-        .job
-        .records
-        .len()
-        .saturating_sub(walk.records.bytes.len());
-    if !pieces.push_streams(alloc, walk.job, walk.shaders, (walk.number, at))? {
-        pieces.push_unknown(walk.job)?;
+    if byte_at(packet, 0) == GL_SHADER_STATE {
+        size
+    } else {
+        0
     }
-    let (taken, rest) = split(walk.uniforms, left.saturating_sub(pieces.left));
-    put_lines(alloc, out, taken, &pieces.cuts, view)?;
-    Ok(rest)
 }
 
-// Writes the lines of the record and of the uniforms of a state of this word.
-fn put_state<'a>(
-    alloc: Global,
-    out: &mut Vec<u8>,
-    walk: Walk<'a>,
-    state: u32,
-    view: View<'_>,
-) -> Result<Walk<'a>, NoMemory>
-    requires records { walk.records.at + length walk.records.bytes.now < 2 ^ 64 }
-    requires uniforms { walk.uniforms.at + length walk.uniforms.bytes.now < 2 ^ 64 }
-    ensures { IfOk result (λ next. IsStateStep (look_of view.entry) (source_size state) walk.entry next
-        out.old.items out.new.items) }
+// The bytes of a state's record, with its handles.
+#[tactic(auto, unfolding(crate::specs::Draws::record_taken))]
+fn record_taken(packet: &[u8]) -> usize
+    ensures { result ≡ record_taken packet.now }
 {
-    let records = put_record(alloc, out, walk, state, view)?;
-    let uniforms = put_uniforms(alloc, out, walk, view)?;
-    Ok(Walk {
-        job: walk.job,
-        shaders: walk.shaders,
-        records,
-        uniforms,
-        number: walk.number.saturating_add(1),
-        buffer: walk.buffer,
-    })
+    by_state(packet, source_size(word_at(packet, 1)))
 }
 
 #[tactic(auto, unfolding(crate::specs::Draws::is_draw))]
@@ -160,28 +105,62 @@ fn is_draw(packet: &[u8]) -> bool
     opcode == INDEXED_PRIMITIVE_LIST || opcode == ARRAY_PRIMITIVE_LIST
 }
 
-// Writes the lines of a packet, and of the record and the uniforms of a state; behind a draw an empty line.
-fn put_packet<'a>(
-    alloc: Global,
-    out: &mut Vec<u8>,
-    walk: Walk<'a>,
-    packet: Span<'_>,
-    view: View<'_>,
-) -> Result<Walk<'a>, NoMemory>
-    requires records { walk.records.at + length walk.records.bytes.now < 2 ^ 64 }
-    requires uniforms { walk.uniforms.at + length walk.uniforms.bytes.now < 2 ^ 64 }
-    ensures { IfOk result (λ next. IsPacketStep (look_of view.entry) (stretch_of packet.entry) walk.entry next
-        out.old.items out.new.items) }
-{
-    let mut walk = walk;
-    walk.buffer = walk.job.indexes_behind(packet.bytes, walk.buffer);
-    let note = packet_note(walk.job.number, packet.bytes, walk.buffer);
-    put_line(alloc, out, packet, note, view)?;
-    if byte_at(packet.bytes, 0) == GL_SHADER_STATE {
-        walk = put_state(alloc, out, walk, word_at(packet.bytes, 1), view)?;
+impl<'a> Walk<'a> {
+    // A state's record, cut into pieces.
+    fn record_cuts(&self, alloc: Global, packet: &[u8]) -> Result<Vec<Cut>, NoMemory> {
+        let mut pieces = Pieces::new(alloc, self.records.bytes.len());
+        if byte_at(packet, 0) == GL_SHADER_STATE {
+            let (job, number) = (self.job, self.number);
+            pieces.push_record(Record { job, number }, word_at(packet, 1))?;
+        }
+        Ok(pieces.cuts)
     }
-    put_if(out, is_draw(packet.bytes), b"\n")?;
-    Ok(walk)
+
+    // The pieces of the uniforms that the shaders of a state's record take, and how many bytes of the uniforms are then left.
+    fn uniform_pieces(&self, alloc: Global, packet: &[u8]) -> Result<Pieces, NoMemory> {
+        let mut pieces = Pieces::new(alloc, self.uniforms.bytes.len());
+        let left = self.records.bytes.len();
+        let record = (self.number, self.job.records.len().saturating_sub(left));
+        if byte_at(packet, 0) == GL_SHADER_STATE
+            && !pieces.push_streams(alloc, self.job, self.shaders, record)?
+        {
+            pieces.push_unknown(self.job)?;
+        }
+        Ok(pieces)
+    }
+
+    // Writes the lines of a packet, and of the record and the uniforms of a state; behind a draw an empty line.
+    fn put_packet(
+        &mut self,
+        alloc: Global,
+        out: &mut Vec<u8>,
+        packet: Span<'_>,
+        view: View<'_>,
+    ) -> Result<(), NoMemory>
+        ensures { OnOk result ((taken : ℕ)
+            × IsPacketPut (look_of view.entry) (stretch_of packet.entry)
+            (stretch_of self.old.records) (stretch_of self.old.uniforms) taken out.old.items out.new.items
+            × (stretch_of self.new.records
+            ≡ behind (record_taken packet.entry.bytes.now) (stretch_of self.old.records))
+            × (stretch_of self.new.uniforms
+            ≡ behind (by_state packet.entry.bytes.now taken) (stretch_of self.old.uniforms))) }
+    {
+        self.buffer = self.job.indexes_behind(packet.bytes, self.buffer);
+        let note = packet_note(self.job.number, packet.bytes, self.buffer);
+        put_line(alloc, out, packet, note, view)?;
+        let cuts = self.record_cuts(alloc, packet.bytes)?;
+        let (record, records) = split(self.records, record_taken(packet.bytes));
+        put_lines(alloc, out, record, &cuts, view)?;
+        let pieces = self.uniform_pieces(alloc, packet.bytes)?;
+        let size = self.uniforms.bytes.len().saturating_sub(pieces.left);
+        let (taken, uniforms) = split(self.uniforms, by_state(packet.bytes, size));
+        put_lines(alloc, out, taken, &pieces.cuts, view)?;
+        put_if(out, is_draw(packet.bytes), b"\n")?;
+        self.records = records;
+        self.uniforms = uniforms;
+        self.number = self.number.saturating_add(by_state(packet.bytes, 1));
+        Ok(())
+    }
 }
 
 // Writes the lines of a list's packets, and of their states' records and uniforms.
@@ -192,9 +171,6 @@ fn put_list(
     list: Span<'_>,
     view: View<'_>,
 ) -> Result<(), NoMemory>
-    requires list { list.at + length list.bytes.now < 2 ^ 64 }
-    requires records { walk.records.at + length walk.records.bytes.now < 2 ^ 64 }
-    requires uniforms { walk.uniforms.at + length walk.uniforms.bytes.now < 2 ^ 64 }
     ensures { OnOk result (AreDraws (look_of view.entry) list.entry.at (packets list.entry.bytes.now)
         (stretch_of walk.entry.records) (stretch_of walk.entry.uniforms) out.old.items out.new.items) }
 {
@@ -203,14 +179,14 @@ fn put_list(
     let mut at = list.at;
     while !rest.is_empty() {
         let (packet, behind) = split_front(rest);
-        now = put_packet(alloc, out, now, Span { at, bytes: packet }, view)?;
+        now.put_packet(alloc, out, Span { at, bytes: packet }, view)?;
         at += packet.len();
         rest = behind;
     }
     Ok(())
 }
 
-// Writes the lines of a job's draws.
+// Writes the lines of the draws of a job, where so much is known of the shaders.
 fn put_job(
     alloc: Global,
     out: &mut Vec<u8>,
@@ -221,31 +197,12 @@ fn put_job(
     ensures { OnOk result (AreJobDraws (look_of view.entry) file.entry.bytes.now number
         out.old.items out.new.items) }
 {
-    let entry = part_in(file.bytes, Part::JobEntry, number, JOB_SIZE).bytes;
-    let handles = part_in(
-        file.bytes,
-        Part::Handles,
-        number,
-        4 * word_at(entry, 8) as usize,
-    );
-    let list = part_in(
-        file.bytes,
-        Part::BinnerList,
-        number,
-        word_at(entry, 12) as usize,
-    );
-    let records = part_in(
-        file.bytes,
-        Part::Records,
-        number,
-        word_at(entry, 16) as usize,
-    );
-    let uniforms = part_in(
-        file.bytes,
-        Part::Uniforms,
-        number,
-        word_at(entry, 24) as usize,
-    );
+    let bytes = file.bytes;
+    let entry = part_in(bytes, Part::JobEntry, number, JOB_SIZE).bytes;
+    let handles = part_in(bytes, Part::Handles, number, 4 * word_at(entry, 8) as usize);
+    let list = job_part(bytes, Part::BinnerList, number, 12);
+    let records = job_part(bytes, Part::Records, number, 16);
+    let uniforms = job_part(bytes, Part::Uniforms, number, 24);
     let job = Job {
         number,
         entry,

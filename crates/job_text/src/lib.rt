@@ -18,6 +18,7 @@ mod noted;
 mod notes;
 mod numbers;
 mod rows;
+mod span;
 mod streams;
 mod uniforms;
 mod view;

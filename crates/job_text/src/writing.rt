@@ -1,5 +1,5 @@
 //! A file as text.
-ghost use Rattle.std.specs.Prelude.{◌≡◌, ◌<◌, ◌^◌, ◌+◌, ◌++◌, false, length, List, IfOk, OnOk, Ok};
+ghost use Rattle.std.specs.Prelude.{◌≡◌, ◌++◌, false, length, List, IfOk, OnOk, Ok};
 ghost use Rattle.job_text.specs.declared.note.Piece.{Piece as PieceModel};
 ghost use Rattle.job_text.specs.Shown.{offset_text, remark, is_in, reason_text, end_text, whole_line, line_text, look_of, text_shown};
 ghost use Rattle.job_text.specs.Cuts.{AreLines, AreAllLines};
@@ -11,6 +11,7 @@ use crate::meanings::put_if;
 use crate::note::{Cut, Note};
 use crate::notes::put_note;
 use crate::numbers::{instruction, put_number};
+use crate::span::Span;
 use crate::view::{Omitted, View};
 use field_words::NoMemory;
 use script::cut_at;
@@ -18,13 +19,6 @@ use std::alloc::{AllocError, Global};
 
 /// How many bytes a remark has at most, as a rule.
 const USUAL_REMARK: usize = 128;
-
-/// Some bytes of a file, and their offset in it.
-#[derive(Clone, Copy)]
-pub struct Span<'a> {
-    pub at: usize,
-    pub bytes: &'a [u8],
-}
 
 #[tactic(auto, unfolding(crate::specs::Shown::offset_text))]
 fn put_offset(out: &mut Vec<u8>, omitted: Omitted, at: usize) -> Result<(), AllocError>
@@ -131,7 +125,6 @@ fn put_code(
     buffer: u32,
     view: View<'_>,
 ) -> Result<(), NoMemory>
-    requires { code.at + length code.bytes.now < 2 ^ 64 }
     ensures { OnOk result (AreLines (look_of view.entry) out.old.items out.new.items
         code.entry.at code.entry.bytes.now) }
 {
@@ -158,7 +151,6 @@ fn put_cut(
     cut: Cut,
     view: View<'_>,
 ) -> Result<(), NoMemory>
-    requires { span.at + length span.bytes.now < 2 ^ 64 }
     ensures { OnOk result (AreLines (look_of view.entry) out.old.items out.new.items
         span.entry.at span.entry.bytes.now) }
 {
@@ -179,7 +171,6 @@ pub(crate) fn put_lines(
     cuts: &[Cut],
     view: View<'_>,
 ) -> Result<(), NoMemory>
-    requires { span.at + length span.bytes.now < 2 ^ 64 }
     ensures { OnOk result (AreAllLines (look_of view.entry) out.old.items out.new.items
         span.entry.at span.entry.bytes.now) }
 {

@@ -1,11 +1,11 @@
 -- The walk over a binner list for its shader states, packet by packet.
-use Rattle.std.proofs.Common.{◌≡◌, ◌≤◌, ◌+◌, ◌*◌, ℕ, true, false, List, ◌∷◌, ◌++◌, Some, None, Result, Ok, Err, length, if◌then◌else◌, sym, ap, arith, ◌∙◌}
+use Rattle.std.proofs.Common.{◌≡◌, ◌≤◌, ◌+◌, ◌*◌, ℕ, true, false, List, ◌++◌, Some, None, Result, Ok, Err, length, if◌then◌else◌, sym, ap, arith, ◌∙◌, Bool}
 use Rattle.std.specs.Prelude.{◌==◌}
 use Rattle.std.specs.Result.{IsErrAnd}
 use Rattle.field_words.specs.{Questions.Question, Questions.first_of, Questions.GoesOn, Words.u32_at}
 use Rattle.field_words.proofs.Questions.{passes, stops, answered_none, answered_some}
 use Rattle.packets.specs.{Opcode.gl_shader_state, StateWord.attribute_count}
-use Rattle.bin_list.specs.{Packets.opcode, Packets.front_packet, Packets.behind, Packets.packets, States.greatest, States.state, States.states_of}
+use Rattle.bin_list.specs.{Packets.opcode, Packets.front_packet, Packets.behind, Packets.packets, States.states_of}
 use Rattle.bin_list.proofs.Packets.{packets_none, states_step}
 use Rattle.job_format.specs.{declared.rule.Refusal.Refusal, Model.FileModel}
 use Rattle.job_check.specs.Jobs.{job_of, states_in}
