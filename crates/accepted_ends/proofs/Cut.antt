@@ -1,5 +1,5 @@
 -- A list of packets that walks is cut into these packets again.
-use Rattle.std.proofs.Common.{◌≡◌, ◌≢◌, ◌≤◌, ℕ, ◌==◌, false, List, [], ◌∷◌, length, sym, arith}
+use Rattle.std.proofs.Common.{◌≡◌, ◌≢◌, ℕ, List, [], ◌∷◌, length, sym}
 use Rattle.std.proofs.lemmas.Bool.{ne_eqb}
 use Rattle.field_words.specs.Pieces.{joined_texts}
 use Rattle.packets.specs.{declared.config.Config.Config, Length.bin_length, Opcode.halt}
@@ -14,7 +14,7 @@ are_whole c R kept (packet ∷ later) walks =
     let tame : Tame c R kept packet = walks.0 in
     let whole : length packet ≡ bin_length (opcode packet) = tame.whole in
     let known : bin_length (opcode packet) ≢ 0 = tame.known in (
-      record { taken = sym (taken_is packet whole known (omega (arith, whole, known))); goes_on = ne_eqb (opcode packet) halt tame.no_halt },
+      record { taken = sym (taken_is packet whole known); goes_on = ne_eqb (opcode packet) halt tame.no_halt },
       are_whole c R (kept_after kept packet) later walks.1,
     )
 

@@ -1,11 +1,11 @@
 -- The numbers of an example are in their ranges.
 use Rattle.std.specs.Prelude.{zero, suc, ◌==◌, nat_le, nat_lt, min, if◌then◌else◌}
-use Rattle.bin_list.specs.{declared.state.State.State, declared.seen.Seen.Seen, States.state, Seen.place, Seen.seen_before, Seen.seen_after}
-use Rattle.bin_list.specs.Packets.{opcode, front_packet, behind, front_packets, packets, onto, packets_passed}
+use Rattle.bin_list.specs.{declared.state.State.State, declared.seen.Seen.Seen, States.state, Seen.seen_before, Seen.seen_after}
+use Rattle.bin_list.specs.Packets.{onto, packets_passed}
 use Rattle.bin_list.specs.Rules.{GivenModel, packet_questions, end_questions, questions_of_packets, questions_of}
 use Rattle.qpu_isa.specs.Shader.{ShaderModel}
-use Rattle.std.proofs.Common.{◌≡◌, ◌<◌, ◌≤◌, ℕ, ◌+◌, ◌*◌, ◌/◌, ◌%◌, true, false, arith, [], ◌∷◌, None, refl, ◌-◌, Bool, ap, ◌∙◌, List, ◌++◌, length, subst, length-append}
-use Rattle.std.proofs.lemmas.{Bool.Decides.nat_tests, List.take_at, List.drop_at, Grind.common_steps}
+use Rattle.std.proofs.Common.{◌≡◌, ◌<◌, ◌≤◌, ℕ, ◌+◌, ◌*◌, ◌/◌, ◌%◌, true, false, arith, [], ◌∷◌, None, refl, Bool, ap, ◌∙◌, List}
+use Rattle.std.proofs.lemmas.{Bool.Decides.nat_tests, Grind.common_steps}
 use Rattle.example_law.specs.Laws.{IsInRange}
 use Rattle.example_job.specs.Example.{across_of, down_of, count_of, regions, code_buffer, vertex_buffer, frame_buffer, frame_of}
 use Rattle.field_words.specs.{Sizes.most_memory, Sizes.most_list, Pieces.joined_texts, Questions.first_of, Questions.each}
@@ -16,7 +16,6 @@ use Rattle.relocation.specs.Layout.{records_start, uniforms_start, render_start,
 use Rattle.render_list.specs.Frame.{is_present, is_full}
 use Rattle.render_list.specs.Length.{load_size, loads_size, writes_size, tile_size, render_length}
 use Rattle.job_check.specs.Jobs.{render_room}
-use Rattle.packets.specs.{Opcode.halt, Length.bin_taken}
 use Rattle.bin_list.proofs.{Packets.AreWhole, Packets.packets_joined, Walk.seen_step}
 
 -- What the binner list of an example tells, and its shader.
