@@ -1,12 +1,12 @@
 -- How many steps a renderer list takes, and which tiles' own lists it goes into, slot by slot.
-use Rattle.std.proofs.Common.{◌≡◌, ℕ, zero, suc, ◌+◌, ◌*◌, ◌<◌, ◌≤◌, Bool, true, false, ◌&&◌, ◌||◌, ◌==◌, List, [], ◌∷◌, ◌++◌, length, Option, Some, None, is_some, if◌then◌else◌, refl, sym, ap, arith, ◌∙◌, lit<, bit_or, eq-eqb, add-zero, zero-mul, suc-mul}
+use Rattle.std.proofs.Common.{◌≡◌, ℕ, ◌+◌, ◌*◌, ◌<◌, ◌≤◌, Bool, true, false, ◌&&◌, ◌||◌, List, [], ◌∷◌, ◌++◌, length, Option, Some, None, is_some, if◌then◌else◌, refl, sym, ap, arith, ◌∙◌, lit<, bit_or}
 use Rattle.std.proofs.lemmas.List.{append_assoc, append-nil}
-use Rattle.std.specs.List.{flat_map, range_with_len}
 use Rattle.job_format.specs.declared.file.Frame.{Frame}
 use Rattle.packets.specs.declared.packet.Packet.TheVariants.{LoadFullResolution, LoadTileBuffer, StoreTileColor, StoreTileColorAndEnd, TileCoordinates, StoreTileBuffer, WaitOnSemaphore}
 use Rattle.packets.specs.declared.packet.Packet.{Packet}
 use Rattle.render_list.specs.Frame.{place_at, surface_at, is_full, full_place, is_first_tile, is_last_tile, tiles_across, tiles_down, IsTileSet, ArePlacesOf}
-use Rattle.render_list.specs.Text.{number_where, packet_where, idle_store, head_packet, clear_packet, clear_slots, front_slots, load_packet, load_slot, wait_slot, list_place, list_slot, full_store, full_store_slot, zs_store, zs_store_slot, color_store, color_store_slot, is_there, some_before_zs, some_before_color, more_after_multisample_zs, more_after_multisample_color, load_slots, list_slots, write_slots, tile_slots, span_slots, row_slots, all_tile_slots, render_slots}
+use Rattle.render_list.specs.Text.{number_where, packet_where, idle_store, head_packet, clear_packet, clear_slots, front_slots, load_packet, load_slot, wait_slot, list_place, list_slot, full_store, full_store_slot, zs_store, zs_store_slot, color_store, color_store_slot, is_there, some_before_zs, some_before_color, more_after_multisample_zs, more_after_multisample_color, load_slots, list_slots, write_slots, tile_slots, all_tile_slots, render_slots}
+use Rattle.render_list.proofs.Spans.{measured_tiles}
 use Rattle.promises.specs.Steps.{list_entered, all_entered, render_steps}
 use Rattle.job_bound.specs.Frames.{loads_steps, write_steps, writes_steps, frame_loads, frame_writes, tile_steps, frame_steps}
 
@@ -213,58 +213,9 @@ tile_of frame places grid slot y x agree =
       (writes_of frame places x y agree).steps,
     )
 
--- Numbers in a row whose slots take as many steps.
-span_same : (slots : ℕ → List (Option Packet)) (size first n : ℕ) → ((x : ℕ) → first ≤ x → render_steps (slots x) ≡ size) → render_steps (span_slots slots first n) ≡ n * size
-unfolding span_slots
-span_same slots size first zero same = sym (zero-mul size)
-span_same slots size first (suc n) same =
-    let here : render_steps (slots first) ≡ size = same first (omega arith) in
-    let rest : render_steps (span_slots slots (first + 1) n) ≡ n * size = span_same slots size (first + 1) n (λ x above. same x (omega arith)) in
-    omega (arith, steps_two (slots first) (flat_map slots (range_with_len (first + 1) n)), here, rest, suc-mul n size)
-
--- The first of them may take more.
-span_some : (slots : ℕ → List (Option Packet)) (size more first n : ℕ) → 0 < n → render_steps (slots first) ≡ size + more → ((x : ℕ) → first < x → render_steps (slots x) ≡ size)
-    → render_steps (span_slots slots first n) ≡ n * size + more
-unfolding span_slots
-span_some slots size more first zero some here same = absurd (omega (arith, some))
-span_some slots size more first (suc n) some here same =
-    let rest : render_steps (span_slots slots (first + 1) n) ≡ n * size = span_same slots size (first + 1) n (λ x above. same x (omega arith)) in
-    omega (arith, steps_two (slots first) (flat_map slots (range_with_len (first + 1) n)), here, rest, suc-mul n size)
-
--- The first tile alone waits for the binner.
-first_in_row : (frame : Frame) (b : Bool) (y : ℕ) → number_where (b && is_first_tile frame frame.min_x y) 1 ≡ number_where (b && (y == frame.min_y)) 1
-unfolding is_first_tile
-first_in_row frame b y = ap (λ t. number_where (b && (t && (y == frame.min_y))) 1) (eq-eqb frame.min_x frame.min_x refl)
-
-later_in_row : (frame : Frame) (b : Bool) (x y : ℕ) → frame.min_x < x → number_where (b && is_first_tile frame x y) 1 ≡ 0
-unfolding is_first_tile
-later_in_row frame true x y above = ap (λ t. number_where (t && (y == frame.min_y)) 1) (let e : (x == frame.min_x) ≡ false = grind (arith, above) in e)
-later_in_row frame false x y above = refl
-
-first_row : (frame : Frame) (b : Bool) → number_where (b && (frame.min_y == frame.min_y)) 1 ≡ number_where b 1
-first_row frame true = ap (λ t. number_where t 1) (eq-eqb frame.min_y frame.min_y refl)
-first_row frame false = refl
-
-later_row : (frame : Frame) (b : Bool) (y : ℕ) → frame.min_y < y → number_where (b && (y == frame.min_y)) 1 ≡ 0
-later_row frame true y above = ap (λ t. number_where t 1) (let e : (y == frame.min_y) ≡ false = grind (arith, above) in e)
-later_row frame false y above = refl
-
-row_of : (frame : Frame) (places : List (Option ℕ)) (grid : Option (ℕ × ℕ)) (slot y : ℕ) → ArePlacesOf frame places → IsTileSet frame
-    → render_steps (row_slots frame places grid slot y) ≡ tiles_across frame * tile_steps frame (is_some grid) + number_where (is_some grid && (y == frame.min_y)) 1
-row_of frame places grid slot y agree set =
-    span_some (tile_slots frame places grid slot y) (tile_steps frame (is_some grid)) (number_where (is_some grid && (y == frame.min_y)) 1) frame.min_x (tiles_across frame)
-    (omega (arith, set.across))
-    (tile_of frame places grid slot y frame.min_x agree ∙ ap (λ n. tile_steps frame (is_some grid) + n) (first_in_row frame (is_some grid) y))
-    (λ x above. tile_of frame places grid slot y x agree ∙ ap (λ n. tile_steps frame (is_some grid) + n) (later_in_row frame (is_some grid) x y above) ∙ add-zero (tile_steps frame (is_some grid)))
-
 tiles_of : (frame : Frame) (places : List (Option ℕ)) (grid : Option (ℕ × ℕ)) (slot : ℕ) → ArePlacesOf frame places → IsTileSet frame
     → render_steps (all_tile_slots frame places grid slot) ≡ tiles_down frame * (tiles_across frame * tile_steps frame (is_some grid)) + number_where (is_some grid) 1
-tiles_of frame places grid slot agree set =
-    let row = tiles_across frame * tile_steps frame (is_some grid) in
-    span_some (row_slots frame places grid slot) row (number_where (is_some grid) 1) frame.min_y (tiles_down frame)
-    (omega (arith, set.down))
-    (row_of frame places grid slot frame.min_y agree set ∙ ap (λ n. row + n) (first_row frame (is_some grid)))
-    (λ y above. row_of frame places grid slot y agree set ∙ ap (λ n. row + n) (later_row frame (is_some grid) y above) ∙ add-zero row)
+tiles_of frame places grid slot agree set = measured_tiles render_steps steps_two frame places grid slot (tile_steps frame (is_some grid)) set (λ y x. tile_of frame places grid slot y x agree)
 
 -- The whole.
 pub steps_render : (frame : Frame) (places : List (Option ℕ)) (grid : Option (ℕ × ℕ)) (slot : ℕ) → ArePlacesOf frame places → IsTileSet frame

@@ -1,13 +1,12 @@
 -- How long a renderer list is.
-use Rattle.std.proofs.Common.{◌≡◌, ℕ, zero, suc, ◌+◌, ◌*◌, ◌<◌, ◌≤◌, Bool, true, false, ◌&&◌, ◌||◌, ◌==◌, List, [], ◌∷◌, ◌++◌, length, Option, Some, None, is_some, if◌then◌else◌, refl, sym, ap, arith, ◌∙◌, length-append, lit<, bit_or, eq-eqb, add-zero, zero-mul, suc-mul}
-use Rattle.std.specs.List.{flat_map, range_with_len}
+use Rattle.std.proofs.Common.{◌≡◌, ℕ, ◌+◌, ◌*◌, ◌<◌, ◌≤◌, Bool, true, false, ◌&&◌, ◌||◌, List, [], ◌∷◌, ◌++◌, length, Option, Some, None, is_some, if◌then◌else◌, refl, sym, ap, arith, ◌∙◌, length-append, lit<, bit_or}
 use Rattle.job_format.specs.declared.file.Frame.{Frame}
 use Rattle.packets.specs.declared.packet.Packet.TheVariants.{LoadFullResolution, LoadTileBuffer, StoreTileColor, StoreTileColorAndEnd, TileCoordinates, StoreTileBuffer, WaitOnSemaphore}
 use Rattle.packets.specs.{declared.packet.Packet.Packet, Packet.packet_text, Packet.slots_text}
 use Rattle.render_list.specs.Frame.{place_at, surface_at, is_full, full_place, is_first_tile, is_last_tile, tiles_across, tiles_down, IsTileSet, ArePlacesOf, IsSetupFor}
-use Rattle.render_list.specs.Text.{number_where, packet_where, idle_store, head_packet, clear_packet, clear_slots, front_slots, load_packet, load_slot, wait_slot, list_slot, full_store, full_store_slot, zs_store, zs_store_slot, color_store, color_store_slot, is_there, some_before_zs, some_before_color, more_after_multisample_zs, more_after_multisample_color, load_slots, list_slots, write_slots, tile_slots, span_slots, row_slots, all_tile_slots, render_text}
+use Rattle.render_list.specs.Text.{number_where, packet_where, idle_store, head_packet, clear_packet, clear_slots, front_slots, load_packet, load_slot, wait_slot, list_slot, full_store, full_store_slot, zs_store, zs_store_slot, color_store, color_store_slot, is_there, some_before_zs, some_before_color, more_after_multisample_zs, more_after_multisample_color, load_slots, list_slots, write_slots, tile_slots, all_tile_slots, render_text}
 use Rattle.render_list.specs.Length.{load_size, loads_size, write_size, writes_size, frame_loads, frame_writes, tile_size, render_length}
-use Rattle.render_list.proofs.{Puts.length_two, Rows.length_parts}
+use Rattle.render_list.proofs.{Puts.length_two, Rows.length_parts, Spans.measured_tiles}
 
 -- How long the packet of a slot is; together they are as long as the text.
 abbrev slot_size : Option Packet → ℕ
@@ -190,62 +189,10 @@ length_tile frame places grid slot y x agree =
       writes_of frame places x y agree,
     )
 
--- Numbers in a row whose slots are of one length.
-span_same : (slots : ℕ → List (Option Packet)) (size first n : ℕ) → ((x : ℕ) → first ≤ x → length (slots_text (slots x)) ≡ size) → length (slots_text (span_slots slots first n)) ≡ n * size
-unfolding span_slots
-span_same slots size first zero same = sym (zero-mul size)
-span_same slots size first (suc n) same =
-    let here : length (slots_text (slots first)) ≡ size = same first (omega arith) in
-    let rest : length (slots_text (span_slots slots (first + 1) n)) ≡ n * size = span_same slots size (first + 1) n (λ x above. same x (omega arith)) in
-    omega (arith, length_two (slots first) (flat_map slots (range_with_len (first + 1) n)), here, rest, suc-mul n size)
-
--- The first of them may be longer.
-span_first : (slots : ℕ → List (Option Packet)) (size more first n : ℕ) → length (slots_text (slots first)) ≡ size + more → ((x : ℕ) → first < x → length (slots_text (slots x)) ≡ size)
-    → length (slots_text (span_slots slots first (suc n))) ≡ suc n * size + more
-unfolding span_slots
-span_first slots size more first n here same =
-    let rest : length (slots_text (span_slots slots (first + 1) n)) ≡ n * size = span_same slots size (first + 1) n (λ x above. same x (omega arith)) in
-    omega (arith, length_two (slots first) (flat_map slots (range_with_len (first + 1) n)), here, rest, suc-mul n size)
-
-span_some : (slots : ℕ → List (Option Packet)) (size more first n : ℕ) → 0 < n → length (slots_text (slots first)) ≡ size + more → ((x : ℕ) → first < x → length (slots_text (slots x)) ≡ size)
-    → length (slots_text (span_slots slots first n)) ≡ n * size + more
-span_some slots size more first zero some here same = absurd (omega (arith, some))
-span_some slots size more first (suc n) some here same = span_first slots size more first n here same
-
--- The byte that waits for the binner is at the first tile alone.
-first_in_row : (frame : Frame) (b : Bool) (y : ℕ) → number_where (b && is_first_tile frame frame.min_x y) 1 ≡ number_where (b && (y == frame.min_y)) 1
-unfolding is_first_tile
-first_in_row frame b y = ap (λ t. number_where (b && (t && (y == frame.min_y))) 1) (eq-eqb frame.min_x frame.min_x refl)
-
-later_in_row : (frame : Frame) (b : Bool) (x y : ℕ) → frame.min_x < x → number_where (b && is_first_tile frame x y) 1 ≡ 0
-unfolding is_first_tile
-later_in_row frame true x y above = ap (λ t. number_where (t && (y == frame.min_y)) 1) (let e : (x == frame.min_x) ≡ false = grind (arith, above) in e)
-later_in_row frame false x y above = refl
-
-first_row : (frame : Frame) (b : Bool) → number_where (b && (frame.min_y == frame.min_y)) 1 ≡ number_where b 1
-first_row frame true = ap (λ t. number_where t 1) (eq-eqb frame.min_y frame.min_y refl)
-first_row frame false = refl
-
-later_row : (frame : Frame) (b : Bool) (y : ℕ) → frame.min_y < y → number_where (b && (y == frame.min_y)) 1 ≡ 0
-later_row frame true y above = ap (λ t. number_where t 1) (let e : (y == frame.min_y) ≡ false = grind (arith, above) in e)
-later_row frame false y above = refl
-
-length_row : (frame : Frame) (places : List (Option ℕ)) (grid : Option (ℕ × ℕ)) (slot y : ℕ) → ArePlacesOf frame places → IsTileSet frame
-    → length (slots_text (row_slots frame places grid slot y)) ≡ tiles_across frame * tile_size frame (is_some grid) + number_where (is_some grid && (y == frame.min_y)) 1
-length_row frame places grid slot y agree set =
-    span_some (tile_slots frame places grid slot y) (tile_size frame (is_some grid)) (number_where (is_some grid && (y == frame.min_y)) 1) frame.min_x (tiles_across frame)
-    (omega (arith, set.across))
-    (length_tile frame places grid slot y frame.min_x agree ∙ ap (λ n. tile_size frame (is_some grid) + n) (first_in_row frame (is_some grid) y))
-    (λ x above. length_tile frame places grid slot y x agree ∙ ap (λ n. tile_size frame (is_some grid) + n) (later_in_row frame (is_some grid) x y above) ∙ add-zero (tile_size frame (is_some grid)))
-
 length_tiles : (frame : Frame) (places : List (Option ℕ)) (grid : Option (ℕ × ℕ)) (slot : ℕ) → ArePlacesOf frame places → IsTileSet frame
     → length (slots_text (all_tile_slots frame places grid slot)) ≡ tiles_down frame * (tiles_across frame * tile_size frame (is_some grid)) + number_where (is_some grid) 1
 length_tiles frame places grid slot agree set =
-    let row = tiles_across frame * tile_size frame (is_some grid) in
-    span_some (row_slots frame places grid slot) row (number_where (is_some grid) 1) frame.min_y (tiles_down frame)
-    (omega (arith, set.down))
-    (length_row frame places grid slot frame.min_y agree set ∙ ap (λ n. row + n) (first_row frame (is_some grid)))
-    (λ y above. length_row frame places grid slot y agree set ∙ ap (λ n. row + n) (later_row frame (is_some grid) y above) ∙ add-zero row)
+    measured_tiles (λ slots. length (slots_text slots)) length_two frame places grid slot (tile_size frame (is_some grid)) set (λ y x. length_tile frame places grid slot y x agree)
 
 -- The whole.
 pub length_render : (frame : Frame) (places : List (Option ℕ)) (grid : Option (ℕ × ℕ)) (slot : ℕ) → ArePlacesOf frame places → IsTileSet frame

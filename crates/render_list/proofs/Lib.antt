@@ -5,3 +5,4 @@ pub mod Places
 pub mod Puts
 pub mod Rows
 pub mod Sizes
+pub mod Spans
