@@ -50,7 +50,7 @@ primitive_of : (f : FileModel) (j : ℕ) (m : List ℕ) (word : ℕ) (packet : L
     → IsPrimitive (Inside (rights_at f j).region) packet drawn.state.max_index
 primitive_of f j m word packet grounds drawn = search (rules, arith, indexed_inside, data_inside, draws_indexed, draws_array, last_below)
 
-found_in : (f : FileModel) (j word : ℕ) (state : State) → IsStateAt (layout_of f j) 0 (states_in f j) word state → StateFound (input_for f j) (layout_of f j) word state
+pub found_in : (f : FileModel) (j word : ℕ) (state : State) → IsStateAt (layout_of f j) 0 (states_in f j) word state → StateFound (input_for f j) (layout_of f j) word state
 unfolding input_for
 found_in f j word state is = state_found (input_for f j) (layout_of f j) word state is
 
@@ -109,7 +109,7 @@ nothing_is f j none = ap (λ b. if b then bin_text (job_of f j).bin (job_of f j)
 pub layout_is_low : (f : FileModel) (j : ℕ) (m : List ℕ) → Grounds f j m → IsLow (layout_of f j)
 layout_is_low f j m grounds = search (rules, arith, layout_numbers, layout_low, enough_slots)
 
-walked : (f : FileModel) (j : ℕ) (m : List ℕ) → Grounds f j m → has_bin f j ≡ true → IsWalked (job_of f j).bin (job_of f j).declared (table_of f) (job_of f j).handles (layout_of f j)
+pub walked : (f : FileModel) (j : ℕ) (m : List ℕ) → Grounds f j m → has_bin f j ≡ true → IsWalked (job_of f j).bin (job_of f j).declared (table_of f) (job_of f j).handles (layout_of f j)
 walked f j m grounds has =
     emitted_lists_walk_law (job_of f j).bin (job_of f j).declared (table_of f) (job_of f j).handles (layout_of f j) grounds.settled.limits.bin grounds.settled.limits.declared (layout_is_low f j m grounds)
     (λ number below. buffer_low f.mem_size f.regions f.buffers grounds.settled.sound number) (grounds.settled.bin has)

@@ -5,9 +5,10 @@ use Rattle.std.specs.List.{range_with_len}
 use Rattle.job_format.specs.Model.{FileModel}
 use Rattle.machine_plan.specs.Regions.{Inside, Rights, regions_joined}
 use Rattle.machine_law.specs.Units.{EachAt}
-use Rattle.machine_law.proofs.Apart.{inside_left, inside_either, inside_right}
+use Rattle.machine_law.proofs.Apart.{inside_left, inside_either}
 use Rattle.promises.specs.Holdings.{of_jobs, lists_of, codes_of, job_rights, file_rights, rights_at, fixed_below, fixed_of}
 use Rattle.promises.specs.Rights.{IsOneOf}
+use Rattle.machine_plan.proofs.Safe.{inside-back}
 
 -- What is true of each job's item is true of all, one after the other.
 pub each_from : {X : Type 0} (P : ℕ → X → Type 0) (item : ℕ → X) (n j : ℕ) → ((k : ℕ) → j ≤ k → k < j + n → P k (item k)) → EachAt P j (map item (range_with_len j n))
@@ -59,7 +60,7 @@ fixed_there f (suc n) j p below lies =
       | inl earlier ↦ inside_left (fixed_below f n) (lists_of f n ++ codes_of f n) p 1 (fixed_there f n j p earlier lies)
       | inr past ↦
           let same : j ≡ n = omega (arith, below, past) in
-          inside_right (fixed_below f n) (lists_of f n ++ codes_of f n) p 1 (subst (λ k. Inside (lists_of f k ++ codes_of f k) p 1) same lies)
+          inside-back (fixed_below f n) (lists_of f n ++ codes_of f n) p 1 (subst (λ k. Inside (lists_of f k ++ codes_of f k) p 1) same lies)
     ]
 
 pub in_fixed : (f : FileModel) (j p : ℕ) → j < length f.jobs → Inside (lists_of f j ++ codes_of f j) p 1 → Inside (fixed_of f) p 1

@@ -7,7 +7,7 @@ use Rattle.buffer_table.proofs.Named.{data_is, code_is}
 use Rattle.job_format.specs.Model.{FileModel}
 use Rattle.job_check.specs.Jobs.{job_of, slot_of, layout_of, bin_list_of, records_of, streams_of, render_list_of}
 use Rattle.job_check.specs.{Shaders.table_of, Shaders.content_of, Emit.lengths_of, Emit.memory_of}
-use Rattle.job_check.proofs.{Codes.content_long, Emission.length_zeros}
+use Rattle.job_check.proofs.{Codes.content_long}
 use Rattle.machine_plan.proofs.Words.{byte_read}
 use Rattle.machine_plan.specs.{Memory.bytes_at, Regions.Interval, Regions.LiesIn, Regions.Inside, Regions.Rights, Regions.rights_of}
 use Rattle.promises.specs.Apart.{regions_of, jobs_of, reach_of, named_at, PlacedAlike, AreNeighbourFiles}
@@ -23,6 +23,7 @@ use Rattle.accepted_law.proofs.Placing.{IsClear, Misses, placed_kept, misses_con
 use Rattle.accepted_law.proofs.Tables.{buffer_sound, tiles_apart, regions_apart, slot_inside}
 use Rattle.accepted_law.proofs.Unshared.{job_is_of, data_number, code_number}
 use Rattle.relocation.specs.declared.layout.Layout.{Layout}
+use Rattle.field_words.proofs.Writes.{length_zeros}
 
 pub zero_byte : (n q : ℕ) → slice_index (zeros n) q ≡ 0
 unfolding zeros

@@ -16,12 +16,13 @@ use Rattle.job_check.specs.Shaders.{table_of, content_of}
 use Rattle.job_check.proofs.Layouts.{layout_numbers, lists_inside, layout_apart, begin_from, lists_apart as jobs_apart}
 use Rattle.job_check.proofs.Views.{no_bin_list, no_records, no_streams, records_within, streams_within, records_are, streams_are, list_length}
 use Rattle.job_check.proofs.{Codes.as_many, Codes.content_long, Windows.length_placed}
-use Rattle.job_check.proofs.Emission.{placed-append, length_zeros, contents_fit}
+use Rattle.job_check.proofs.Emission.{placed-append, contents_fit}
 use Rattle.accepted_law.specs.Settled.{Settled, AreSettled, Holds, ListsEnd}
 use Rattle.accepted_law.proofs.ByteTexts.{bytes_none, bytes_zeros, bytes_placed, parts_append, bytes_passed, bytes_texts, bytes_records, bytes_uniforms, bytes_slots}
 use Rattle.accepted_law.proofs.Placing.{bytes_are, IsClear, Misses, misses_append, placed_part, fit_append, contents_parts_fit, content_lies}
 use Rattle.accepted_law.proofs.{BinRoom.list_within, RenderWalking.frame_setup, RenderWalking.frame_fits}
 use Rattle.accepted_law.proofs.Tables.{buffer_sound, buffers_apart, lists_apart}
+use Rattle.field_words.proofs.Writes.{length_zeros}
 
 -- The emitted lists are no longer than their room.
 rules_of_list : (list : List ℕ) (declared : ℕ) (f : FileModel) (handles : List ℕ) → first_of (bin_questions list declared (table_of f) handles) ≡ None

@@ -22,7 +22,7 @@ use Rattle.accepted_law.proofs.{ByJob.rights_are, Settling.files_settle_law, Uns
 use Rattle.accepted_law.proofs.Joining.{files_begin_law, has_read_only, all_begin}
 
 -- What a handle gives to the data buffers of its job, and to the Code buffers, by the buffer that it names alone.
-abbrev given_if : Bool → Buffer → List Interval
+abbrev pub given_if : Bool → Buffer → List Interval
 given_if gives b = if gives then interval b.place b.size ∷ [] else []
 
 where_if : (buffers : List Buffer) (named gives : Bool) (number : ℕ) → named ≡ true

@@ -1,7 +1,7 @@
 -- A memory that is prepared for the jobs of an accepted file has their lists and their code as the emitted one.
 use Rattle.std.proofs.Common.{◌≡◌, inl, inr, ℕ, zero, suc, ◌+◌, ◌-◌, ◌<◌, ◌≤◌, List, ◌++◌, length, slice_index, refl, sym, ap, arith, ◌∙◌, rules}
 use Rattle.std.proofs.lemmas.{Bool.cases_lt, List.places, List.get_or_past, Grind.common_steps, Bool.Decides.nat_tests}
-use Rattle.field_words.proofs.Writes.{with_bytes-inside}
+use Rattle.field_words.proofs.Writes.{with_bytes-inside, length_zeros}
 use Rattle.phys_mem.specs.Window.{window_of}
 use Rattle.buffer_table.specs.Table.{buffer_at}
 use Rattle.buffer_table.proofs.Named.{code_is}
@@ -10,7 +10,7 @@ use Rattle.job_format.specs.Model.{FileModel}
 use Rattle.job_check.specs.{Shaders.table_of, Shaders.content_of, Jobs.job_of, Jobs.layout_of}
 use Rattle.job_check.specs.Emit.{PartsFit, list_parts, later_parts, parts_moved, memory_of}
 use Rattle.job_check.specs.Region.{region_size, region_from, region_parts, regions_parts, region_of}
-use Rattle.job_check.proofs.{Emission.length_zeros, Windows.length_placed, Layouts.lists_apart as jobs_apart, Layouts.lists_inside}
+use Rattle.job_check.proofs.{Windows.length_placed, Layouts.lists_apart as jobs_apart, Layouts.lists_inside}
 use Rattle.job_check.proofs.Regions.{fit_more, fit_moved, size_more, size_before, memory_made}
 use Rattle.machine_plan.specs.Regions.{Inside}
 use Rattle.promises.specs.Holdings.{lists_of, codes_of, fixed_below, fixed_of}

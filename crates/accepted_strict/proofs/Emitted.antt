@@ -10,12 +10,12 @@ use Rattle.field_words.proofs.{Nones.front_none, Nones.rest_none, Nones.none_ans
 use Rattle.relocation.specs.declared.layout.Layout.{Layout}
 use Rattle.packets.specs.Opcode.{start_tile_binning, indexed_primitive_list, array_primitive_list, primitive_list_format, gl_shader_state, tile_binning_mode, buffer_handles}
 use Rattle.packets.specs.Length.{bin_length}
-use Rattle.bin_list.specs.{declared.seen.Seen.Seen, Packets.opcode, Seen.last_opcode, Seen.place, Seen.seen_before, Rules.GivenModel}
+use Rattle.bin_list.specs.{declared.seen.Seen.Seen, Packets.opcode, Seen.last_opcode, Seen.place, Seen.seen_before, Rules.GivenModel, Packets.draws}
 use Rattle.bin_list.specs.Emitted.{index_text, state_text, config_text, packet_text}
 use Rattle.bin_walks.specs.Emission.{emission}
 use Rattle.bin_walks.proofs.Texts.{state_opcode, config_opcode}
 use Rattle.ends_law.specs.Left.{IsWhole, AllWhole}
-use Rattle.strict_lists.specs.Rules.{is_primitive, primitives_in, is_started, e9, e10, e13, is_reset, most_primitives, course_before, packet_questions, list_fault, asked_from}
+use Rattle.strict_lists.specs.Rules.{primitives_in, is_started, e9, e10, e13, is_reset, most_primitives, course_before, packet_questions, list_fault, asked_from}
 
 -- Whole packets are cut in one way.
 some_long : (packet : List ℕ) → IsWhole packet → 1 ≤ length packet
@@ -116,8 +116,8 @@ reset_stays : (p text : List ℕ) → IsLike p text → is_reset text ≡ is_res
 unfolding is_reset
 reset_stays p text like = by_head (λ o n. o == primitive_list_format && n == 18) p text (opcode p == gl_shader_state) (opcode p == tile_binning_mode) refl refl (λ n. refl) (λ n. refl) like
 
-primitive_stays : (p text : List ℕ) → IsLike p text → is_primitive text ≡ is_primitive p
-unfolding is_primitive
+primitive_stays : (p text : List ℕ) → IsLike p text → draws text ≡ draws p
+unfolding draws
 primitive_stays p text like = ap (λ o. o == indexed_primitive_list || o == array_primitive_list) like.same
 
 -- What the rules ask of the packets before stays too.
@@ -128,7 +128,7 @@ record Follows (earlier texts : List (List ℕ)) : Type 0 where
 
 count_stays : (p text : List ℕ) (earlier texts : List (List ℕ)) → IsLike p text → Follows earlier texts → e10 (course_before texts) text ≡ e10 (course_before earlier) p
 unfolding e10 course_before
-count_stays p text earlier texts like follows = ap (λ b. b && primitives_in texts == most_primitives) (primitive_stays p text like) ∙ ap (λ n. is_primitive p && n == most_primitives) follows.count
+count_stays p text earlier texts like follows = ap (λ b. b && primitives_in texts == most_primitives) (primitive_stays p text like) ∙ ap (λ n. draws p && n == most_primitives) follows.count
 
 format_stays : (p text : List ℕ) (earlier texts : List (List ℕ)) → IsLike p text → Follows earlier texts → e13 (course_before texts) text ≡ e13 (course_before earlier) p
 unfolding e13 course_before
@@ -140,7 +140,7 @@ format_stays p text earlier texts like follows =
 
 kept_follows : (p text : List ℕ) (earlier texts : List (List ℕ)) → IsLike p text → Follows earlier texts → Follows (p ∷ earlier) (text ∷ texts)
 kept_follows p text earlier texts like follows = record {
-  count = ap (λ n. n + (if is_primitive text then 1 else 0)) follows.count ∙ ap (λ b. primitives_in earlier + (if b then 1 else 0)) (primitive_stays p text like);
+  count = ap (λ n. n + (if draws text then 1 else 0)) follows.count ∙ ap (λ b. primitives_in earlier + (if b then 1 else 0)) (primitive_stays p text like);
   started = ap (λ o. o == start_tile_binning || is_started texts) like.same ∙ ap (λ b. opcode p == start_tile_binning || b) follows.started;
   last = ap (λ o. o == start_tile_binning) like.same;
 }
@@ -150,8 +150,8 @@ no_last : (b : Bool) (reset format : Bool) → (if b then not reset else format)
 no_last true reset format off none = absurd (true≢false (sym (ap not none) ∙ off))
 no_last false reset format off none = refl
 
-no_primitive : (p : List ℕ) → opcode p ≡ buffer_handles → is_primitive p ≡ false
-unfolding is_primitive
+no_primitive : (p : List ℕ) → opcode p ≡ buffer_handles → draws p ≡ false
+unfolding draws
 no_primitive p is = ap (λ o. o == indexed_primitive_list || o == array_primitive_list) is
 
 no_reset : (p : List ℕ) → opcode p ≡ buffer_handles → is_reset p ≡ false

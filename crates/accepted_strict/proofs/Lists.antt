@@ -23,6 +23,8 @@ use Rattle.strict_check.specs.Stages.{list_refused, list_stage, records_stage, c
 use Rattle.strict_law.specs.{Records.selects_missing, Strict.IsListStrict}
 use Rattle.accepted_strict.specs.Files.{FileStrict}
 use Rattle.accepted_strict.proofs.{Emitted.emitted_strict, Emitted.joined_once, Selects.record_selects}
+use Rattle.accepted_law.proofs.BinWalking.{walked}
+use Rattle.job_check.proofs.Views.{no_bin_list}
 
 -- the list in the file
 source_strict : (f : FileModel) (j : ℕ) → FileStrict f → j < length f.jobs → first_of (list_questions (job_of f j).bin) ≡ None
@@ -31,12 +33,6 @@ source_strict f j strict inside =
     let jobs = rest_none (codes_stage f) (each (job_stages f) 0 (length f.jobs)) strict in
     let one = each_none (job_stages f) 0 (length f.jobs) j jobs (omega arith) (omega (arith, inside)) in
     none_answered (list_refused j) (list_questions (job_of f j).bin) (front_none (list_stage f j) (records_stage f j) one)
-
--- the emitted one
-walked : (f : FileModel) (j : ℕ) (m : List ℕ) → Grounds f j m → has_bin f j ≡ true → IsWalked (job_of f j).bin (job_of f j).declared (table_of f) (job_of f j).handles (layout_of f j)
-walked f j m grounds has =
-    emitted_lists_walk_law (job_of f j).bin (job_of f j).declared (table_of f) (job_of f j).handles (layout_of f j) grounds.settled.limits.bin grounds.settled.limits.declared (layout_is_low f j m grounds)
-    (λ number below. buffer_low f.mem_size f.regions f.buffers grounds.settled.sound number) (grounds.settled.bin has)
 
 all_whole : (f : FileModel) (j : ℕ) (m : List ℕ) → Grounds f j m → has_bin f j ≡ true
     → AllWhole (emission (given_of (job_of f j).bin (job_of f j).declared (table_of f) (job_of f j).handles) (layout_of f j) [] (packets (job_of f j).bin))
@@ -61,13 +57,9 @@ some_strict f j m list strict grounds has text whole =
     let given = given_of bin (job_of f j).declared (table_of f) (job_of f j).handles in
     subst IsListStrict (same_packets f j m list grounds has text whole) (emitted_strict given (layout_of f j) (packets bin) (source_strict f j strict grounds.settled.inside) (all_whole f j m grounds has))
 
-none_listed : (f : FileModel) (j : ℕ) → has_bin f j ≡ false → bin_list_of f j ≡ []
-unfolding bin_list_of
-none_listed f j none = rw none refl
-
 list_by : (f : FileModel) (j : ℕ) (m : List ℕ) (list : List (List ℕ)) (has : Bool) → has_bin f j ≡ has → FileStrict f → Grounds f j m → bin_list_of f j ≡ joined_texts list → AllWhole list → IsListStrict list
 list_by f j m list true has strict grounds text whole = some_strict f j m list strict grounds has text whole
-list_by f j m list false has strict grounds text whole = subst IsListStrict (joined_once [] list tt whole (sym (none_listed f j has) ∙ text)) refl
+list_by f j m list false has strict grounds text whole = subst IsListStrict (joined_once [] list tt whole (sym (no_bin_list f j has) ∙ text)) refl
 
 pub list_strict : (f : FileModel) (j : ℕ) (m : List ℕ) → FileStrict f → Grounds f j m → (bin : BinWalks f j m) → IsListStrict bin.packets
 list_strict f j m strict grounds bin = list_by f j m bin.packets (has_bin f j) refl strict grounds bin.text (walks_whole (config_for f j) (DrawShaders f j m) nothing_kept bin.packets bin.walks)
@@ -92,7 +84,7 @@ some_select f j m list strict grounds has text whole =
 select_by : (f : FileModel) (j : ℕ) (m : List ℕ) (list : List (List ℕ)) (has : Bool) → has_bin f j ≡ has → FileStrict f → Grounds f j m → bin_list_of f j ≡ joined_texts list → AllWhole list → Walks (config_for f j) (λ word packet. selects_missing m word ≡ false) nothing_kept list
 select_by f j m list true has strict grounds text whole = some_select f j m list strict grounds has text whole
 select_by f j m list false has strict grounds text whole =
-    subst (λ (ps : List (List ℕ)). Walks (config_for f j) (λ word packet. selects_missing m word ≡ false) nothing_kept ps) (joined_once [] list tt whole (sym (none_listed f j has) ∙ text)) tt
+    subst (λ (ps : List (List ℕ)). Walks (config_for f j) (λ word packet. selects_missing m word ≡ false) nothing_kept ps) (joined_once [] list tt whole (sym (no_bin_list f j has) ∙ text)) tt
 
 pub lists_select : (f : FileModel) (j : ℕ) (m : List ℕ) → FileStrict f → Grounds f j m → (bin : BinWalks f j m) → Walks (config_for f j) (λ word packet. selects_missing m word ≡ false) nothing_kept bin.packets
 lists_select f j m strict grounds bin = select_by f j m bin.packets (has_bin f j) refl strict grounds bin.text (walks_whole (config_for f j) (DrawShaders f j m) nothing_kept bin.packets bin.walks)

@@ -25,6 +25,7 @@ use Rattle.strict_lists.specs.Records.{selects_past, selection_questions}
 use Rattle.strict_check.specs.Stages.{list_stage, records_stage, records_from, record_questions, use_questions, record_at, selection_refused, codes_stage, job_stages, strict_stages}
 use Rattle.strict_law.specs.Records.{selects_missing}
 use Rattle.accepted_strict.specs.Files.{FileStrict}
+use Rattle.accepted_law.proofs.BinWalking.{found_in}
 
 four_bytes : (bytes : List ℕ) → from_le_bytes w32 bytes ≡ get_or bytes 0 0 + 256 * get_or bytes 1 0 + 65536 * get_or bytes 2 0 + 16777216 * get_or bytes 3 0
 four_bytes bytes = omega arith
@@ -132,10 +133,6 @@ source_selects f j k strict inside below =
     let questions = selection_questions (job_of f j).records (record_at at word) (attribute_count word) in
     none_past (job_of f j).records (record_at at word) (attribute_count word)
     (none_answered (selection_refused j (record_at at word)) questions (rest_none (use_questions f j at) (with_answers (selection_refused j (record_at at word)) questions) asked))
-
-found_in : (f : FileModel) (j word : ℕ) (state : State) → IsStateAt (layout_of f j) 0 (states_in f j) word state → StateFound (input_for f j) (layout_of f j) word state
-unfolding input_for
-found_in f j word state is = state_found (input_for f j) (layout_of f j) word state is
 
 past_same : (byte other n count : ℕ) → byte ≡ other → n ≡ count → selects_past other n ≡ false → not (byte / 2 ^ count == 0) ≡ false
 unfolding selects_past

@@ -1,12 +1,13 @@
 -- The law for a driver that hands in jobs of strict files alone, one after the other, for ever.
 use Rattle.std.specs.Prelude.{◌≡◌, ◌<◌, ℕ, true, List, [], ◌∷◌, Some, None}
-use Rattle.qpu_machine.specs.{declared.state.Qpu.Qpu, declared.state.Thread.Thread, Writes.loads}
+use Rattle.qpu_machine.specs.{declared.state.Qpu.Qpu, declared.state.Thread.Thread}
 use Rattle.machine.specs.{State.item_at, Step.Event}
 use Rattle.promises.specs.Days.{Day, Happening, Steps, Changes, Finds, Admits, Retires, Resets, after, dawn, happen}
 use Rattle.promises.specs.Drivers.{DriverMay, AllDriverMay}
 use Rattle.strict_law.specs.Lists.{ExecutesPacket, IsForbiddenPacket, executed_of}
 use Rattle.strict_law.specs.{Forbidden.Executes, Forbidden.IsForbidden, Order.oldest_of, Order.orders_of, Roles.KeepsRole, Roles.roles_of, Slots.HasRoom, Slots.slots_of}
 use Rattle.accepted_strict.specs.Files.{FileStrict}
+use Rattle.qpu_isa.specs.Terms.{loads}
 
 -- the file breaks no strict rule of whose jobs one is handed in
 abbrev pub HandsInStrict : (d : Day) (one : Happening) → DriverMay d one → Type 0

@@ -2,7 +2,7 @@
 use Rattle.std.specs.Prelude.{◌≡◌, ◌<◌, ℕ, true, List, [], Some, None}
 use Rattle.field_words.specs.{Questions.first_of, Words.IsBytes, declared.access.Access.Access}
 use Rattle.machine_plan.specs.{Others.Happening, Others.OthersRun, Regions.Rights, Regions.Agree}
-use Rattle.qpu_machine.specs.{declared.state.Qpu.Qpu, declared.state.Thread.Thread, Writes.loads}
+use Rattle.qpu_machine.specs.{declared.state.Qpu.Qpu, declared.state.Thread.Thread}
 use Rattle.machine.specs.{State.State, State.Units, State.item_at, State.units_start, Step.Event, Step.ready, Step.turn}
 use Rattle.job_format.specs.{Model.FileModel, Reading.file_at}
 use Rattle.job_check.specs.Emit.{memory_of}
@@ -10,6 +10,7 @@ use Rattle.strict_check.specs.{Stages.strict_stages, Whole.strict_refusal_of}
 use Rattle.promises.specs.{Holdings.fixed_of, Holdings.file_rights, Holdings.file_starts, Prepared.IsFaultless}
 use Rattle.strict_law.specs.Lists.{BinsAsAllowed}
 use Rattle.strict_law.specs.{Forbidden.Executes, Order.oldest_of, Order.orders_along, Roles.KeepsRole, Roles.roles_along, Slots.HasRoom, Slots.slots_along, Strict.NeverForbidden}
+use Rattle.qpu_isa.specs.Terms.{loads}
 
 -- the file breaks no strict rule
 abbrev pub FileStrict : FileModel → Type 0

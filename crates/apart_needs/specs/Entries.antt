@@ -6,8 +6,8 @@ use Rattle.machine.specs.{State.State, Step.Event, Step.job_of, Step.may, Step.s
 use Rattle.apart_law.specs.{Part.StatesAlike, Steps.StaysIn, Steps.GaveAlike}
 use Rattle.promises.specs.Trail.{Client, Entry, entry_of}
 use Rattle.field_words.specs.declared.access.Actor.TheVariants.{Binner as TheBinner, Qpu as TheQpu}
-use Rattle.qpu_machine.specs.{declared.state.Qpu.Qpu, declared.state.Thread.Thread}
-use Rattle.apart_needs.specs.States.{one_job, state, running, new_thread, empty_qpu, no_lists, bytes, signal, drawing, from_5, tiling, coordinate_record}
+use Rattle.qpu_machine.specs.{declared.state.Qpu.Qpu, declared.state.Thread.Thread, Qpu.idle_qpu}
+use Rattle.apart_needs.specs.States.{one_job, state, running, new_thread, no_lists, bytes, signal, drawing, from_5, tiling, coordinate_record}
 use Rattle.apart_needs.specs.Sharing.{client}
 
 -- All that the law of own steps asks of two steps, but of their entries only that this part of them is the same; and yet what the steps
@@ -51,7 +51,7 @@ abbrev pub code_bytes : List Interval
 code_bytes = record { place = 0; size = 16 } ∷ []
 
 abbrev pub two_threads : Qpu
-two_threads = record empty_qpu { first = Some (new_thread true 0 0); other = Some (new_thread true 8 0) }
+two_threads = record idle_qpu { first = Some (new_thread true 0 0); other = Some (new_thread true 8 0) }
 
 abbrev pub runs : Qpu → State
 runs qpu = state (bytes (signal 1) ++ bytes (signal 1)) (no_lists ∷ []) qpu
@@ -79,4 +79,4 @@ abbrev pub starts_program : Event
 starts_program = record { unit = TheBinner; words = [] }
 
 abbrev pub SlotsAreNeeded : Type 0
-SlotsAreNeeded = Refutes without_starts client record_bytes (due empty_qpu) (due (running others_thread)) starts_program starts_program
+SlotsAreNeeded = Refutes without_starts client record_bytes (due idle_qpu) (due (running others_thread)) starts_program starts_program

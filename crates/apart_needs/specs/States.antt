@@ -10,6 +10,8 @@ use Rattle.machine.specs.State.{State}
 use Rattle.qpu_machine.specs.declared.state.Mark.{Mark}
 use Rattle.qpu_machine.specs.declared.state.Qpu.{Qpu}
 use Rattle.qpu_machine.specs.declared.state.Thread.{Thread}
+use Rattle.qpu_machine.specs.Qpu.{idle_qpu}
+use Rattle.qpu_machine.specs.Start.{idle}
 
 -- accesses for job 0
 abbrev pub reads : Actor → ℕ → ℕ → Access
@@ -18,17 +20,13 @@ reads unit place len = record { way = Read; place = place; len = len; unit = uni
 abbrev pub writes : Actor → ℕ → ℕ → Access
 writes unit place len = record { way = Write; place = place; len = len; unit = unit; job = 0 }
 
--- two threads that are idle, and two queues that are empty
-abbrev pub empty_qpu : Qpu
-empty_qpu = record { first = None; other = None; second = false; queue0 = record { items = [] }; queue1 = record { items = [] } }
-
 -- a memory, what the list units of some jobs keep, and the first processor; all others are idle
 abbrev pub state : List ℕ → List Lists → Qpu → State
-state memory jobs qpu = record { memory = memory; units = record { jobs = jobs; qpus = qpu ∷ replicate 11 empty_qpu } }
+state memory jobs qpu = record { memory = memory; units = record { jobs = jobs; qpus = qpu ∷ replicate 11 idle_qpu } }
 
 -- one job, and no processor has work
 abbrev pub one_job : List ℕ → Lists → State
-one_job memory lists = state memory (lists ∷ []) empty_qpu
+one_job memory lists = state memory (lists ∷ []) idle_qpu
 
 -- a job with two empty lists
 abbrev pub no_lists : Lists
@@ -41,10 +39,6 @@ no_lists = record {
   blocks = 0;
   items = [];
 }
-
--- Before a program's first instruction stand three that do nothing: signal 1, and both units write to 39.
-abbrev pub nothing_done : Mark
-nothing_done = record { word = 2 ^ 60 + 39 * 2 ^ 38 + 39 * 2 ^ 32; to = None }
 
 -- a thread that has just begun for job 0, at this place and with its uniforms from that one on
 abbrev pub new_thread : Bool → ℕ → ℕ → Thread
@@ -59,16 +53,16 @@ new_thread threaded place uniforms = record {
   b = replicate 32 (replicate 16 0);
   fresh = true;
   acc = replicate 6 (replicate 16 0);
-  last1 = nothing_done;
-  last2 = nothing_done;
-  last3 = nothing_done;
+  last1 = idle;
+  last2 = idle;
+  last3 = idle;
   results0 = record { items = [] };
   results1 = record { items = [] };
 }
 
 -- a processor of which the first thread runs
 abbrev pub running : Thread → Qpu
-running thread = record empty_qpu { first = Some thread }
+running thread = record idle_qpu { first = Some thread }
 
 -- the eight bytes of an instruction
 abbrev pub bytes : ℕ → List ℕ

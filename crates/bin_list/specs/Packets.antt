@@ -1,9 +1,13 @@
 -- A binner list, cut into packets. A packet is a list of bytes: its opcode, and then its fields.
-use Rattle.std.specs.Prelude.{ℕ, zero, suc, ◌==◌, List, [], ◌∷◌, length, take, drop, slice_index, if◌then◌else◌}
-use Rattle.packets.specs.{Opcode.halt, Length.bin_taken}
+use Rattle.std.specs.Prelude.{ℕ, zero, suc, ◌==◌, ◌||◌, Bool, List, [], ◌∷◌, length, take, drop, slice_index, if◌then◌else◌}
+use Rattle.packets.specs.{Opcode.halt, Opcode.indexed_primitive_list, Opcode.array_primitive_list, Length.bin_taken}
 
 abbrev pub opcode : List ℕ → ℕ
 opcode packet = slice_index packet 0
+
+-- a packet that draws a primitive
+unfoldable pub draws : List ℕ → Bool
+draws packet = opcode packet == indexed_primitive_list || opcode packet == array_primitive_list
 
 -- The packet at the front of the bytes. A byte that is no packet's opcode is a packet by itself, and the last packet
 -- may be cut off: rules of their own refuse both.

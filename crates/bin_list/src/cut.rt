@@ -1,11 +1,12 @@
 //! Cutting a binner list into packets, and reading a packet's fields.
 ghost use Rattle.std.specs.Prelude.{◌≡◌, ◌≤◌, ◌+◌, length, IfSome};
 ghost use Rattle.packets.specs.Length.{bin_taken};
-ghost use Rattle.bin_list.specs.Packets.{opcode, front_packet, behind};
+ghost use Rattle.bin_list.specs.Packets.{opcode, draws, front_packet, behind};
 ghost use Rattle.bin_list.specs.Fine.{IsPlainFront};
 
+use field_words::byte_at;
 use packets::bin_taken;
-use packets::opcode::HALT;
+use packets::opcode::{ARRAY_PRIMITIVE_LIST, HALT, INDEXED_PRIMITIVE_LIST};
 
 /// A packet's opcode.
 #[inline(always)]
@@ -14,6 +15,15 @@ pub(crate) fn opcode(packet: &[u8]) -> u8
     ensures { result ≡ opcode packet.now }
 {
     packet[0]
+}
+
+/// Whether a packet draws a primitive.
+#[tactic(auto, unfolding(crate::specs::Packets::draws))]
+pub fn draws(packet: &[u8]) -> bool
+    ensures { result ≡ draws packet.now }
+{
+    let opcode = byte_at(packet, 0);
+    opcode == INDEXED_PRIMITIVE_LIST || opcode == ARRAY_PRIMITIVE_LIST
 }
 
 /// The bytes of a plain packet by its opcode, from opcode 0 on. It is 0 where no packet has the opcode, and where one has rules

@@ -19,7 +19,7 @@ mod state;
 mod states;
 
 pub use check::check_bin;
-pub use cut::split_front;
+pub use cut::{draws, split_front};
 pub use fault::ListFault;
 pub use info::BinInfo;
 pub use rule::BinRule;

@@ -44,3 +44,8 @@ data_of t handles i =
 unfoldable pub code_of : TableModel → List ℕ → ℕ → Option ℕ
 code_of t handles i =
     if is_named t handles i && not (is_plain (buffer_at t.buffers (slice_index handles i)).kind) then Some (slice_index handles i) else None
+
+-- the size of a buffer, 0 where none is named
+abbrev pub size_in : TableModel → Option ℕ → ℕ
+size_in table None = 0
+size_in table (Some number) = (buffer_at table.buffers number).size

@@ -67,10 +67,6 @@ is_off_page x = not (x.place % page_size == 0) || (not (x.size % page_size == 0)
 unfoldable pub memory_within : (limit memory : ℕ) → List (Question TableFault)
 memory_within limit memory = Ask (memory == 0 || (not (memory % page_size == 0) || nat_lt limit memory)) (fault MemorySize 0) ∷ []
 
--- that of a job file, whose memory has at most 64 MiB
-abbrev pub memory_questions : ℕ → List (Question TableFault)
-memory_questions = memory_within most_memory
-
 -- M2: a place or size is no multiple of a page, or the size is 0
 -- M3: the end is past the memory
 -- M4: an earlier item other than the memory has a byte of it

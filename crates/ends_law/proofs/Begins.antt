@@ -12,7 +12,7 @@ use Rattle.list_law.proofs.{Emitted.emitted_programs, Logs.same, Start.lists_beg
 use Rattle.qpu_machine.specs.Qpu.{idle_qpu}
 use Rattle.machine.specs.{declared.job.Start.Start, State.job_start, State.units_start}
 use Rattle.machine_law.specs.Begins.{LaunchBegins, DrawBegins, JobBegins}
-use Rattle.machine_law.proofs.Begins.{homes_stay_law, fetches_stay, single_stays, word_stays, record_stays, text_stays}
+use Rattle.machine_law.proofs.Begins.{homes_stay_law, fetches_stay, single_stays, word_stays, record_stays, text_stays, lists_so}
 use Rattle.ends_law.specs.{Ends.DrawShort, Ends.JobShort, Loops.IsShort}
 use Rattle.promises.specs.Steps.{room_of, one_if, times, most_times, most_visits, all_entered, job_steps}
 use Rattle.ends_law.specs.Left.{EachWithin, LaunchSo, QpuLeft, AllWhole, BinRest, RenderRest, JobEnds, CountedEnds, UnitsLeft}
@@ -46,25 +46,6 @@ draws_so rights plains first S j word packet begins fragment vertex coordinate =
       (program_so rights plains first m S j word false false 1 refl (stays 4 (omega arith)) (stays 5 (omega arith)) begins.vertex vertex)
       (program_so rights plains first m S j word false false 2 refl (stays 7 (omega arith)) (stays 8 (omega arith)) begins.coordinate coordinate);
 }
-
--- A job's lists at their beginnings, where O is so of each program that it starts.
-pub lists_so : (rights : List Rights) (plains : ℕ → List Interval) (first : List ℕ) (O : Launch → Type 0) (j : ℕ) (start : Start) → (begins : JobBegins rights plains first j start)
-    → Walks begins.config (DrawsSo (rights_of rights j) (HasReadOnly rights first) O) nothing_kept begins.packets → ListsFine (rights_of rights j) (HasReadOnly rights first) O begins.config begins.frame (job_start start)
-lists_so rights plains first O j start begins walks =
-    let Fine = ListsFine (rights_of rights j) (HasReadOnly rights first) O begins.config begins.frame in
-    let all : Fine (lists_start start.bin_place (length (joined_bytes begins.packets)) start.render_place (length (slots_text begins.slots))) =
-    lists_begin (rights_of rights j) (HasReadOnly rights first) O begins.config begins.frame start.bin_place start.render_place begins.packets begins.slots
-    (record { walks = walks; stands = text_stays rights first j start.bin_place (joined_bytes begins.packets) begins.bin_text; reads = begins.bin_text.reads })
-    (record {
-      walks = begins.render_walks;
-      fit = begins.render_fits;
-      sets = begins.render_sets;
-      stands = text_stays rights first j start.render_place (slots_text begins.slots) begins.render_text;
-      reads = begins.render_text.reads;
-    }) in
-    let binned : Fine (lists_start start.bin_place start.bin_len start.render_place (length (slots_text begins.slots))) =
-    subst (λ n. Fine (lists_start start.bin_place n start.render_place (length (slots_text begins.slots)))) (sym begins.bin_len) all in
-    subst (λ n. Fine (lists_start start.bin_place start.bin_len start.render_place n)) (sym begins.render_len) binned
 
 -- packets that walk are whole
 pub walks_whole : (c : Config) (R : ℕ → List ℕ → Type 0) (kept : Kept) (packets : List (List ℕ)) → Walks c R kept packets → AllWhole packets

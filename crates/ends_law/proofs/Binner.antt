@@ -5,7 +5,7 @@ use Rattle.std.proofs.Math.Nat.{mul-le-mul_left}
 use Rattle.std.specs.Prelude.{nat_lt, max}
 use Rattle.packets.specs.Opcode.{tile_binning_mode}
 use Rattle.packets.specs.{declared.config.Config.Config, declared.packet.Packet.Packet, Config.config_in}
-use Rattle.bin_list.specs.Packets.{opcode}
+use Rattle.bin_list.specs.Packets.{opcode, draws}
 use Rattle.machine_plan.specs.{declared.who.Who.Who, declared.launch.Free.Free, declared.launch.Launch.Launch, Glance.glance_result, World.plan_mapped}
 use Rattle.machine_plan.specs.{Memory.bytes_stored, Plan.Done, Plan.Writes}
 use Rattle.list_machine.specs.Lists.{Lists, Turned, quiet, past, with_work, with_item, with_block, most_items}
@@ -18,7 +18,7 @@ use Rattle.list_law.specs.Binning.{IsOnly}
 use Rattle.list_law.proofs.Binning.{ready_item, tile_below}
 use Rattle.list_law.proofs.{Bytes.none_left, Logs.same, Safe.keeps_if}
 use Rattle.ends_law.specs.Steps.{work_left}
-use Rattle.promises.specs.Steps.{one_if, programs_left, work_steps, draws, packet_steps, all_entered, items_within, room_in, room_of}
+use Rattle.promises.specs.Steps.{one_if, programs_left, work_steps, packet_steps, all_entered, items_within, room_in, room_of}
 use Rattle.ends_law.specs.Left.{ListsLeft, StandLeft, JobLeft}
 use Rattle.ends_law.specs.Room.{room_by, Counted}
 use Rattle.ends_law.proofs.{Plans.AnyLook, Plans.AnyAccess, Plans.Comes, Plans.comes_any, Plans.comes_into, Visits.visits_more}
@@ -84,7 +84,7 @@ draw_steps w word packet on =
     let is : (if draws packet then work_steps w (work_of 0 packet) else 0) ≡ work_steps w (work_of word packet) = ap (λ b. if b then work_steps w (work_of 0 packet) else 0) on in
     omega (arith, is)
 
-room_set : (packet : List ℕ) → (opcode packet == tile_binning_mode) ≡ true → room_by (Some (config_in packet)) ≡ room_in packet
+pub room_set : (packet : List ℕ) → (opcode packet == tile_binning_mode) ≡ true → room_by (Some (config_in packet)) ≡ room_in packet
 unfolding room_in
 room_set packet on = sym (ap (λ b. if b then items_within (config_in packet) else 0) on)
 

@@ -51,7 +51,7 @@ drawn_goes : (who : Who) (P : Lists → Type 0) (s : Lists) (packet m : List ℕ
 drawn_goes who P s packet m None draw = tt
 drawn_goes who P s packet m (Some word) draw = draw word
 
-begin_goes : (who : Who) (P : Lists → Type 0) (s : Lists) (m : List ℕ) (config : Option Config) → P (after_start s) → Comes who P (begin_plan s config) m
+pub begin_goes : (who : Who) (P : Lists → Type 0) (s : Lists) (m : List ℕ) (config : Option Config) → P (after_start s) → Comes who P (begin_plan s config) m
 unfolding clear_plan
 begin_goes who P s m None here = tt
 begin_goes who P s m (Some c) here = (tt, here)

@@ -1,6 +1,6 @@
 -- An example's file is well formed, whatever its number.
 use Rattle.std.proofs.Common.{◌≡◌, ◌≤◌, ℕ, suc, zero, ◌+◌, ◌*◌, [], ◌∷◌, length, replicate, arith, refl, ap}
-use Rattle.field_words.specs.Pieces.{joined_texts}
+use Rattle.field_words.specs.{Pieces.joined_texts, Sizes.most_list}
 use Rattle.job_format.specs.File.{IsWellFormed, IsJobWellFormed}
 use Rattle.example_job.specs.{Noise.next_state, Noise.noise, Lists.states_from, Lists.bin_of, Lists.record_bytes, Lists.records_of}
 use Rattle.example_job.specs.Example.{job_of, file_of, vertex_bytes}
@@ -26,7 +26,7 @@ pub records_length : (count : ℕ) → length (records_of count) ≡ 60 * count
 unfolding records_of
 records_length count = records_joined count
 
-job_formed : (across down count : ℕ) → count ≤ 4000 → IsJobWellFormed (job_of across down count)
+job_formed : (across down count : ℕ) → 60 * count ≤ most_list → IsJobWellFormed (job_of across down count)
 job_formed across down count few = record {
   handles = omega arith;
   bin = omega (arith, few, bin_length across down count);
@@ -36,7 +36,7 @@ job_formed across down count few = record {
   whole_words = refl;
 }
 
-pub well_formed : (seed across down count : ℕ) → count ≤ 4000 → IsWellFormed (file_of seed across down count)
+pub well_formed : (seed across down count : ℕ) → 60 * count ≤ most_list → IsWellFormed (file_of seed across down count)
 unfolding file_of
 well_formed seed across down count few = record {
   a_version = omega arith;

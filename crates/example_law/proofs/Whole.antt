@@ -14,7 +14,7 @@ use Rattle.job_check.specs.Shaders.{words_in, report_of, content_of, shader_of, 
 use Rattle.job_check.specs.Whole.{refusal_of, all_questions as file_questions, questions_within}
 use Rattle.example_job.specs.Example.{vertex_bytes, file_of, example, across_of, down_of, count_of, frame_of, shader}
 use Rattle.example_job.specs.Lists.{records_of}
-use Rattle.example_job.proofs.Formed.{noise_length, bin_length, records_length}
+use Rattle.example_job.proofs.Formed.{well_formed}
 use Rattle.example_law.proofs.Numbers.{states_are, in_range, IsTiles, tiles_in, is_some, memory_bytes, table_for, table_no_fault, handles_no_fault, render_most, lists_fit}
 use Rattle.example_law.proofs.{Shader.shader_no_fault, Shader.shader_reported, Bin.bin_no_fault, Bin.grid_is, Bin.states_reported}
 use Rattle.example_law.proofs.Records.{input, records_no_fault, surfaces_no_fault}
@@ -99,26 +99,8 @@ file_none : (seed across down count : ℕ) → IsInRange across down count → f
 unfolding stages_within
 file_none seed across down count range = grind (arith, common_steps, nat_tests, passes, table_none, tiles_in, shaders_none, jobs_none)
 
-formed : (seed across down count : ℕ) → IsInRange across down count → IsWellFormed (file_of seed across down count)
-unfolding file_of
-formed seed across down count range =
-    let bin = bin_length across down count in
-    let records = records_length count in
-    record {
-      a_version = omega arith;
-      known = omega arith;
-      first = λ is_first. record { buffers = omega arith; one_job = refl; handles = (omega arith, tt) };
-      slots = λ later some. omega arith;
-      buffers = omega arith;
-      code = (omega arith, (tt, (tt, tt)));
-      contents = ap (λ n. 24 ∷ n ∷ 0 ∷ []) (noise_length seed vertex_bytes);
-      some_job = omega arith;
-      few_jobs = omega arith;
-      jobs = (record { handles = omega arith; bin = omega arith; records = omega arith; declared = omega arith; uniforms = omega arith; whole_words = refl }, tt);
-    }
-
 pub frame_faultless : (seed across down count : ℕ) → IsInRange across down count → IsFaultless (file_of seed across down count)
-frame_faultless seed across down count range = record { well_formed = formed seed across down count range; none = file_none seed across down count range }
+frame_faultless seed across down count range = record { well_formed = well_formed seed across down count range.records; none = file_none seed across down count range }
 
 pub example_faultless : (number : ℕ) → IsFaultless (example number)
 unfolding example

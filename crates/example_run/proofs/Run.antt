@@ -14,7 +14,7 @@ use Rattle.texture_layouts.specs.Place.{microtiles_across, microtile_number, mic
 use Rattle.texture_layouts.specs.Setup.{base_of, is_cube_word, levels_of, type_of, kind_of, cube_stride_of, pixel_bytes_of, pixels_of, side_of, texture_of, faces_of, size_below}
 use Rattle.texture_layouts.specs.Surface.{microtile_width_of, microtile_height_of}
 use Rattle.qpu_isa.specs.Setups.{adds_direct, adds_setup, muls_setup, has_setup, takes_with, setups_kept}
-use Rattle.qpu_isa.specs.Terms.{is_alu, is_load_imm, is_branch, is_switch, is_end, has_small, add_names, mul_names, names_address, names_on_a, names_on_b, is_address_write, is_relative_address_write, names_forbidden, reads_uniform_of, is_tmu_address, s_address, add_writes_tmu, mul_writes_tmu, writes_tmu, writes_s, add_is_tmu, mul_is_tmu, has_two_tmu_writes, has_conditional_tmu_write, is_add_packed, is_plain, is_upper, reads_upper, names_upper}
+use Rattle.qpu_isa.specs.Terms.{is_alu, is_load_imm, is_branch, is_switch, is_end, has_small, add_names, mul_names, names_address, names_on_a, names_on_b, is_address_write, is_relative_address_write, names_forbidden, reads_uniform_of, is_tmu_address, s_address, add_writes_tmu, mul_writes_tmu, writes_tmu, writes_s, add_is_tmu, mul_is_tmu, has_two_tmu_writes, has_conditional_tmu_write, is_add_packed, is_plain, is_upper, reads_upper, names_upper, loads}
 use Rattle.qpu_isa.specs.Word.{sig_of, unpack_of, pack_of, cond_add_of, ws_of, waddr_add_of, waddr_mul_of, op_add_of, raddr_a_of, raddr_b_of, add_a_of, add_b_of}
 use Rattle.qpu_alu.specs.Operation.{signed_min, signed_max, add_result_of}
 use Rattle.machine_plan.specs.Memory.{bytes_at}
@@ -33,7 +33,7 @@ use Rattle.qpu_machine.specs.Row.{chosen_row, chosen_rows, has_lane, rows_merged
 use Rattle.qpu_machine.specs.Start.{thread_of}
 use Rattle.qpu_machine.specs.Step.{executed_with, turn_executed, word_plan, thread_plan, is_held_by, is_held, thread_ready}
 use Rattle.qpu_machine.specs.Wild.{takes_one, is_signal_wild, in_slots, after_switch, is_branch_wild, is_switch_wild, is_name_wild, is_tmu_wild, is_setup_wild, is_register_wild, is_mode_wild, is_uniform_wild, is_word_wild, is_order_wild, is_use_wild, is_wild}
-use Rattle.qpu_machine.specs.Writes.{awake, past_uniform, add_address, mul_address, acc_after, pointer_after, written_at, after_add, after_multiply, after_writes, after_setup, loads, loaded_row, r4_after, results_after, after_load, led_to, went_on, after_work, fate_of, after_rest, four, ask_of, ask_made}
+use Rattle.qpu_machine.specs.Writes.{awake, past_uniform, add_address, mul_address, acc_after, pointer_after, written_at, after_add, after_multiply, after_writes, after_setup, loaded_row, r4_after, results_after, after_load, led_to, went_on, after_work, fate_of, after_rest, four, ask_of, ask_made}
 use Rattle.machine.specs.Step.{step, ready, turn, is_finished}
 use Rattle.machine_plan.specs.Runs.{found_by}
 use Rattle.machine.specs.declared.job.Start.{Start}

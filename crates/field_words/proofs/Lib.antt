@@ -1,3 +1,4 @@
+pub mod Lists
 pub mod Nones
 pub mod Pieces
 pub mod Questions

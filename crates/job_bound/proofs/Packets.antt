@@ -3,11 +3,11 @@ use Rattle.std.proofs.Common.{◌≡◌, ℕ, zero, suc, ◌+◌, ◌-◌, ◌*�
 use Rattle.std.proofs.{lemmas.Bool.or_cases, lemmas.Bool.eqb-true, lemmas.Bool.Decides.nat_tests, lemmas.Grind.common_steps}
 use Rattle.field_words.specs.Words.{u32_at}
 use Rattle.packets.specs.{Opcode.indexed_primitive_list, Opcode.array_primitive_list, Length.bin_length}
-use Rattle.bin_list.specs.Packets.{opcode, front_packet, behind, packets}
+use Rattle.bin_list.specs.Packets.{opcode, front_packet, behind, packets, draws}
 use Rattle.bin_list.proofs.Packets.{front_behind, front_some, packets_step, packets_none}
 use Rattle.list_machine.specs.Binner.{work_of, primitive_of}
 use Rattle.ends_law.specs.Left.{IsWhole, AllWhole}
-use Rattle.promises.specs.Steps.{room_in, room_of, draws, programs_left, work_steps, packet_steps, bin_steps}
+use Rattle.promises.specs.Steps.{room_in, room_of, programs_left, work_steps, packet_steps, bin_steps}
 use Rattle.bin_walks.proofs.Walking.{long_indexed}
 
 -- The packet at the front is whole where all are, and takes its part of the steps.

@@ -28,6 +28,8 @@ use Rattle.promises.specs.Steps.{items_within, room_in, room_of}
 use Rattle.ends_law.proofs.Plans.{AnyLook, AnyAccess, Comes, comes_any}
 use Rattle.ends_law.proofs.Renderer.{frame_stored, general_stored, waiting_loaded, wait_goes}
 use Rattle.ends_law.proofs.Rooms.{counted_here, counted_further, only_is, few_within}
+use Rattle.ends_law.proofs.Rests.{begin_goes}
+use Rattle.ends_law.proofs.Binner.{room_set}
 
 -- A plan comes to what is so of anything.
 pub all_come : {R : Type 0} (who : Who) (P : R → Type 0) → ((r : R) → P r) → (plan : Plan R) (m : List ℕ) → Comes who P plan m
@@ -82,11 +84,6 @@ drawn_goes who P s packet m false kept draw = tt
 drawn_goes who P s packet m true None draw = tt
 drawn_goes who P s packet m true (Some word) draw = draw word
 
-begin_goes : (who : Who) (P : Lists → Type 0) (s : Lists) (m : List ℕ) (config : Option Config) → P (after_start s) → Comes who P (begin_plan s config) m
-unfolding clear_plan
-begin_goes who P s m None here = tt
-begin_goes who P s m (Some c) here = (tt, here)
-
 -- What a packet says.
 packet_goes : (who : Who) (K : List ℕ → Type 0) (c : Config) (most : ℕ) (s : Lists) (packet m : List ℕ) → JobRoom K c most (past s (length packet))
     → ((opcode packet == tile_binning_mode) ≡ true → JobRoom K c most (config_set (past s (length packet)) packet)) → JobRoom K c most (after_halt (past s (length packet)))
@@ -108,10 +105,6 @@ packet_goes who K c most s packet m left config end =
     (λ on. drawn_goes who (JobRoom K c most) after packet m after.binner.kept.started after.binner.kept.word (λ word. left))
     (λ no_draw. keeps_if who L G P m (o == increment_semaphore) (Done (after_increment after)) (plan_flush after packet) (λ on. left)
     (λ no_raise. keeps_if who L G P m (o == flush) (Done (after_flush after)) (Done after) (λ on. left) (λ off. left))))))))
-
-room_set : (packet : List ℕ) → (opcode packet == tile_binning_mode) ≡ true → room_by (Some (config_in packet)) ≡ room_in packet
-unfolding room_in
-room_set packet on = sym (ap (λ b. if b then items_within (config_in packet) else 0) on)
 
 -- The binner reads its next packet.
 read_goes : (who : Who) (K : List ℕ → Type 0) (c : Config) (most : ℕ) (s : Lists) (m : List ℕ) (packets : List (List ℕ)) → K m → (left : JobRoom K c most s) → left.packets ≡ packets → s.binner.place < s.binner.end

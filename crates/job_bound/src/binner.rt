@@ -2,27 +2,18 @@
 ghost use Rattle.std.specs.Prelude.{◌≡◌, ◌<◌, ◌≤◌, ◌+◌, ◌*◌, ◌/◌, length};
 ghost use Rattle.field_words.specs.Sizes.{most_list};
 ghost use Rattle.field_words.specs.Words.{u32_at};
-ghost use Rattle.bin_list.specs.Packets.{packets};
+ghost use Rattle.bin_list.specs.Packets.{packets, draws};
 ghost use Rattle.list_machine.specs.Binner.{work_of};
 ghost use Rattle.list_machine.specs.Lists.{most_items};
 ghost use Rattle.ends_law.specs.Left.{IsWhole, AllWhole};
-ghost use Rattle.promises.specs.Steps.{items_within, room_in, room_of, draws, work_steps, packet_steps, bin_steps};
+ghost use Rattle.promises.specs.Steps.{items_within, room_in, room_of, work_steps, packet_steps, bin_steps};
 ghost use Rattle.job_bound.specs.Bound.{most_program, most_packet};
 
-use bin_list::split_front;
+use bin_list::{draws, split_front};
 use byteorder::{ByteOrder, LittleEndian};
 use field_words::round_up;
-use packets::opcode::{ARRAY_PRIMITIVE_LIST, INDEXED_PRIMITIVE_LIST, TILE_BINNING_MODE};
+use packets::opcode::TILE_BINNING_MODE;
 use packets::{Config, config_in};
-
-/// Whether the packet draws a primitive.
-#[tactic(auto, unfolding(promises::specs::Steps::draws))]
-fn draws(packet: &[u8]) -> bool
-    requires { IsWhole packet.now }
-    ensures value { result ≡ draws packet.now }
-{
-    packet[0] == INDEXED_PRIMITIVE_LIST || packet[0] == ARRAY_PRIMITIVE_LIST
-}
 
 /// How many vertices the primitive has that a packet draws.
 #[tactic(auto, unfolding(field_words::specs::Words::u32_at))]

@@ -6,6 +6,7 @@ use Rattle.buffer_table.specs.{declared.buffer.Buffer.Buffer, Table.no_buffer, T
 use Rattle.buffer_table.proofs.Sounds.{sound_buffer}
 use Rattle.job_format.specs.Model.{FileModel}
 use Rattle.job_check.specs.{Shaders.table_of, Emit.ContentsFit}
+use Rattle.field_words.proofs.Writes.{length_zeros}
 
 -- Parts put one after the other: first those in front, then the rest.
 pub placed-append : (memory : List ℕ) (front rest : List Part) → parts_placed memory (front ++ rest) ≡ parts_placed (parts_placed memory front) rest
@@ -32,11 +33,6 @@ unfolding buffer_at
 contents_fit f sound same =
     fits_by f.mem_size f.buffers f.contents
     (λ k below. let s = sound_buffer (table_of f) k (get_or f.buffers k no_buffer) sound below (get_or_default f.buffers k no_buffer past_end below) in omega (arith, s.1.inside, s.1.content)) same
-
--- zeros are as many as named
-pub length_zeros : (n : ℕ) → length (zeros n) ≡ n
-unfolding zeros
-length_zeros n = length-replicate n 0
 
 -- contents fit the memory and the buffers that the code holds
 pub fit_at : (f : FileModel) (m : List ℕ) (buffers : List Buffer) (contents : List (List ℕ)) → m ≡ zeros f.mem_size → buffers ≡ f.buffers → contents ≡ f.contents

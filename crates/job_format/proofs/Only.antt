@@ -16,7 +16,7 @@ use Rattle.job_format.proofs.{Entries.buffer_back, Passing.HeaderPasses, Passing
 use Rattle.job_format.proofs.Heads.{HeaderReads, JobReads, SizesFit, header_back, job_back, job_long}
 use Rattle.job_format.proofs.Tails.{IsTail, four_joined, tail_front, tail_rest, end_of_tail, whole_tail}
 
-buffer_long : (b : Buffer) → length (buffer_text b) ≡ 20
+pub buffer_long : (b : Buffer) → length (buffer_text b) ≡ 20
 unfolding buffer_text
 buffer_long b = refl
 

@@ -4,6 +4,7 @@ use Rattle.std.proofs.{lemmas.Bool.false≢true, lemmas.Bool.lt-ltb, lemmas.Bool
 use Rattle.job_queue.specs.declared.queue.QueueFault.TheVariants.{Binning, NoJob, Waits}
 use Rattle.job_queue.specs.Past.{Job, Past, is_in, meet, last_before, last_writer, reads_of, writes_of, start_answer}
 use Rattle.job_queue.specs.{declared.queue.QueueFault.QueueFault, Laws.StartsLate}
+use Rattle.job_queue.proofs.Writers.{low_by}
 
 -- what was found is never lost for an earlier one
 keeps_by : (reads : List ℕ) (n : ℕ) (job : Job) (jobs : List Job) (number found : ℕ) (below here : Bool) → nat_lt number n ≡ below → meet reads job.writes ≡ here
@@ -24,10 +25,6 @@ unfolding meet is_in
 meet_none [] = refl
 meet_none (buffer ∷ reads) = meet_none reads
 
-found_low : (b : Bool) (number found : ℕ) → found ≤ number → (if b then number else found) ≤ number + 1
-found_low true number found low = omega arith
-found_low false number found low = omega arith
-
 -- a job that writes what is read is at most the last
 covers : (reads : List ℕ) (n : ℕ) (jobs : List Job) (number found places : ℕ) → found ≤ number → number + places < n
     → meet reads (writes_of jobs (places + 1)) ≡ true → number + places ≤ last_before reads n jobs number found
@@ -41,7 +38,7 @@ covers reads n (job ∷ jobs) number found (suc places) low below meets =
     let there : meet reads (writes_of jobs (places + 1)) ≡ true =
     sym (ap (λ b. meet reads (if b then job.writes else writes_of jobs (suc places + 1 - 1))) first ∙ ap (λ k. meet reads (writes_of jobs k)) less) ∙ meets in
     rw (lt-ltb number n (omega arith))
-    (omega (arith, covers reads n jobs (number + 1) (if meet reads job.writes then number else found) places (found_low (meet reads job.writes) number found low) (omega arith) there))
+    (omega (arith, covers reads n jobs (number + 1) (if meet reads job.writes then number else found) places (low_by (meet reads job.writes) number found low) (omega arith) there))
 
 unless_is : (b : Bool) (fault : QueueFault) (job : ℕ) (x : Result ℕ QueueFault) → (if b then Err fault else x) ≡ Ok job → (b ≡ false) × (x ≡ Ok job)
 unless_is true fault job x e = let no : ⊥ = cc in absurd no

@@ -23,7 +23,7 @@ pick true false number a b low high = grind (arith)
 pick false true number a b low high = grind (arith)
 pick false false number a b low high = refl
 
-low_by : (b : Bool) (number found : ℕ) → found ≤ number → (if b then number else found) ≤ number + 1
+pub low_by : (b : Bool) (number found : ℕ) → found ≤ number → (if b then number else found) ≤ number + 1
 low_by true number found low = omega arith
 low_by false number found low = omega arith
 

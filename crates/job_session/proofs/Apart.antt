@@ -9,9 +9,7 @@ use Rattle.job_session.specs.Own.{Held, Command, Create, Make, Write, Read, Free
 use Rattle.job_session.specs.Own.{most_buffers, most_pages, most_read, is_free_id, with_buffer, new_by, new_buffer, bytes_padded, make_by, write_in, write_by, read_by, free_by, submit_by}
 use Rattle.job_session.specs.Session.{Call, Past, none_yet, reply_by, past_by, placed_reply, placed_past, pages_of, outcome_of, reply_to, after, replies_to, commands_of}
 use Rattle.job_session.specs.{Places.least_place, Laws.is_full, Laws.other_replies, Laws.other_commands, Laws.RepliesAreOwn}
-
-equal : (k n : ℕ) → (k == n) ≡ true → k ≡ n
-equal k n is = grind (arith, nat_tests)
+use Rattle.std.proofs.lemmas.Bool.{eqb-true}
 
 itself : (n : ℕ) → (n == n) ≡ true
 itself n = grind (arith, nat_tests)
@@ -119,7 +117,7 @@ from_by : (F : Type 0) (rules : Rules F) (client : ℕ) (past : Past) (call : Ca
     (if mine then reply_to rules past call ∷ replies_to client rules (after rules past call) calls else replies_to client rules (after rules past call) calls))
 from_by F rules client past call calls true is later =
     joined F rules client (past.own client) ((after rules past call).own client) call.command (commands_of client calls) (reply_to rules past call)
-    (replies_to client rules (after rules past call) calls) (is_full (reply_to rules past call)) (from_own F rules client past call (equal client call.client is)) later
+    (replies_to client rules (after rules past call) calls) (is_full (reply_to rules past call)) (from_own F rules client past call (eqb-true client call.client is)) later
 from_by F rules client past call calls false is later = later ∙ rw (unseen F rules client past call is) refl
 
 from_here : (F : Type 0) (rules : Rules F) (client : ℕ) (calls : List Call) (past : Past)

@@ -8,9 +8,9 @@ use Rattle.field_words.specs.Words.{IsBytes}
 use Rattle.script.specs.Lines.{before, lines_of, onto_line}
 use Rattle.job_text.proofs.Marks.{Free, free_append, free_before, free_by}
 use Rattle.job_make.specs.Made.{Sections, words_of, full_of, is_alone, says, named_by, section_named, digits_read, size_named, word_by, word_read, words_read, line_read, part_read, stays_inside, lines_read, both, text_sections, text_bytes, is_blank}
-use Rattle.job_text.specs.Meanings.{said_if}
 use Rattle.job_text.specs.Shown.{Look, remark, is_in, is_past, is_left_out, reason_text, below_text, end_text, whole_line, line_text, lines_text, text_shown}
 use Rattle.job_text.specs.{declared.note.Note.Note, declared.note.Note.TheVariants.Unread, declared.note.Piece.Piece}
+use Rattle.qpu_text.specs.Pieces.{if_so}
 
 before_mark : (mark : ℕ) (xs rest : List ℕ) → Free mark xs → before mark (xs ++ mark ∷ rest) ≡ xs
 unfolding before
@@ -140,7 +140,7 @@ to_end a b r m w rest = simp append_assoc
 to_mark : (a r : List ℕ) → a ++ (codes "  # " ++ r) ≡ (a ++ codes "  ") ++ 35 ∷ 32 ∷ r
 to_mark a r = sym (append_assoc a (codes "  ") (35 ∷ 32 ∷ r))
 
-free_mark : (is : Bool) → Free 10 (said_if is (codes " <== refused here"))
+free_mark : (is : Bool) → Free 10 (if_so is (codes " <== refused here"))
 free_mark true = free_by 10 (codes " <== refused here") refl
 free_mark false = tt
 
@@ -151,7 +151,7 @@ unfolding whole_line end_text remark
 line_again sections look n at b bytes rest note is fits =
     let digits = encode_lower (b ∷ bytes) in
     let r = remark look.omitted at (b ∷ bytes) note in
-    let m = said_if (is && not look.behind) (codes " <== refused here") in
+    let m = if_so (is && not look.behind) (codes " <== refused here") in
     let w = below_text is look in
     let line = digits ++ (codes "  # " ++ (r ++ m)) in
     let free_note : Free 10 (r ++ m) = free_append 10 r m (free_before 10 _) (free_mark (is && not look.behind)) in

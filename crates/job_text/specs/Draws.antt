@@ -2,11 +2,12 @@
 use Rattle.std.specs.Prelude.{ℕ, zero, suc, ◌≡◌, ◌+◌, ◌==◌, ◌||◌, Bool, nat_lt, min, List, [], ◌∷◌, ◌++◌, take, drop, length, codes, if◌then◌else◌}
 use Rattle.field_words.specs.Words.{u32_at}
 use Rattle.packets.specs.Opcode.{indexed_primitive_list, array_primitive_list, gl_shader_state}
-use Rattle.bin_list.specs.Packets.{opcode, packets}
+use Rattle.bin_list.specs.Packets.{opcode, packets, draws}
 use Rattle.shader_records.specs.Sources.{source_size}
 use Rattle.job_format.specs.declared.rule.Part.TheVariants.{JobEntry, BinnerList, Records, Uniforms}
 use Rattle.job_format.specs.{declared.rule.Part.Part, Places.start_of, Offsets.job_size, Offsets.most_buffers, Offsets.most_jobs, Offsets.buffer_count, Offsets.job_count}
-use Rattle.job_text.specs.{declared.span.Span.Span, Cuts.AreAllLines, Meanings.said_if, Shown.Look}
+use Rattle.job_text.specs.{declared.span.Span.Span, Cuts.AreAllLines, Shown.Look}
+use Rattle.qpu_text.specs.Pieces.{if_so}
 
 -- Some bytes of a file, and the offset at which they begin.
 pub record Stretch : Type 0 where
@@ -46,9 +47,6 @@ by_state packet size = if opcode packet == gl_shader_state then size else 0
 unfoldable pub record_taken : List ℕ → ℕ
 record_taken packet = by_state packet (source_size (u32_at packet 1))
 
-unfoldable pub is_draw : List ℕ → Bool
-is_draw packet = (opcode packet == indexed_primitive_list) || (opcode packet == array_primitive_list)
-
 -- Behind a text stand the lines of a packet, of the front of what is left of the records, and of the front of what is left of the uniforms;
 -- and an empty line behind a draw.
 abbrev pub IsPacketPut : Look → Stretch → (records uniforms : Stretch) → (taken : ℕ) → (old new : List ℕ) → Type 0
@@ -57,7 +55,7 @@ IsPacketPut look packet records uniforms taken old new =
     × AreLinesOf look packet old first
     × AreLinesOf look (front (record_taken packet.bytes) records) first second
     × AreLinesOf look (front (by_state packet.bytes taken) uniforms) second third
-    × (new ≡ third ++ said_if (is_draw packet.bytes) (codes "\n"))
+    × (new ≡ third ++ if_so (draws packet.bytes) (codes "\n"))
 
 -- Behind a text stand the lines of packets, of which the first begins at an offset, and of their states' records and uniforms, which begin what
 -- is left of them. How many uniforms a record's shaders take isn't said.

@@ -8,7 +8,7 @@ use Rattle.job_text.specs.declared.note.Field.TheVariants.{Word, Kind, Flags, Ha
 use Rattle.job_text.specs.declared.note.Field.{Field}
 use Rattle.job_text.specs.declared.meanings.TheConstants.{DEPTHS}
 use Rattle.job_text.specs.Floats.{float_text, sixteenths_text}
-use Rattle.qpu_text.specs.{Load.hex_text, Pieces.named_in, Pieces.if_so}
+use Rattle.qpu_text.specs.{Load.hex_text, Pieces.named_in, Pieces.if_so, Pieces.if_so}
 
 abbrev pub tiling_name : Tiling → List ℕ
 tiling_name Raster = codes "raster"
@@ -46,10 +46,6 @@ mode_name n =
 -- the bytes of an index: one where bits 7:4 of the mode are zero
 unfoldable pub index_text : ℕ → List ℕ
 index_text n = if n / 16 == 0 then codes "; 1 byte an index)" else codes "; 2 bytes an index)"
-
--- what is said where it is so
-abbrev pub said_if : Bool → List ℕ → List ℕ
-said_if is text = if is then text else []
 
 unfoldable pub kind_text : ℕ → List ℕ
 kind_text n = if n == 0 then codes " (data)" else (if n == 1 then codes " (code)" else codes " (no kind)")
@@ -101,14 +97,14 @@ field_meaning ScaleY n = float_text n
 field_meaning ScaleZ n = float_text n
 field_meaning OffsetZ n = float_text n
 field_meaning Kind n = kind_text n
-field_meaning Flags n = said_if (n == 1) (codes " (the clear values are used)")
-field_meaning HandleIndex n = said_if (n == 4294967295) (codes " (absent)")
+field_meaning Flags n = if_so (n == 1) (codes " (the clear values are used)")
+field_meaning HandleIndex n = if_so (n == 4294967295) (codes " (absent)")
 field_meaning FrameBits n = style_text (frame_style (n % 65536))
 field_meaning GeneralBits n = style_text (general_style (n % 65536))
-field_meaning SurfaceFlags n = said_if (n % 2 == 1) (codes " (full resolution)")
+field_meaning SurfaceFlags n = if_so (n % 2 == 1) (codes " (full resolution)")
 field_meaning PrimitiveMode n = codes " (" ++ (mode_name (n % 16) ++ codes ")")
 field_meaning IndexMode n = codes " (" ++ (mode_name (n % 16) ++ index_text n)
 field_meaning StateWord n = state_text n
-field_meaning BinnerFlags n = said_if (n % 2 == 1) (codes " (four samples a pixel)")
-field_meaning RecordFlags n = said_if (n % 2 == 1) (codes " (single-threaded)")
+field_meaning BinnerFlags n = if_so (n % 2 == 1) (codes " (four samples a pixel)")
+field_meaning RecordFlags n = if_so (n % 2 == 1) (codes " (single-threaded)")
 field_meaning field n = []

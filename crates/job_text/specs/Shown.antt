@@ -3,7 +3,8 @@ use Rattle.std.specs.Prelude.{ℕ, ◌+◌, ◌&&◌, Bool, true, false, not, na
 use Rattle.hex.specs.Hex.{encode_lower}
 use Rattle.script.specs.Lines.{before}
 use Rattle.job_text.specs.{declared.note.Note.Note, declared.note.Note.TheVariants.Unread, declared.note.Note.TheVariants.Data, declared.note.Note.TheVariants.Instruction}
-use Rattle.job_text.specs.{declared.note.Piece.Piece, declared.view.Omitted.Omitted, declared.view.View.View, Meanings.said_if, Notes.note_text}
+use Rattle.job_text.specs.{declared.note.Piece.Piece, declared.view.Omitted.Omitted, declared.view.View.View, Notes.note_text}
+use Rattle.qpu_text.specs.Pieces.{if_so}
 
 -- How a file is shown: what is left out, the offset of the byte at which it is refused, if it is, or behind which, and the reason.
 pub record Look : Type 0 where
@@ -41,7 +42,7 @@ below_text is look = reason_text (is && look.behind) (codes "<== refused here") 
 
 -- a line's end: a mark where it is refused there, and what is below
 unfoldable pub end_text : Bool → Look → List ℕ
-end_text is look = said_if (is && not look.behind) (codes " <== refused here") ++ (codes "\n" ++ below_text is look)
+end_text is look = if_so (is && not look.behind) (codes " <== refused here") ++ (codes "\n" ++ below_text is look)
 
 -- bytes of a buffer's contents
 abbrev pub is_content : Note → Bool

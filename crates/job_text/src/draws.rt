@@ -1,7 +1,7 @@
 //! The draws of a file as text.
 ghost use Rattle.std.specs.Prelude.{ℕ, ◌≡◌, IfOk, OnOk};
-ghost use Rattle.bin_list.specs.Packets.{packets};
-ghost use Rattle.job_text.specs.Draws.{stretch_of, part_in, job_part, front, behind, by_state, record_taken, is_draw, IsPacketPut, AreDraws, AreJobDraws, IsDrawsText, jobs_drawn};
+ghost use Rattle.bin_list.specs.Packets.{packets, draws};
+ghost use Rattle.job_text.specs.Draws.{stretch_of, part_in, job_part, front, behind, by_state, record_taken, IsPacketPut, AreDraws, AreJobDraws, IsDrawsText, jobs_drawn};
 ghost use Rattle.job_text.specs.Shown.{look_of};
 
 use crate::cutting::{Job, Pieces, part_at};
@@ -12,10 +12,10 @@ use crate::span::Span;
 use crate::streams::known_shaders;
 use crate::view::View;
 use crate::writing::{put_line, put_lines};
-use bin_list::split_front;
+use bin_list::{draws, split_front};
 use field_words::{NoMemory, byte_at, word_at};
 use job_format::{JOB_SIZE, MOST_BUFFERS, MOST_JOBS, Part, Place, offset_of};
-use packets::opcode::{ARRAY_PRIMITIVE_LIST, GL_SHADER_STATE, INDEXED_PRIMITIVE_LIST};
+use packets::opcode::GL_SHADER_STATE;
 use qpu_isa::ShaderInfo;
 use shader_records::source_size;
 use std::alloc::Global;
@@ -97,14 +97,6 @@ fn record_taken(packet: &[u8]) -> usize
     by_state(packet, source_size(word_at(packet, 1)))
 }
 
-#[tactic(auto, unfolding(crate::specs::Draws::is_draw))]
-fn is_draw(packet: &[u8]) -> bool
-    ensures { result ≡ is_draw packet.now }
-{
-    let opcode = byte_at(packet, 0);
-    opcode == INDEXED_PRIMITIVE_LIST || opcode == ARRAY_PRIMITIVE_LIST
-}
-
 impl<'a> Walk<'a> {
     // A state's record, cut into pieces.
     fn record_cuts(&self, alloc: Global, packet: &[u8]) -> Result<Vec<Cut>, NoMemory> {
@@ -155,7 +147,7 @@ impl<'a> Walk<'a> {
         let size = self.uniforms.bytes.len().saturating_sub(pieces.left);
         let (taken, uniforms) = split(self.uniforms, by_state(packet.bytes, size));
         put_lines(alloc, out, taken, &pieces.cuts, view)?;
-        put_if(out, is_draw(packet.bytes), b"\n")?;
+        put_if(out, draws(packet.bytes), b"\n")?;
         self.records = records;
         self.uniforms = uniforms;
         self.number = self.number.saturating_add(by_state(packet.bytes, 1));

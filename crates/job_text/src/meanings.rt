@@ -3,7 +3,8 @@ ghost use Rattle.std.specs.Prelude.{◌≡◌, ◌++◌, ◌%◌, ◌<◌, ◌^�
 ghost use Rattle.qpu_text.specs.Load.{hex_text};
 ghost use Rattle.texture_layouts.specs.Format.{IsShort};
 ghost use Rattle.texture_layouts.specs.Surface.{size_for};
-ghost use Rattle.job_text.specs.Meanings.{tiling_name, style_text, bits_style, size_text, mode_name, index_text, said_if, kind_text, extended_text, state_text, flag_text, face_flags, edge_flags, depth_flags, flags_text, depth_text, configuration_text, field_meaning};
+ghost use Rattle.job_text.specs.Meanings.{tiling_name, style_text, bits_style, size_text, mode_name, index_text, kind_text, extended_text, state_text, flag_text, face_flags, edge_flags, depth_flags, flags_text, depth_text, configuration_text, field_meaning};
+ghost use Rattle.qpu_text.specs.Pieces.{if_so};
 
 use crate::floats::{put_float, put_sixteenths};
 use crate::note::Field;
@@ -107,7 +108,7 @@ fn index_text(number: u32) -> &'static str
 
 /// Appends a text where it is so.
 pub(crate) fn put_if(out: &mut Vec<u8>, is: bool, text: &[u8]) -> Result<(), AllocError>
-    ensures { OnOk result (out.new.items ≡ out.old.items ++ said_if is text.now) }
+    ensures { OnOk result (out.new.items ≡ out.old.items ++ if_so is text.now) }
 {
     if is {
         out.extend_from_slice(text)?;

@@ -380,7 +380,7 @@ packet_step who r K O c f s free words m (Some packet ∷ slots) here fine outsi
     }))
 
 -- In a tile's list.
-every_drop : (P : Item → Type 0) (n : ℕ) (items : List Item) → Every P items → Every P (drop n items)
+pub every_drop : (P : Item → Type 0) (n : ℕ) (items : List Item) → Every P items → Every P (drop n items)
 every_drop P zero items all = all
 every_drop P (suc n) [] all = tt
 every_drop P (suc n) (item ∷ items) all = every_drop P n items all.1

@@ -17,6 +17,7 @@ use Rattle.machine.specs.Step.{Event, job_of, may, step, ready, turn}
 use Rattle.apart_law.proofs.{Own.own_alike_law, Tied.idle_tied, Turns.turn_job, Silent.others_silent_law, Silent.keep_tied_law}
 use Rattle.apart_law.proofs.{Parts.some_same, Parts.some_none, Trails.AllMay, Trails.trails_alike}
 use Rattle.machine_law.proofs.{Begins.each_begins, Owes.AllKeep, Owes.units_owe_law, Owes.start_fine}
+use Rattle.machine_plan.proofs.Safe.{inside-back}
 
 -- The regions of a client's jobs, joined: they have the region of each of its jobs, and nothing else.
 
@@ -24,10 +25,6 @@ pub inside_left : (rs qs : List Interval) (p n : ℕ) → Inside rs p n → Insi
 inside_left [] qs p n lies = absurd lies
 inside_left (r ∷ rs) qs p n (inl lies) = inl lies
 inside_left (r ∷ rs) qs p n (inr lies) = inr (inside_left rs qs p n lies)
-
-pub inside_right : (rs qs : List Interval) (p n : ℕ) → Inside qs p n → Inside (rs ++ qs) p n
-inside_right [] qs p n lies = lies
-inside_right (r ∷ rs) qs p n lies = inr (inside_right rs qs p n lies)
 
 pub inside_either : (rs qs : List Interval) (p n : ℕ) → Inside (rs ++ qs) p n → Inside rs p n ⊎ Inside qs p n
 inside_either [] qs p n lies = inr lies
@@ -38,7 +35,7 @@ first_in : (own : Bool) (one rest : List Interval) (p n : ℕ) → own ≡ true 
 first_in own one rest p n is lies = search (rules, arith, inside_left, false≢true)
 
 rest_in : (own : Bool) (one rest : List Interval) (p n : ℕ) → Inside rest p n → Inside (if own then one ++ rest else rest) p n
-rest_in own one rest p n lies = search (rules, arith, inside_right)
+rest_in own one rest p n lies = search (rules, arith, inside-back)
 
 own_region_from : (mine : Client) (n j k : ℕ) (rights : List Rights) (p size : ℕ) → k ≡ n + j → mine k ≡ true → Inside (rights_of rights j).region p size → Inside (regions_of mine n rights) p size
 own_region_from mine n j k [] p size is own lies = absurd lies
@@ -249,7 +246,7 @@ apart_anywhere_law mine b c m n near has also agree events others found there s 
     (λ p lies. nobody_writes p (start_of m b.starts) events) (λ p lies. nobody_writes p (start_of n c.starts) others)
     (sym (same_trail mine (start_of m b.starts) events) ∙ (trails ∙ same_trail mine (start_of n c.starts) others))
 
-read_only_same : (rights : List Rights) (m : List ℕ) → HasReadOnly rights m m
+pub read_only_same : (rights : List Rights) (m : List ℕ) → HasReadOnly rights m m
 read_only_same rights m = record { long = refl; same = λ p lies out. refl }
 
 pub clients_apart_law : ClientsApart

@@ -15,7 +15,7 @@ use Rattle.list_law.specs.Emitted.{words_in, RecordLies, program_in}
 use Rattle.list_law.specs.{Uses.Fetches, Uses.Programs, Binning.DrawsSo, Lists.ListsFine}
 use Rattle.list_law.proofs.Emitted.{same_count, same_extended, emitted_fetches, emitted_programs}
 use Rattle.list_law.proofs.Start.{lists_begin, walks_so}
-use Rattle.bin_walks.specs.Walks.{nothing_kept}
+use Rattle.bin_walks.specs.Walks.{nothing_kept, Walks}
 use Rattle.machine.specs.{declared.job.Start.Start, State.job_start}
 use Rattle.machine_law.specs.Begins.{FixedStays, HomesStay, LaunchBegins, DrawBegins, DrawsStay, TextBegins, JobBegins}
 use Rattle.promises.specs.Rights.{IsFixed}
@@ -108,14 +108,14 @@ draws_stay_law rights plains first j word packet begins = search (rules, arith, 
 pub text_stays : (rights : List Rights) (first : List ℕ) (j place : ℕ) (text : List ℕ) → TextBegins rights first j place text → (m : List ℕ) → HasReadOnly rights first m → bytes_at m place (length text) ≡ text
 text_stays rights first j place text begins m has = search (rules, arith, fixed_stays_law, joined_covers)
 
-job_begins : (rights : List Rights) (plains : ℕ → List Interval) (first : List ℕ) (j : ℕ) (start : Start) → JobBegins rights plains first j start → JobFine rights plains first j (job_start start)
-job_begins rights plains first j start begins =
-    let r : Rights = rights_of rights j in
-    let K = HasReadOnly rights first in
-    let O = LaunchFine rights plains first j in
-    let all : ListsFine r K O begins.config begins.frame (lists_start start.bin_place (length (joined_bytes begins.packets)) start.render_place (length (slots_text begins.slots))) =
-    lists_begin r K O begins.config begins.frame start.bin_place start.render_place begins.packets begins.slots
-    (record { walks = walks_so begins.config (DrawBegins rights plains first j) (DrawsSo r K O) (λ word packet draws kind. draws_stay_law rights plains first j word packet draws) nothing_kept begins.packets begins.bin_walks; stands = text_stays rights first j start.bin_place (joined_bytes begins.packets) begins.bin_text; reads = begins.bin_text.reads })
+-- A job's lists at their beginnings, where O is so of each program that it starts.
+pub lists_so : (rights : List Rights) (plains : ℕ → List Interval) (first : List ℕ) (O : Launch → Type 0) (j : ℕ) (start : Start) → (begins : JobBegins rights plains first j start)
+    → Walks begins.config (DrawsSo (rights_of rights j) (HasReadOnly rights first) O) nothing_kept begins.packets → ListsFine (rights_of rights j) (HasReadOnly rights first) O begins.config begins.frame (job_start start)
+lists_so rights plains first O j start begins walks =
+    let Fine = ListsFine (rights_of rights j) (HasReadOnly rights first) O begins.config begins.frame in
+    let all : Fine (lists_start start.bin_place (length (joined_bytes begins.packets)) start.render_place (length (slots_text begins.slots))) =
+    lists_begin (rights_of rights j) (HasReadOnly rights first) O begins.config begins.frame start.bin_place start.render_place begins.packets begins.slots
+    (record { walks = walks; stands = text_stays rights first j start.bin_place (joined_bytes begins.packets) begins.bin_text; reads = begins.bin_text.reads })
     (record {
       walks = begins.render_walks;
       fit = begins.render_fits;
@@ -123,13 +123,20 @@ job_begins rights plains first j start begins =
       stands = text_stays rights first j start.render_place (slots_text begins.slots) begins.render_text;
       reads = begins.render_text.reads;
     }) in
-    let binned : ListsFine r K O begins.config begins.frame (lists_start start.bin_place start.bin_len start.render_place (length (slots_text begins.slots))) =
-    subst (λ n. ListsFine r K O begins.config begins.frame (lists_start start.bin_place n start.render_place (length (slots_text begins.slots)))) (sym begins.bin_len) all in
+    let binned : Fine (lists_start start.bin_place start.bin_len start.render_place (length (slots_text begins.slots))) =
+    subst (λ n. Fine (lists_start start.bin_place n start.render_place (length (slots_text begins.slots)))) (sym begins.bin_len) all in
+    subst (λ n. Fine (lists_start start.bin_place start.bin_len start.render_place n)) (sym begins.render_len) binned
+
+job_begins : (rights : List Rights) (plains : ℕ → List Interval) (first : List ℕ) (j : ℕ) (start : Start) → JobBegins rights plains first j start → JobFine rights plains first j (job_start start)
+job_begins rights plains first j start begins =
+    let O = LaunchFine rights plains first j in
     record {
       config = begins.config;
       frame = begins.frame;
       allocates = begins.allocates;
-      lists = subst (λ n. ListsFine r K O begins.config begins.frame (lists_start start.bin_place start.bin_len start.render_place n)) (sym begins.render_len) binned;
+      lists =
+          lists_so rights plains first O j start begins
+          (walks_so begins.config (DrawBegins rights plains first j) (DrawsSo (rights_of rights j) (HasReadOnly rights first) O) (λ word packet draws kind. draws_stay_law rights plains first j word packet draws) nothing_kept begins.packets begins.bin_walks);
     }
 
 pub each_begins : (rights : List Rights) (plains : ℕ → List Interval) (first : List ℕ) (n : ℕ) (starts : List Start) → EachAt (JobBegins rights plains first) n starts → EachAt (λ j start. JobFine rights plains first j (job_start start)) n starts

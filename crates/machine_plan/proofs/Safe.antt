@@ -11,7 +11,7 @@ inside-front [] qs p n none = absurd none
 inside-front (r ∷ rs) qs p n (inl lies) = inl lies
 inside-front (r ∷ rs) qs p n (inr lies) = inr (inside-front rs qs p n lies)
 
-inside-back : (rs qs : List Interval) (p n : ℕ) → Inside qs p n → Inside (rs ++ qs) p n
+pub inside-back : (rs qs : List Interval) (p n : ℕ) → Inside qs p n → Inside (rs ++ qs) p n
 inside-back [] qs p n lies = lies
 inside-back (r ∷ rs) qs p n lies = inr (inside-back rs qs p n lies)
 

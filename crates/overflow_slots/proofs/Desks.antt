@@ -8,7 +8,8 @@ use Rattle.overflow_slots.specs.{declared.pool.Block.Block, Search.count_where}
 use Rattle.overflow_slots.specs.Desk.{Desk, IsNewest, Agrees, free_slot, with_slot, AreFreed}
 use Rattle.tile_memory.specs.Slots.{slot_fits}
 use Rattle.overflow_slots.specs.SlotRun as run
-use Rattle.overflow_slots.proofs.Searches.{equal, apart_by, first_found, first_same, count_same, any_none, any_is}
+use Rattle.overflow_slots.proofs.Searches.{apart_by, first_found, first_same, count_same, any_none, any_is}
+use Rattle.std.proofs.lemmas.Bool.{eqb-true}
 
 -- a slot without an owner is one that no job holds
 is_free_by : (r : Run) (desk : Desk) → Agrees r desk → (slot owner : ℕ) → slot < 32 → slice_index desk.owners slot ≡ owner
@@ -41,7 +42,7 @@ count_free r desk agrees =
 -- one item of a list set
 set_same : (xs : List ℕ) (i k x : ℕ) → length xs ≡ 32 → k < 32 → (k == i) ≡ true → slice_index (slice_set xs i x) k ≡ x
 set_same xs i k x size inside is =
-    let e : k ≡ i = equal k i is in
+    let e : k ≡ i = eqb-true k i is in
     ap (λ n. get_or (set xs n x) k 0) (sym e) ∙ get_or-set_same xs k x 0 (omega arith)
 
 set_other : (xs : List ℕ) (i k x : ℕ) → (k == i) ≡ false → slice_index (slice_set xs i x) k ≡ slice_index xs k
@@ -109,12 +110,12 @@ given_owners r desk job used slot others same free agrees s other inside low tru
 given_owners r desk job used slot others same free agrees s other inside low true is false here =
     rw (is, set_other desk.owners slot s (job + 1) here, same) (
     let apart : (slot == s) ≡ false = grind (arith, nat_tests) in
-    let e : other ≡ job = equal other job is in
+    let e : other ≡ job = eqb-true other job is in
     rw (apart, e) (agrees.owners s job inside (omega (arith, low, e))))
 given_owners r desk job used slot others same free agrees s other inside low false is true here =
     rw (is, set_same desk.owners slot s (job + 1) agrees.owners_size inside here) (
     agrees.owners s other inside low ∙ (
-    let e : s ≡ slot = equal s slot here in
+    let e : s ≡ slot = eqb-true s slot here in
     let zero_owner : slice_index desk.owners s ≡ 0 = ap (λ n. slice_index desk.owners n) e ∙ free in
     rw zero_owner (grind (arith, nat_tests))))
 given_owners r desk job used slot others same free agrees s other inside low false is false here =
@@ -146,7 +147,7 @@ pub given_first : (r : Run) (desk : Desk) (job used : ℕ) (others : List Held) 
 given_first r desk job used others blocks None is low same agrees = agrees
 given_first r desk job used others blocks (Some slot) is low same agrees =
     let found = first_found (λ s. slice_index desk.owners s == 0) 0 desk.slots slot is in
-    given r desk job used slot others blocks low same (equal (slice_index desk.owners slot) 0 found.1) agrees
+    given r desk job used slot others blocks low same (eqb-true (slice_index desk.owners slot) 0 found.1) agrees
 
 pub begin_done : (r : Run) (desk : Desk) (job tiles : ℕ) → job < 32 → slice_index desk.newest job ≡ 0 → (tiles ≡ 0 → ⊥) → slot_fits tiles ≡ true
     → Agrees r desk
@@ -191,7 +192,7 @@ taken_newest : (r : Run) (desk : Desk) (job : ℕ) (one : Held) (others : List H
     → IsNewest (if other == job then record { slot = one.slot; front = one.front; used = one.used + 128 } ∷ others else r.held other)
     (slice_index desk.newest other) (slice_index (slice_set desk.used job (one.used + 128)) other)
 taken_newest r desk job one others low is agrees other inside true same =
-    let e : other ≡ job = equal other job same in
+    let e : other ≡ job = eqb-true other job same in
     let before : IsNewest (one ∷ others) (slice_index desk.newest job) (slice_index desk.used job) =
     subst (λ helds. IsNewest helds (slice_index desk.newest job) (slice_index desk.used job)) is (agrees.newest job low) in
     rw (same, set_same desk.used job other (one.used + 128) agrees.used_size inside same) (ap (λ n. slice_index desk.newest n) e ∙ before.0, refl)
@@ -204,7 +205,7 @@ taken_owners : (r : Run) (desk : Desk) (job : ℕ) (one : Held) (others : List H
     ≡ (slice_index desk.owners s == other + 1)
 unfolding holds
 taken_owners r desk job one others is agrees s other inside low true same =
-    let e : other ≡ job = equal other job same in
+    let e : other ≡ job = eqb-true other job same in
     rw same (ap (holds s) (sym (ap r.held e ∙ is)) ∙ agrees.owners s other inside low)
 taken_owners r desk job one others is agrees s other inside low false same = rw same (agrees.owners s other inside low)
 
@@ -295,10 +296,10 @@ unfolding holds
 ended_owners r desk job owners freed agrees s other inside low true same true here =
     rw (same, freed s inside, here) (grind (arith, nat_tests))
 ended_owners r desk job owners freed agrees s other inside low true same false here =
-    let e : other ≡ job = equal other job same in
+    let e : other ≡ job = eqb-true other job same in
     rw (same, freed s inside, here, e) (sym here)
 ended_owners r desk job owners freed agrees s other inside low false same true here =
-    let owner : slice_index desk.owners s ≡ job + 1 = equal (slice_index desk.owners s) (job + 1) here in
+    let owner : slice_index desk.owners s ≡ job + 1 = eqb-true (slice_index desk.owners s) (job + 1) here in
     let apart : (job + 1 == other + 1) ≡ false = grind (arith, nat_tests) in
     let none : (0 == other + 1) ≡ false = grind (arith, nat_tests) in
     rw (same, freed s inside, here, none) (agrees.owners s other inside low ∙ ap (λ n. n == other + 1) owner ∙ apart)

@@ -8,7 +8,8 @@ use Rattle.overflow_slots.specs.SlotRun.{Held, Run, holds, is_free, least_free, 
 use Rattle.overflow_slots.specs.Laws.{NoneShared, LiesInOne, AreApart, AllApart, IsOrdered, StaysOrdered}
 use Rattle.overflow_slots.specs.{declared.pool.Block.Block, declared.call.Call.Call, Calls.IsInRange, Search.any_where}
 use Rattle.tile_memory.specs.Slots.{slot_fits}
-use Rattle.overflow_slots.proofs.Searches.{equal, apart_by, any_is, first_found}
+use Rattle.overflow_slots.proofs.Searches.{apart_by, any_is, first_found, or_true}
+use Rattle.std.proofs.lemmas.Bool.{eqb-true}
 
 -- a job's slots differ, and what is used of each has its front
 abbrev AreOrderly : List Held → Type 0
@@ -28,7 +29,7 @@ Fresh run job helds = (slot other : ℕ) → other < 32 → (other ≡ job → �
 shared : (run : Run) (job : ℕ) (helds : List Held) → Core run → Fresh run job helds → (slot a b : ℕ) → a < 32 → b < 32
     → (is_a : Bool) → (a == job) ≡ is_a → (is_b : Bool) → (b == job) ≡ is_b
     → holds slot (if a == job then helds else run.held a) ≡ true → holds slot (if b == job then helds else run.held b) ≡ true → a ≡ b
-shared run job helds core fresh slot a b low_a low_b true ea true eb ha hb = equal a job ea ∙ sym (equal b job eb)
+shared run job helds core fresh slot a b low_a low_b true ea true eb ha hb = eqb-true a job ea ∙ sym (eqb-true b job eb)
 shared run job helds core fresh slot a b low_a low_b true ea false eb ha hb =
     absurd (fresh slot b low_b (apart_by b job eb) (ap (λ t. holds slot (if t then helds else run.held a)) (sym ea) ∙ ha) (ap (λ t. holds slot (if t then helds else run.held b)) (sym eb) ∙ hb))
 shared run job helds core fresh slot a b low_a low_b false ea true eb ha hb =
@@ -84,7 +85,7 @@ fresh_more : (run : Run) (job : ℕ) (one : Held) (others : List Held) → is_fr
 unfolding holds
 fresh_more run job one others free old = λ slot other low apart mine theirs.
     elim (or_either (one.slot == slot) (holds slot others) mine) [
-      | inl is ↦ free_held run one.slot other low free (ap (λ s. holds s (run.held other)) (equal one.slot slot is) ∙ theirs)
+      | inl is ↦ free_held run one.slot other low free (ap (λ s. holds s (run.held other)) (eqb-true one.slot slot is) ∙ theirs)
       | inr later ↦ old slot other low apart later theirs
     ]
 
@@ -159,10 +160,6 @@ lies_grown one others (block ∷ blocks) lie = (
   ],
   lies_grown one others blocks lie.1,
 )
-
-or_true : (b : Bool) → (b || true) ≡ true
-or_true true = refl
-or_true false = refl
 
 held_of : (helds : List Held) (block : Block) → LiesInOne helds block → holds block.slot helds ≡ true
 unfolding holds

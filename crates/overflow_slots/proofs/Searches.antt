@@ -2,6 +2,7 @@
 use Rattle.std.proofs.Common.{◌≡◌, ℕ, zero, suc, ◌+◌, ◌-◌, ◌≤◌, ◌<◌, Bool, true, false, ◌||◌, refl, sym, ◌∙◌, ap, arith, None, Some, ◌==◌, if◌then◌else◌}
 use Rattle.std.proofs.lemmas.Bool.Decides.{nat_tests}
 use Rattle.overflow_slots.specs.Search.{first_where, count_where, any_where}
+use Rattle.std.proofs.lemmas.Bool.{eqb-true}
 
 left : (slot slots : ℕ) → slot < slots → slots - slot ≡ suc (slots - (slot + 1))
 left slot slots inside = omega arith
@@ -45,12 +46,9 @@ unfolding any_where
 any_none passes zero none = refl
 any_none passes (suc n) none = rw (none n (omega arith)) (any_none passes n (λ k h. none k (omega arith)))
 
-or_true : (b : Bool) → (b || true) ≡ true
+pub or_true : (b : Bool) → (b || true) ≡ true
 or_true true = refl
 or_true false = refl
-
-pub equal : (k n : ℕ) → (k == n) ≡ true → k ≡ n
-equal k n is = grind (arith, nat_tests)
 
 pub apart_by : (k n : ℕ) → (k == n) ≡ false → k ≡ n → ⊥
 apart_by k n apart is = grind (arith, nat_tests)
@@ -62,7 +60,7 @@ any_by : (passes : ℕ → Bool) (n k : ℕ) (last : Bool) → (k == n) ≡ last
     → (k < n → any_where passes n ≡ true) → any_where passes (suc n) ≡ true
 unfolding any_where
 any_by passes n k true is inside here more =
-    let last : passes n ≡ true = sym (ap passes (equal k n is)) ∙ here in
+    let last : passes n ≡ true = sym (ap passes (eqb-true k n is)) ∙ here in
     ap (λ b. b || any_where passes n) last
 any_by passes n k false is inside here more = ap (λ b. passes n || b) (more (below k n inside is)) ∙ or_true (passes n)
 

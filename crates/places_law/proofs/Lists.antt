@@ -1,14 +1,14 @@
 -- The rules of binner lists and of surfaces read no place.
 use Rattle.std.proofs.Common.{◌≡◌, ℕ, ◌==◌, not, nat_lt, if◌then◌else◌, List, [], ◌∷◌, ◌++◌, length, slice_index, is_some, Option, Some, None, refl, ◌∙◌, ap}
 use Rattle.field_words.specs.Questions.{Question, Ask, with_answers}
-use Rattle.buffer_table.specs.{Table.TableModel, Handles.data_of}
+use Rattle.buffer_table.specs.{Table.TableModel, Handles.data_of, Handles.size_in}
 use Rattle.packets.specs.Opcode.{flush, start_tile_binning, increment_semaphore, indexed_primitive_list, array_primitive_list, gl_shader_state, tile_binning_mode}
 use Rattle.bin_list.specs.Rules.{given_of, flush_questions, start_questions, increment_questions, primitive_questions, index_buffer, indexes_end, index_questions, array_questions, state_questions, config_questions, kind_questions, cut_questions, packet_questions, end_questions, questions_of_packets, questions_of, bin_questions}
 use Rattle.bin_list.specs.{declared.fault.ListFault.ListFault, declared.rule.BinRule.BinRule, declared.seen.Seen.Seen, Faults.fault}
 use Rattle.bin_list.specs.declared.rule.BinRule.TheVariants.{NoIndexBuffer, IndexesOutside}
 use Rattle.bin_list.specs.{Packets.opcode, Packets.packets_passed, Seen.place, Seen.seen_before}
 use Rattle.job_format.specs.{declared.file.Frame.Frame, declared.file.Surface.Surface}
-use Rattle.render_list.specs.Surfaces.{size_in, buffer_size, is_unnamed, shape_questions, size_questions, surface_questions, frame_questions, whole_questions, surface_faults}
+use Rattle.render_list.specs.Surfaces.{buffer_size, is_unnamed, shape_questions, size_questions, surface_questions, frame_questions, whole_questions, surface_faults}
 use Rattle.render_list.specs.{declared.fault.RenderFault.RenderFault, Frame.surface_at, Frame.is_present}
 use Rattle.places_law.proofs.Tables.{AreAlike, data_same, size_same, each_same}
 
@@ -59,7 +59,7 @@ bin_same list declared t u handles alike =
     (asked_same list declared t u handles alike (packets_passed list))
 
 -- the size of what a handle names
-size_in_same : (t u : TableModel) → AreAlike t u → (number : Option ℕ) → size_in t number ≡ size_in u number
+pub size_in_same : (t u : TableModel) → AreAlike t u → (number : Option ℕ) → size_in t number ≡ size_in u number
 size_in_same t u alike None = refl
 size_in_same t u alike (Some number) = size_same t u alike number
 

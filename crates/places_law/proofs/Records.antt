@@ -6,19 +6,17 @@ use Rattle.qpu_isa.specs.Shader.{ShaderModel, sample_at}
 use Rattle.packets.specs.StateWord.{attribute_count}
 use Rattle.emitted_facts.specs.Records.{attribute_size, attribute_stride, is_single, address_word}
 use Rattle.shader_records.specs.declared.rule.RecordRule.TheVariants.{NoCode, NoData, ThreadsDisagree, ThreadedVertex, CodeWordSet, AttributeOutside, VertexOutside, NoTexture}
-use Rattle.shader_records.specs.Sources.{state_at, handles_size, source_size, record_source, uniform_source, code_number, attribute_number, shader_behind, shader_used, is_threaded, taken_by, taken_before, record_word, sample_number, source_word, size_in}
+use Rattle.shader_records.specs.Sources.{state_at, handles_size, source_size, record_source, uniform_source, code_number, attribute_number, shader_behind, shader_used, is_threaded, taken_by, taken_before, record_word, sample_number, source_word}
 use Rattle.shader_records.specs.Rules.{cut_questions, code_questions, handle_questions, disagrees, fixed_questions, is_attribute_past, has_vertex_past, attribute_questions, names_questions, body_questions, record_questions, setup_questions, first_word_at, sample_questions, use_questions, shader_questions, state_questions, all_questions}
 use Rattle.shader_records.specs.{declared.fault.RecordFault.RecordFault, Inputs.InputModel}
 use Rattle.shader_records.specs.Faults.{number_of, record_fault, uniform_fault, sample_fault}
 use Rattle.places_law.proofs.Tables.{AreAlike, data_same, code_same, size_same, each_same}
+use Rattle.places_law.proofs.Lists.{size_in_same}
+use Rattle.buffer_table.specs.Handles.{size_in}
 
 -- the input with this table
 abbrev pub put : InputModel → TableModel → InputModel
 put x table = record { states = x.states; records = x.records; uniforms = x.uniforms; table = table; handles = x.handles; shaders = x.shaders }
-
-size_in_same : (t u : TableModel) → AreAlike t u → (number : Option ℕ) → size_in t number ≡ size_in u number
-size_in_same t u alike None = refl
-size_in_same t u alike (Some number) = size_same t u alike number
 
 code_number_same : (x : InputModel) (t u : TableModel) → AreAlike t u → (at s : ℕ) → code_number (put x t) at s ≡ code_number (put x u) at s
 unfolding code_number

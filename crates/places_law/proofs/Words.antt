@@ -9,6 +9,7 @@ use Rattle.job_format.specs.Offsets.{header_size, entry_size, buffer_count, entr
 use Rattle.job_format.specs.Text.{buffer_text, kind_number}
 use Rattle.places_law.specs.Moved.{placeless, AreMoved}
 use Rattle.places_law.proofs.Tables.{count_placeless}
+use Rattle.job_format.proofs.Only.{buffer_long}
 
 -- behind the first of two lists
 pub drop_past : (m k : ℕ) (one two : List ℕ) → length one ≡ m → drop (m + k) (one ++ two) ≡ drop k two
@@ -35,10 +36,6 @@ entry_past m k one other a b long also same = record {
   content = read_past m k 16 one a long ∙ (same.content ∙ sym (read_past m k 16 other b also));
 }
 
-pub entry_long : (b : Buffer) → length (buffer_text b) ≡ 20
-unfolding buffer_text
-entry_long b = refl
-
 entry_first : (b c : Buffer) (x y : List ℕ) → placeless b ≡ placeless c → SameEntry (buffer_text b ++ x) (buffer_text c ++ y) 0
 unfolding u32_at buffer_text
 entry_first b c x y same = record {
@@ -51,7 +48,7 @@ entry_first b c x y same = record {
 pub flat_long : (buffers : List Buffer) → length (flat_map buffer_text buffers) ≡ 20 * length buffers
 flat_long [] = refl
 flat_long (b ∷ buffers) =
-    length-append (buffer_text b) (flat_map buffer_text buffers) ∙ omega (arith, entry_long b, flat_long buffers)
+    length-append (buffer_text b) (flat_map buffer_text buffers) ∙ omega (arith, buffer_long b, flat_long buffers)
 
 head_same : (b c : Buffer) (bs cs : List Buffer) → (placeless c ∷ map placeless cs) ≡ (placeless b ∷ map placeless bs) → placeless c ≡ placeless b
 head_same b c bs cs same = cc
@@ -71,7 +68,7 @@ entries_same (b ∷ bs) (c ∷ cs) tail (suc i) below same =
     let later = entries_same bs cs tail i (omega (arith, below)) (tail_same b c bs cs same) in
     rw (append_assoc (buffer_text b) (flat_map buffer_text bs) tail, append_assoc (buffer_text c) (flat_map buffer_text cs) tail)
     (subst (λ (at : ℕ). SameEntry (buffer_text b ++ (flat_map buffer_text bs ++ tail)) (buffer_text c ++ (flat_map buffer_text cs ++ tail)) at) e
-    (entry_past 20 (20 * i) (buffer_text b) (buffer_text c) (flat_map buffer_text bs ++ tail) (flat_map buffer_text cs ++ tail) (entry_long b) (entry_long c) later))
+    (entry_past 20 (20 * i) (buffer_text b) (buffer_text c) (flat_map buffer_text bs ++ tail) (flat_map buffer_text cs ++ tail) (buffer_long b) (buffer_long c) later))
 
 -- Two lists of bytes that are read alike: the header, each entry but for its place, and all that follows.
 pub record ReadAlike (a b : List ℕ) (n : ℕ) : Type 0 where

@@ -9,7 +9,7 @@ use Rattle.packets.specs.declared.packet.Packet.TheVariants.{StoreFullResolution
 use Rattle.packets.specs.declared.packet.Packet.TheVariants.{TileRenderingMode, ClearColors, TileCoordinates}
 use Rattle.packets.specs.{declared.config.Config.Config, Config.config_in, Opcode.tile_binning_mode, Opcode.indexed_primitive_list}
 use Rattle.packets.specs.{Opcode.array_primitive_list, declared.packet.Packet.Packet}
-use Rattle.bin_list.specs.Packets.{opcode}
+use Rattle.bin_list.specs.Packets.{opcode, draws}
 use Rattle.qpu_isa.specs.Terms.{is_branch, target_of, writes_s}
 use Rattle.shader_flow.specs.{Bounded.some_below, Flow.word, Flow.end_of, Flow.checked_of}
 use Rattle.machine_plan.specs.{Choice.word_at, Others.Happening, Others.Steps, Others.Changes}
@@ -65,9 +65,6 @@ unfoldable pub work_steps : ℕ → Work → ℕ
 work_steps w k = (k.primitive.length - k.done) + (1 + w) * programs_left k + 1
 
 -- a packet of a binner list takes one step, and those for the primitive that it draws
-unfoldable pub draws : List ℕ → Bool
-draws packet = opcode packet == indexed_primitive_list || opcode packet == array_primitive_list
-
 unfoldable pub packet_steps : ℕ → List ℕ → ℕ
 packet_steps w packet = 1 + (if draws packet then work_steps w (work_of 0 packet) else 0)
 

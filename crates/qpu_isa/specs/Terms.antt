@@ -108,6 +108,10 @@ tmu_writes word tmu = (if add_writes_tmu word tmu then 1 else 0) + (if mul_write
 unfoldable pub writes_s : ℕ → ℕ → Bool
 writes_s word tmu = names_address word (s_address tmu)
 
+-- signals 10 and 11 load a result of TMU 0 and 1
+unfoldable pub loads : ℕ → ℕ → Bool
+loads word tmu = sig_of word == 10 + tmu
+
 -- the unit writes either TMU
 unfoldable pub add_is_tmu : ℕ → Bool
 add_is_tmu word = not (is_branch word) && nat_le 56 (waddr_add_of word)

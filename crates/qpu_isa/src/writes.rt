@@ -5,13 +5,13 @@
 #![tactic(auto, unfolding(crate::proofs::Opened::terms))]
 
 ghost use Rattle.std.specs.Prelude.{◌≡◌, ◌<◌, ◌≤◌, ◌+◌, ◌*◌};
-ghost use Rattle.qpu_isa.specs.Terms.{add_names, mul_names, names_address, is_address_write, is_relative_address_write, names_forbidden, add_names_reg, mul_names_reg, names, is_accumulator, sets_alone, is_add_packed, is_mul_packed, reads_upper, names_upper, is_upper, reads_uniform_of, is_tmu_address, s_address, add_writes_tmu, mul_writes_tmu, tmu_writes, writes_tmu, writes_s, add_is_tmu, mul_is_tmu, has_two_tmu_writes, has_conditional_tmu_write};
+ghost use Rattle.qpu_isa.specs.Terms.{add_names, mul_names, names_address, is_address_write, is_relative_address_write, names_forbidden, add_names_reg, mul_names_reg, names, is_accumulator, sets_alone, is_add_packed, is_mul_packed, reads_upper, names_upper, is_upper, reads_uniform_of, is_tmu_address, s_address, add_writes_tmu, mul_writes_tmu, tmu_writes, writes_tmu, writes_s, loads, add_is_tmu, mul_is_tmu, has_two_tmu_writes, has_conditional_tmu_write};
 ghost use Rattle.qpu_isa.specs.Setups.{adds_direct, muls_direct, is_direct, adds_setup, muls_setup, has_setup, takes_with};
 ghost use Rattle.qpu_isa.specs.Report.{IsRegister};
 
 use crate::inst::Reg;
 use crate::word::{
-    cond_add, cond_mul, has_small, is_alu, is_branch, pack, pm, raddr_a, raddr_b, waddr_add,
+    cond_add, cond_mul, has_small, is_alu, is_branch, pack, pm, raddr_a, raddr_b, sig, waddr_add,
     waddr_mul, ws,
 };
 
@@ -231,6 +231,15 @@ pub fn writes_s(word: u64, tmu: u8) -> bool
     ensures { result ≡ writes_s word tmu }
 {
     names_address(word, 56 + 4 * tmu)
+}
+
+/// Whether the instruction loads a result of this TMU.
+#[tactic(auto, unfolding(crate::specs::Terms::loads))]
+pub fn loads(word: u64, tmu: u8) -> bool
+    requires { tmu < 2 }
+    ensures { result ≡ loads word tmu }
+{
+    sig(word) == 10 + tmu
 }
 
 /// Whether the add unit writes a TMU.

@@ -17,7 +17,7 @@ idle_quiet = record { branch = refl; switch = refl; end = refl; address = refl }
 idle_blank : (code : List ℕ) (k : ℕ) → 0 < k → IsBlank code 0 k idle
 idle_blank code k some = record { root = 0; is = inl refl; from = omega arith; near = omega (arith, some); quiet = idle_quiet; leads = refl }
 
-none_made : (code : List ℕ) (j : ℕ) → j < 0 → ⊥
+pub none_made : (code : List ℕ) (j : ℕ) → j < 0 → ⊥
 none_made code j before = omega (arith, before)
 
 pub starts_stand_law : StartsStand

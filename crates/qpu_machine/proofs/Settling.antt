@@ -6,9 +6,9 @@ use Rattle.arrayvec.specs.ArrayVec.{ArrayVec}
 use Rattle.field_words.specs.Words.{u32_at}
 use Rattle.machine_plan.specs.{Memory.bytes_at, Plan.outcome_of, Turn.CarriesOver, Turn.if_tame, Glance.glance_result}
 use Rattle.machine_plan.proofs.Worlds.{shows_mapped}
-use Rattle.qpu_isa.specs.Terms.{writes_s}
+use Rattle.qpu_isa.specs.Terms.{writes_s, loads}
 use Rattle.qpu_machine.specs.State.{Access, Ask, Asked, Ends, Fate, GoesOn, Leaves, Qpu, Request, Switches, Thread, Who}
-use Rattle.qpu_machine.specs.Writes.{awake, past_uniform, written_at, after_add, after_multiply, after_writes, after_setup, after_load, went_on, after_work, after_rest, results_after, ask_made, ask_of, loads}
+use Rattle.qpu_machine.specs.Writes.{awake, past_uniform, written_at, after_add, after_multiply, after_writes, after_setup, after_load, went_on, after_work, after_rest, results_after, ask_made, ask_of}
 use Rattle.qpu_machine.specs.Step.{ThreadTurn, turn_of, executed_with, turn_executed, thread_plan, is_held_by, is_held, thread_ready}
 use Rattle.qpu_machine.specs.Qpu.{active_of, job_of_thread, resting_of, is_of, queue_count, ready_by, qpu_ready, left_by, kept_by, gives_way, woken_slot, queue_with, after_turn, with_active, left_slot, gives_way_by, asked_by, settled_by, went, after_stop, plan_by, qpu_plan, stopped_by, qpu_stopped}
 use Rattle.qpu_machine.specs.{Operands.add_row, Operands.mul_row, Wild.takes_one, Wild.is_wild}

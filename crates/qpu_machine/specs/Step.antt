@@ -2,10 +2,10 @@
 use Rattle.std.specs.Prelude.{ℕ, ◌+◌, ◌==◌, ◌&&◌, ◌||◌, not, Bool, nat_le, if◌then◌else◌, List, length, Option, option_map}
 use Rattle.std.specs.Int.{from_le_bytes, w64}
 use Rattle.field_words.specs.Words.{u32_at}
-use Rattle.qpu_isa.specs.Terms.{writes_s}
+use Rattle.qpu_isa.specs.Terms.{writes_s, loads}
 use Rattle.machine_plan.specs.{Plan.Plan, Plan.Done, Plan.Wilds, Plan.Reads, Glance.Glance, Glance.Now, Glance.At}
 use Rattle.qpu_machine.specs.{State.Leaves, State.Thread, Operands.add_row, Operands.mul_row, Wild.takes_one, Wild.is_wild}
-use Rattle.qpu_machine.specs.Writes.{awake, past_uniform, after_work, fate_of, after_rest, ask_made, loads}
+use Rattle.qpu_machine.specs.Writes.{awake, past_uniform, after_work, fate_of, after_rest, ask_made}
 
 -- what an instruction comes to: the thread after it, a request that it made, and the thread's fate
 pub record ThreadTurn : Type 0 where

@@ -1,7 +1,7 @@
 -- What an instruction writes, field by field of the thread.
 use Rattle.std.specs.Prelude.{ℕ, ◌+◌, ◌-◌, ◌%◌, ◌^◌, ◌==◌, ◌&&◌, ◌||◌, not, Bool, true, false, nat_lt, nat_le, if◌then◌else◌, List, [], ◌∷◌, ◌++◌, drop, length, Option, Some, None, slice_index, slice_index_or, slice_set, unwrap_or}
 use Rattle.qpu_isa.specs.Word.{sig_of, ws_of, waddr_add_of, waddr_mul_of, cond_add_of, cond_mul_of, cond_of, imm_of}
-use Rattle.qpu_isa.specs.{Terms.is_branch, Terms.is_switch, Terms.is_end, Terms.add_names, Terms.writes_s, Terms.s_address, Setups.setups_kept}
+use Rattle.qpu_isa.specs.{Terms.is_branch, Terms.is_switch, Terms.is_end, Terms.add_names, Terms.writes_s, Terms.s_address, Setups.setups_kept, Terms.loads}
 use Rattle.machine_plan.specs.Choice.{word_at}
 use Rattle.qpu_machine.specs.State.{Ask, Asked, Direct, Ends, Fate, GoesOn, Switches, Texture, Thread}
 use Rattle.qpu_machine.specs.Row.{chosen_row, chosen_rows, has_lane, rows_merged, mask_of}
@@ -63,10 +63,6 @@ after_setup word uniform t = record t {
   setups0 = record { items = setups_kept word 0 uniform t.setups0.items };
   setups1 = record { items = setups_kept word 1 uniform t.setups1.items };
 }
-
--- signals 10 and 11 load from TMU 0 and 1
-unfoldable pub loads : ℕ → ℕ → Bool
-loads word tmu = sig_of word == 10 + tmu
 
 -- r4 after a load of the oldest of these results: a direct one's words, else free
 unfoldable pub loaded_row : List (Option (List ℕ)) → List ℕ → List ℕ

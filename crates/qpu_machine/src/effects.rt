@@ -2,8 +2,8 @@
 ghost use Rattle.std.specs.Prelude.{◌≡◌, ◌<◌, ◌≤◌, ◌+◌, ◌++◌, ◌∷◌, [], ◌^◌, true, slice_index};
 ghost use Rattle.arrayvec.specs.ArrayVec.{array_vec_len};
 ghost use Rattle.qpu_isa.specs.Setups.{setups_kept};
-ghost use Rattle.qpu_isa.specs.Terms.{writes_tmu};
-ghost use Rattle.qpu_machine.specs.Writes.{awake, file_after, acc_after, written_at, after_add, after_multiply, loads, loaded_row, r4_after, results_after, after_load, went_on, after_work, fate_of, ask_of, ask_made};
+ghost use Rattle.qpu_isa.specs.Terms.{writes_tmu, loads};
+ghost use Rattle.qpu_machine.specs.Writes.{awake, file_after, acc_after, written_at, after_add, after_multiply, loaded_row, r4_after, results_after, after_load, went_on, after_work, fate_of, ask_of, ask_made};
 
 use crate::lanes::{chosen_row, chosen_rows, has_lane, mask_of, merged};
 use crate::state::{Ask, Asked, Fate, Mark, Row, Thread};
@@ -12,7 +12,7 @@ use machine_plan::Choices;
 use qpu_isa::word::{
     cond, cond_add, cond_mul, imm, is_branch, is_end, is_switch, sig, waddr_add, waddr_mul, ws,
 };
-use qpu_isa::writes::{add_names, writes_s, writes_tmu};
+use qpu_isa::writes::{add_names, loads, writes_s, writes_tmu};
 
 /// What the two units compute: the add unit's sum and the multiply unit's product.
 #[derive(Drop)]
@@ -121,15 +121,6 @@ fn keep(word: u64, tmu: u8, uniform: u32, setups: &mut ArrayVec<u32, 4>)
     }
 }
 
-/// Whether the instruction loads from this TMU.
-#[tactic(auto, unfolding(crate::specs::Writes::loads))]
-pub(crate) fn loads(word: u64, tmu: u8) -> bool
-    requires { tmu < 2 }
-    ensures { result ≡ loads word tmu }
-{
-    sig(word) == 10 + tmu
-}
-
 // r4 after a load of the oldest of these results.
 #[tactic(auto, unfolding(crate::specs::Writes::loaded_row))]
 fn loaded_row<C: Choices>(results: &ArrayVec<Option<Row>, 8>, words: &C) -> Row
@@ -165,7 +156,7 @@ fn load_r4<C: Choices>(
 }
 
 // The results that are left.
-#[tactic(auto, using(crate::proofs::Results::remove_first, crate::proofs::Results::drop_none), unfolding(crate::specs::Writes::results_after))]
+#[tactic(auto, using(field_words::proofs::Lists::remove_first, field_words::proofs::Lists::drop_none), unfolding(crate::specs::Writes::results_after))]
 fn take(taken: bool, results: &mut ArrayVec<Option<Row>, 8>)
     ensures { results.new.items ≡ results_after taken results.old.items }
 {

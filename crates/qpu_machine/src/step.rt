@@ -12,7 +12,7 @@ ghost use Rattle.qpu_machine.specs.Wild.{is_wild, takes_one};
 ghost use Rattle.qpu_machine.specs.Writes.{past_uniform};
 ghost use Rattle.qpu_machine.specs.Step.{turn_executed, word_plan, thread_plan, is_held_by, is_held, thread_ready, turn_taken};
 
-use crate::effects::{Values, asked, fate_of, loads, wake, work};
+use crate::effects::{Values, asked, fate_of, wake, work};
 use crate::operands::{add_row, mul_row};
 use crate::reads::{instruction_at, read_word};
 use crate::state::{Fate, Leaves, Thread};
@@ -20,7 +20,7 @@ use crate::wild::{is_wild, takes_one};
 use field_words::Way;
 use machine_plan::{Accesses, Choices, Reader, list_access};
 use phys_mem::PhysMem;
-use qpu_isa::writes::writes_s;
+use qpu_isa::writes::{loads, writes_s};
 
 // Executes an instruction, with the uniform that it took.
 #[tactic(auto, unfolding(crate::specs::Step::turn_executed, crate::specs::Step::executed_with, crate::specs::Writes::after_rest))]

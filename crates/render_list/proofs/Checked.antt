@@ -2,10 +2,10 @@
 use Rattle.std.proofs.Common.{◌≡◌, ℕ, zero, suc, ◌+◌, ◌*◌, ◌<◌, ◌≤◌, Bool, true, false, ◌||◌, nat_lt, List, [], ◌∷◌, ◌++◌, Option, Some, None, is_some, if◌then◌else◌, refl, ap, arith, ◌∙◌, lit<}
 use Rattle.field_words.specs.Questions.{Question, first_of, each}
 use Rattle.field_words.proofs.{Questions.none_broken, Nones.front_none, Nones.rest_none, Nones.each_none}
-use Rattle.buffer_table.specs.{Table.TableModel, Table.buffer_at, Table.most_place, Handles.data_of}
+use Rattle.buffer_table.specs.{Table.TableModel, Table.buffer_at, Table.most_place, Handles.data_of, Handles.size_in}
 use Rattle.job_format.specs.{declared.file.Frame.Frame, declared.file.Surface.Surface}
 use Rattle.render_list.specs.Frame.{place_at, surface_at, is_present, is_full, full_tile, full_place, FitsAt, IsTileSet, IsSetupFor}
-use Rattle.render_list.specs.Surfaces.{shape_questions, size_questions, surface_questions, buffer_size, size_in, has_unlisted_tiling, has_unlisted_format, is_unaligned, is_too_large, is_full_with_bits, is_too_large_full, surface_style, styled_size, plain_end, full_end, is_unnamed, is_reversed, frame_questions, whole_questions, surface_faults, place_in, place_behind}
+use Rattle.render_list.specs.Surfaces.{shape_questions, size_questions, surface_questions, buffer_size, has_unlisted_tiling, has_unlisted_format, is_unaligned, is_too_large, is_full_with_bits, is_too_large_full, surface_style, styled_size, plain_end, full_end, is_unnamed, is_reversed, frame_questions, whole_questions, surface_faults, place_in, place_behind}
 
 if_true : {F : Type 0} → (b : Bool) (questions : List (Question F)) → b ≡ true → first_of (if b then questions else []) ≡ None → first_of questions ≡ None
 if_true true questions stands none = none

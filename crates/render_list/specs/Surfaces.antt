@@ -3,7 +3,7 @@
 use Rattle.std.specs.Prelude.{ℕ, ◌+◌, ◌-◌, ◌*◌, ◌%◌, Bool, false, not, ◌&&◌, ◌||◌, nat_lt, nat_le, ◌==◌, bit_and, List, [], ◌∷◌, ◌++◌, map, Option, Some, None, is_some, if◌then◌else◌}
 use Rattle.std.specs.List.{range_with_len}
 use Rattle.field_words.specs.Questions.{Question, Ask, each}
-use Rattle.buffer_table.specs.{Table.TableModel, Table.buffer_at, Handles.data_of}
+use Rattle.buffer_table.specs.{Table.TableModel, Table.buffer_at, Handles.data_of, Handles.size_in}
 use Rattle.job_format.specs.{declared.file.Frame.Frame, declared.file.Surface.Surface}
 use Rattle.texture_layouts.specs.{declared.surface.Tiling.Tiling, declared.format.Style.Style, Surface.size_for}
 use Rattle.texture_layouts.specs.Format.{general_tiling, general_pixel, frame_tiling, frame_pixel, style_named}
@@ -97,11 +97,7 @@ has_unlisted_format k surface = not (is_full k surface) && not (is_some (surface
 unfoldable pub is_unaligned : Surface → Bool
 is_unaligned surface = not (surface.offset % 16 == 0)
 
--- the buffer that a surface lies in, and 0 bytes where it names none
-abbrev pub size_in : TableModel → Option ℕ → ℕ
-size_in table None = 0
-size_in table (Some number) = (buffer_at table.buffers number).size
-
+-- the bytes of the buffer that a surface lies in, 0 where it names none
 unfoldable pub buffer_size : TableModel → List ℕ → Surface → ℕ
 buffer_size table handles surface = size_in table (data_of table handles surface.hindex)
 

@@ -38,7 +38,7 @@ behind_packet K place end pending next semaphore after there upto packet packets
     record { bin = bin_behind K place end packet packets left.bin; go = (let go = left.go in go.1); render = left.render; meets = omega (arith, meets, more) }
 
 -- an opcode is no other
-other_than : (o k j : ℕ) → (o == k) ≡ true → (k == j) ≡ false → (o == j) ≡ false
+pub other_than : (o k j : ℕ) → (o == k) ≡ true → (k == j) ≡ false → (o == j) ≡ false
 other_than o k j is other = ap (λ x. x == j) (same o k is) ∙ other
 
 either_not : (o a b j : ℕ) (first second : Bool) → (o == a) ≡ first → (o == b) ≡ second → (first || second) ≡ true → (a == j) ≡ false → (b == j) ≡ false → (o == j) ≡ false

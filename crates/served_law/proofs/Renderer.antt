@@ -21,11 +21,11 @@ use Rattle.served_law.specs.{Known.ListsMeet, Known.JobMeets, Raises.waits_of, R
 use Rattle.served_law.proofs.Binner.{TurnedMeets}
 
 -- The renderer goes into a tile's list.
-enters : (who : Who) (P : Lists → Type 0) (s : Lists) (named : Option ℕ) (m : List ℕ) → ((inside : Option SubList) → P (with_inside s inside)) → Comes who P (enter_plan s named) m
+pub enters : (who : Who) (P : Lists → Type 0) (s : Lists) (named : Option ℕ) (m : List ℕ) → ((inside : Option SubList) → P (with_inside s inside)) → Comes who P (enter_plan s named) m
 enters who P s None m enter = tt
 enters who P s (Some tile) m enter = enter (Some (record { tile = tile; at = 0 }))
 
-branch_meets : (who : Who) (P : Lists → Type 0) (s : Lists) (address : ℕ) (m : List ℕ) → ((inside : Option SubList) → P (with_inside s inside)) → Comes who P (branch_plan s address) m
+pub branch_meets : (who : Who) (P : Lists → Type 0) (s : Lists) (address : ℕ) (m : List ℕ) → ((inside : Option SubList) → P (with_inside s inside)) → Comes who P (branch_plan s address) m
 unfolding branch_plan
 branch_meets who P s address m enter =
     keeps_if who AnyLook AnyAccess (λ k next. P next) m s.closed (enter_plan s (tile_by s.binner.kept.config address)) Wilds (λ on. enters who P s (tile_by s.binner.kept.config address) m enter) (λ off. tt)

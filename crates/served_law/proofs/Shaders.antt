@@ -3,10 +3,10 @@ use Rattle.std.proofs.Common.{◌≡◌, ◌≤◌, ◌<◌, inl, inr, ℕ, zero
 use Rattle.std.proofs.lemmas.{Bool.eq-eqb, Bool.false_from_ne_true, Bool.or_parts, Bool.true≢false, Grind.common_steps, Bool.Decides.nat_tests}
 use Rattle.std.specs.Prelude.{nat_le}
 use Rattle.qpu_isa.specs.{Word.waddr_add_of, Word.waddr_mul_of}
-use Rattle.qpu_isa.specs.Terms.{is_branch, writes_s, s_address, names_address, add_names, mul_names, add_is_tmu, mul_is_tmu, has_two_tmu_writes}
+use Rattle.qpu_isa.specs.Terms.{is_branch, writes_s, s_address, names_address, add_names, mul_names, add_is_tmu, mul_is_tmu, has_two_tmu_writes, loads}
 use Rattle.shader_flow.specs.{Flow.word, Flow.end_of, Flow.checked_of, Flow.is_target}
 use Rattle.shader_flow.proofs.Bounded.{some_below_not}
-use Rattle.qpu_machine.specs.{Writes.loads, declared.state.Thread.Thread}
+use Rattle.qpu_machine.specs.{declared.state.Thread.Thread}
 use Rattle.qpu_law.specs.Home.{Home, HasNoFault, Jumps, GoesTo}
 use Rattle.uniform_stream.specs.Rules.{s20}
 use Rattle.qpu_law.proofs.Going.{behind, fine_at, in_checked, makes_on, target_inside}

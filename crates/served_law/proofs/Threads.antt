@@ -3,13 +3,13 @@ use Rattle.std.proofs.Common.{◌≡◌, ◌≢◌, ◌≤◌, ◌<◌, ℕ, zer
 use Rattle.std.proofs.{lemmas.Bool.not-true, lemmas.Bool.or_from, lemmas.Bool.or_parts, lemmas.Bool.true≢false, lemmas.Grind.common_steps}
 use Rattle.std.proofs.lemmas.Bool.Decides.{nat_tests}
 use Rattle.std.specs.{Int.from_le_bytes, Int.w64, Prelude.nat_le, Prelude.drop}
-use Rattle.qpu_isa.specs.Terms.{writes_s}
+use Rattle.qpu_isa.specs.Terms.{writes_s, loads}
 use Rattle.shader_flow.specs.Flow.{word, end_of, checked_of}
 use Rattle.uniform_stream.specs.Rules.{s20}
 use Rattle.machine_plan.specs.{declared.launch.Launch.Launch, declared.who.Who.Who, Glance.glance_result, Memory.bytes_at}
 use Rattle.machine_plan.specs.{Regions.Rights, Regions.rights_of}
 use Rattle.qpu_machine.specs.Step.{ThreadTurn, turn_executed, executed_with, thread_plan, is_held_by, is_held, thread_ready}
-use Rattle.qpu_machine.specs.Writes.{awake, after_rest, after_work, went_on, after_load, after_setup, after_writes, after_multiply, after_add, written_at, ask_of, ask_made, loads, results_after}
+use Rattle.qpu_machine.specs.Writes.{awake, after_rest, after_work, went_on, after_load, after_setup, after_writes, after_multiply, after_add, written_at, ask_of, ask_made, results_after}
 use Rattle.qpu_machine.specs.{declared.state.Asked.Asked, Operands.add_row, Operands.mul_row, declared.state.Fate.TheVariants.Ends}
 use Rattle.qpu_machine.specs.{declared.state.Thread.Thread, Start.thread_of}
 use Rattle.qpu_law.specs.{Home.turn_done, Home.thread_readied, Thread.IsHome}

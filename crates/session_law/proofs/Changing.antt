@@ -1,5 +1,5 @@
 -- One slot changes, with the pages that it has or gets: all others stay as they are.
-use Rattle.overflow_slots.proofs.Searches.{equal, apart_by}
+use Rattle.overflow_slots.proofs.Searches.{apart_by}
 use Rattle.job_session.proofs.Held.{held_some}
 use Rattle.session_law.proofs.Bytes.{is_within, window_same}
 use Rattle.std.proofs.Common.{ne_eqb, ◌≡◌, ◌⊎◌, inl, inr, ℕ, ◌+◌, ◌*◌, ◌/◌, ◌%◌, ◌<◌, ◌≤◌, ◌==◌, ◌&&◌, not, nat_lt, Bool, true, false, if◌then◌else◌, List, slice_index, Option, Some, None, arith, refl, sym, ◌∙◌, ap, subst}
@@ -11,6 +11,7 @@ use Rattle.job_session.specs.Desk.{Desk, slot_count, slot_of, first_page, page_t
 use Rattle.job_session.specs.{Own.Held, Own.most_buffers, Own.with_buffer, Places.Place, Places.covers, Places.is_used}
 use Rattle.job_session.specs.Session.{Past, with_own}
 use Rattle.session_law.specs.Agree.{IsKey, IsSized, place_in, owner_at, client_count, AreListed, Agrees}
+use Rattle.std.proofs.lemmas.Bool.{eqb-true}
 
 pub slot_below : (client id : ℕ) → IsKey client id → slot_of client id < slot_count
 slot_below client id key = omega (arith, key.known, key.small)
@@ -139,7 +140,7 @@ own_id : (past : Past) (desk left : Desk) (client id first pages i : ℕ) (x : O
     → IsKey client id → held_in left client id ≡ x → (b : Bool) → (i == id) ≡ b
     → (if b then x else past.own client i) ≡ held_in left client i
 own_id past desk left client id first pages i x agrees change key new true is =
-    rw (equal i id is) (sym new)
+    rw (eqb-true i id is) (sym new)
 own_id past desk left client id first pages i x agrees change key new false is =
     ap (λ (own : ℕ → Option Held). own i) (agrees.held client key.known)
     ∙ sym (other_held past desk left client id first pages client i agrees change key key.known (λ c e. apart_by i id is e))
@@ -148,7 +149,7 @@ own_client : (past : Past) (desk left : Desk) (client id first pages c : ℕ) (x
     → IsKey client id → held_in left client id ≡ x → c < client_count → (b : Bool) → (c == client) ≡ b
     → (if b then with_buffer (past.own client) id x else past.own c) ≡ held_in left c
 own_client past desk left client id first pages c x agrees change key new known true is =
-    rw (equal c client is) (λ p i. own_id past desk left client id first pages i x agrees change key new (i == id) refl p)
+    rw (eqb-true c client is) (λ p i. own_id past desk left client id first pages i x agrees change key new (i == id) refl p)
 own_client past desk left client id first pages c x agrees change key new known false is =
     agrees.held c known
     ∙ (λ p i. sym (other_held past desk left client id first pages c i agrees change key known (λ e j. apart_by c client is e)) p)
@@ -168,7 +169,7 @@ left_owned : (past : Past) (desk left : Desk) (client id first pages c i page : 
     → IsKey client id → IsKey c i → page < page_count → (b : Bool) → (slot_of c i == slot_of client id) ≡ b
     → covers (place_in left c i) page ≡ (owner_at left page == slot_of c i + 1)
 left_owned past desk left client id first pages c i page agrees change key other inside true is =
-    let both = same_slot client id c i key other (equal (slot_of c i) (slot_of client id) is) in
+    let both = same_slot client id c i key other (eqb-true (slot_of c i) (slot_of client id) is) in
     rw (both.0, both.1) (change.here page inside)
 left_owned past desk left client id first pages c i page agrees change key other inside false is =
     let apart : c ≡ client → i ≡ id → ⊥ = λ e j. apart_by (slot_of c i) (slot_of client id) is (omega (arith, e, j)) in

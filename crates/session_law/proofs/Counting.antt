@@ -1,5 +1,4 @@
 -- A client's buffers have no more pages than there are.
-use Rattle.overflow_slots.proofs.Searches.{equal}
 use Rattle.std.proofs.Common.{◌≡◌, ℕ, zero, suc, ◌+◌, ◌-◌, ◌<◌, ◌≤◌, ◌==◌, ◌&&◌, ◌||◌, min, Bool, true, false, if◌then◌else◌, arith, refl, sym, ◌∙◌, ap}
 use Rattle.std.proofs.lemmas.Bool.Decides.{nat_tests}
 use Rattle.overflow_slots.specs.Search.{count_where}
@@ -8,6 +7,7 @@ use Rattle.job_session.specs.{Own.most_buffers, Places.covers, Session.Past, Des
 use Rattle.session_law.specs.Agree.{IsKey, client_count, place_in, owner_at, Agrees}
 use Rattle.session_law.proofs.Bytes.{is_within}
 use Rattle.session_law.proofs.Changing.{slot_below}
+use Rattle.std.proofs.lemmas.Bool.{eqb-true}
 
 -- how many pages the buffers of n ids from one on have, and whether one of them has the page
 unfoldable pub pages_sum : Desk → ℕ → ℕ → ℕ → ℕ
@@ -60,8 +60,8 @@ pub slots_clash : (past : Past) (desk : Desk) (client id other page : ℕ) → A
 slots_clash past desk client id other page agrees key too apart inside one two =
     let ours : (owner_at desk page == slot_of client id + 1) ≡ true = sym (agrees.owned client id page key inside) ∙ one in
     let theirs : (owner_at desk page == slot_of client other + 1) ≡ true = sym (agrees.owned client other page too inside) ∙ two in
-    let first = equal (owner_at desk page) (slot_of client id + 1) ours in
-    let second = equal (owner_at desk page) (slot_of client other + 1) theirs in
+    let first = eqb-true (owner_at desk page) (slot_of client id + 1) ours in
+    let second = eqb-true (owner_at desk page) (slot_of client other + 1) theirs in
     omega (arith, first, second, apart)
 
 later_by : (past : Past) (desk : Desk) (client id other n page : ℕ) → Agrees past desk → IsKey client id → IsKey client other → id < other → page < page_count

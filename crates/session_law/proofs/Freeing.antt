@@ -1,5 +1,5 @@
 -- A buffer's pages are given back.
-use Rattle.overflow_slots.proofs.Searches.{equal, apart_by}
+use Rattle.overflow_slots.proofs.Searches.{apart_by}
 use Rattle.session_law.proofs.Bytes.{is_within, is_inside, within_none, held_inside, held_outside, length_held, written_apart, zero_at}
 use Rattle.job_session.proofs.Held.{held_none}
 use Rattle.std.proofs.Common.{ne_eqb, ◌≡◌, inl, inr, ℕ, ◌+◌, ◌-◌, ◌*◌, ◌<◌, ◌≤◌, ◌==◌, ◌&&◌, not, Bool, true, false, List, length, slice_index, slice_set, None, arith, refl, sym, ◌∙◌, ap, subst}
@@ -12,6 +12,7 @@ use Rattle.job_session.specs.Desk.{Desk, SlotsFit, slot_count, slot_of, first_pa
 use Rattle.session_law.specs.Agree.{IsKey, IsSized, place_in, owner_at, Agrees}
 use Rattle.session_law.proofs.Changing.{IsChange, change_agrees, slot_below, same_slot}
 use Rattle.session_law.proofs.{Listing.listed_without, Listing.used_without, Writing.own_page, Writing.room_in, Writing.before_page}
+use Rattle.std.proofs.lemmas.Bool.{eqb-true}
 
 -- the desk without the slot's buffer
 abbrev pub freed_at : Desk → ℕ → ℕ → Desk
@@ -26,7 +27,7 @@ fits_by : (firsts counts : List ℕ) (slot other : ℕ) → SlotsFit firsts coun
     → (b : Bool) → (other == slot) ≡ b → slice_index firsts other + slice_index (slice_set counts slot 0) other ≤ page_count
 fits_by firsts counts slot other fits long inside below true is =
     let before = fits slot inside in
-    rw (equal other slot is, get_or-set_same counts slot 0 0 (omega arith)) (omega (arith, before))
+    rw (eqb-true other slot is, get_or-set_same counts slot 0 0 (omega arith)) (omega (arith, before))
 fits_by firsts counts slot other fits long inside below false is =
     rw (get_or-set_other counts slot other 0 0 (apart_by other slot is)) (fits other below)
 

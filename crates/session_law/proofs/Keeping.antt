@@ -1,5 +1,4 @@
 -- Buffers lie in their places, and all other pages are zero.
-use Rattle.overflow_slots.proofs.Searches.{equal}
 use Rattle.std.proofs.Common.{◌≡◌, ℕ, zero, suc, ◌+◌, ◌*◌, ◌<◌, ◌≤◌, ◌==◌, ◌||◌, not, Bool, true, false, List, [], ◌∷◌, length, slice_index_or, Option, Some, None, arith, refl, sym, ◌∙◌, ap, subst}
 use Rattle.std.proofs.lemmas.Bool.Decides.{nat_tests}
 use Rattle.std.specs.List.{Contains}
@@ -13,6 +12,7 @@ use Rattle.session_law.specs.{History.desk_left, History.past_left, Kept.LiesAt,
 use Rattle.session_law.proofs.Bytes.{within_yes, window_length}
 use Rattle.session_law.proofs.{Changing.same_slot, Changing.slot_below, Changing.held_live, Listing.listed_some, Answering.histories_agree}
 use Rattle.session_law.proofs.{Writing.own_page, Writing.room_in, Outcomes.live_key, Outcomes.live_held, Outcomes.dead_held}
+use Rattle.std.proofs.lemmas.Bool.{eqb-true}
 
 -- some place covers a used page
 record Covering (desk : Desk) (places : List Place) (page : ℕ) : Type 0 where
@@ -72,7 +72,7 @@ own_cover : (past : Past) (desk : Desk) (client id page : ℕ) (place : Place) �
 own_cover past desk client id page place agrees key inside ours listed cover =
     let theirs : (owner_at desk page == slot_of place.client place.id + 1) ≡ true =
     sym (agrees.owned place.client place.id page listed.key inside) ∙ (ap (λ (p : Place). covers p page) listed.is ∙ cover) in
-    let second = equal (owner_at desk page) (slot_of place.client place.id + 1) theirs in
+    let second = eqb-true (owner_at desk page) (slot_of place.client place.id + 1) theirs in
     same_slot client id place.client place.id key listed.key (omega (arith, ours, second))
 
 found_place : (past : Past) (desk : Desk) (client id : ℕ) (place : Place) → Agrees past desk → IsKey client id → Contains past.places place → IsListed desk place
@@ -134,7 +134,7 @@ one_place : (past : Past) (desk : Desk) (one other : Place) (page : ℕ) → Agr
 one_place past desk one other page agrees listed also inside cover covered =
     let ours : (owner_at desk page == slot_of one.client one.id + 1) ≡ true =
     sym (agrees.owned one.client one.id page listed.key inside) ∙ (ap (λ (p : Place). covers p page) listed.is ∙ cover) in
-    let both = own_cover past desk one.client one.id page other agrees listed.key inside (equal (owner_at desk page) (slot_of one.client one.id + 1) ours) also covered in
+    let both = own_cover past desk one.client one.id page other agrees listed.key inside (eqb-true (owner_at desk page) (slot_of one.client one.id + 1) ours) also covered in
     let client_back = sym both.0 in
     let id_back = sym both.1 in
     sym listed.is ∙ ((λ p. place_in desk (client_back p) (id_back p)) ∙ also.is)

@@ -13,7 +13,8 @@ use Rattle.job_format.specs.Reading.{kind_of, entry_at, buffers_at, regions_at, 
 use Rattle.job_check.specs.Faults.{table_refused, table_stage, table_stage_within}
 use Rattle.session_pages.specs.Map.{first_place, memory_size}
 use Rattle.job_session.specs.Submit.{header_of}
-use Rattle.places_law.proofs.Words.{read_past, drop_past, entry_long}
+use Rattle.places_law.proofs.Words.{read_past, drop_past}
+use Rattle.job_format.proofs.Only.{buffer_long}
 
 -- a buffer of whole pages behind the tile slot
 pub record IsWellPlaced (b : Buffer) : Type 0 where
@@ -201,7 +202,7 @@ entries_back (b ∷ buffers) tail (suc i) laid below =
     let e : 20 + 20 * i ≡ 20 * suc i = omega arith in
     rw (append_assoc (buffer_text b) (flat_map buffer_text buffers) tail)
     (ap (λ (at : ℕ). entry_at (buffer_text b ++ (flat_map buffer_text buffers ++ tail)) at) (sym e)
-    ∙ (entry_past 20 (20 * i) (buffer_text b) (flat_map buffer_text buffers ++ tail) (entry_long b)
+    ∙ (entry_past 20 (20 * i) (buffer_text b) (flat_map buffer_text buffers ++ tail) (buffer_long b)
     ∙ entries_back buffers tail i laid.2 (omega (arith, below))))
 
 range_is : (read : ℕ → Buffer) (from : ℕ) (buffers : List Buffer) → ((i : ℕ) → i < length buffers → read (from + i) ≡ buffer_at buffers i)

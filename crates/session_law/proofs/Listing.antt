@@ -1,5 +1,4 @@
 -- The list of places, when one slot changes.
-use Rattle.overflow_slots.proofs.Searches.{equal}
 use Rattle.std.proofs.Common.{eq-eqb, ◌≡◌, ℕ, ◌+◌, ◌<◌, ◌≤◌, ◌==◌, ◌&&◌, ◌||◌, not, Bool, true, false, if◌then◌else◌, List, [], ◌∷◌, arith, refl, sym, ◌∙◌, ap}
 use Rattle.session_pages.specs.Runs.{page_count}
 use Rattle.job_session.specs.{Places.Place, Places.covers, Places.is_used, Places.is_of, Places.without, Session.Past}
@@ -7,10 +6,7 @@ use Rattle.job_session.specs.Desk.{Desk, slot_of, page_total}
 use Rattle.session_law.proofs.Runs.{both_true}
 use Rattle.session_law.specs.Agree.{IsKey, place_in, owner_at, AreListed, IsListed, Agrees}
 use Rattle.session_law.proofs.Changing.{same_slot}
-
-and_no : (a b : Bool) → b ≡ false → (a && b) ≡ false
-and_no true b is = is
-and_no false b is = refl
+use Rattle.std.proofs.lemmas.Bool.{eqb-true}
 
 -- an entry of the list has pages
 pub listed_some : (desk : Desk) (place : Place) → IsListed desk place → 1 ≤ page_total desk place.client place.id
@@ -37,7 +33,7 @@ listed_same left desk (place ∷ places) same listed =
 pub is_of_key : (client id : ℕ) (place : Place) → is_of client id place ≡ true → (place.client ≡ client) × (place.id ≡ id)
 is_of_key client id place is =
     let both = both_true (place.client == client) (place.id == id) is in
-    (equal place.client client both.0, equal place.id id both.1)
+    (eqb-true place.client client both.0, eqb-true place.id id both.1)
 
 not_of_key : (client id : ℕ) (place : Place) → is_of client id place ≡ false → place.client ≡ client → place.id ≡ id → ⊥
 not_of_key client id place is c i =
@@ -85,8 +81,8 @@ apart_cover past desk client id page place agrees key inside listed is cover tru
     let ours : (owner_at desk page == slot_of client id + 1) ≡ true = sym (agrees.owned client id page key inside) ∙ here in
     let theirs : (owner_at desk page == slot_of place.client place.id + 1) ≡ true =
     sym (agrees.owned place.client place.id page listed.key inside) ∙ (ap (λ (p : Place). covers p page) listed.is ∙ cover) in
-    let first = equal (owner_at desk page) (slot_of client id + 1) ours in
-    let second = equal (owner_at desk page) (slot_of place.client place.id + 1) theirs in
+    let first = eqb-true (owner_at desk page) (slot_of client id + 1) ours in
+    let second = eqb-true (owner_at desk page) (slot_of place.client place.id + 1) theirs in
     let both = same_slot client id place.client place.id key listed.key (omega (arith, first, second)) in
     absurd (not_of_key client id place is both.0 both.1)
 

@@ -1,5 +1,5 @@
 -- A buffer is made at free pages.
-use Rattle.overflow_slots.proofs.Searches.{equal, apart_by}
+use Rattle.overflow_slots.proofs.Searches.{apart_by}
 use Rattle.std.proofs.Common.{ne_eqb, eq-eqb, ◌≡◌, inl, inr, ℕ, ◌+◌, ◌*◌, ◌/◌, ◌%◌, ◌<◌, ◌≤◌, ◌==◌, ◌||◌, not, Bool, true, false, List, ◌∷◌, length, slice_index, slice_set, Some, arith, refl, sym, ◌∙◌, ap, subst}
 use Rattle.std.proofs.lemmas.List.{get_or-set_same, get_or-set_other, length-set}
 use Rattle.field_words.specs.{Sizes.page_size, Writes.zeros}
@@ -12,13 +12,14 @@ use Rattle.session_law.specs.Agree.{IsKey, IsSized, place_in, owner_at, AreListe
 use Rattle.session_law.proofs.Bytes.{is_within, within_none, held_inside, held_outside, length_held, window_is, zero_at}
 use Rattle.session_law.proofs.Changing.{IsChange, change_agrees, slot_below, same_slot, held_live, page_small, page_covered, byte_page}
 use Rattle.session_law.proofs.Listing.{listed_same}
+use Rattle.std.proofs.lemmas.Bool.{eqb-true}
 
 -- a slot gets a table's entry, and the others keep theirs
 fits_by : (firsts counts : List ℕ) (slot first pages other : ℕ) → SlotsFit firsts counts → length firsts ≡ slot_count → length counts ≡ slot_count
     → slot < slot_count → first + pages ≤ page_count → other < slot_count → (b : Bool) → (other == slot) ≡ b
     → slice_index (slice_set firsts slot first) other + slice_index (slice_set counts slot pages) other ≤ page_count
 fits_by firsts counts slot first pages other fits long_firsts long_counts inside room below true is =
-    rw (equal other slot is, get_or-set_same firsts slot first 0 (omega arith), get_or-set_same counts slot pages 0 (omega arith)) room
+    rw (eqb-true other slot is, get_or-set_same firsts slot first 0 (omega arith), get_or-set_same counts slot pages 0 (omega arith)) room
 fits_by firsts counts slot first pages other fits long_firsts long_counts inside room below false is =
     rw (get_or-set_other firsts slot other first 0 (apart_by other slot is), get_or-set_other counts slot other pages 0 (apart_by other slot is)) (fits other below)
 

@@ -1,5 +1,4 @@
 -- What each call answers and leaves, where the desk agrees with the calls before.
-use Rattle.overflow_slots.proofs.Searches.{equal}
 use Rattle.std.proofs.Common.{ne_eqb, ◌≡◌, ℕ, ◌+◌, ◌*◌, ◌<◌, ◌≤◌, ◌==◌, ◌&&◌, ◌||◌, not, nat_lt, Bool, true, false, if◌then◌else◌, List, [], ◌∷◌, length, take, drop, Option, Some, None, Ok, Err, arith, refl, sym, ◌∙◌, ap, subst}
 use Rattle.std.proofs.lemmas.Bool.Decides.{nat_tests}
 use Rattle.field_words.specs.{Sizes.page_size, Writes.with_bytes}
@@ -16,10 +15,11 @@ use Rattle.session_law.specs.Agree.{IsKey, client_count, AreListed, IsListed, Ag
 use Rattle.session_law.proofs.{Bytes.window_length, Bytes.read_window, Runs.both_true}
 use Rattle.session_law.proofs.{Listing.is_of_key, Listing.listed_some, Writing.Lies, Writing.write_agrees, Writing.room_in}
 use Rattle.session_law.proofs.Freeing.{free_agrees}
+use Rattle.std.proofs.lemmas.Bool.{eqb-true}
 
 -- nothing changes
 own_by : (past : Past) (client c : ℕ) (b : Bool) → (c == client) ≡ b → (if b then past.own client else past.own c) ≡ past.own c
-own_by past client c true is = ap past.own (sym (equal c client is))
+own_by past client c true is = ap past.own (sym (eqb-true c client is))
 own_by past client c false is = refl
 
 own_same : (past : Past) (client : ℕ) → with_own past client (past.own client) ≡ past.own
@@ -99,7 +99,7 @@ pub free_meets : (past : Past) (desk : Desk) (client id : ℕ) → Agrees past d
 free_meets past desk client id agrees known = free_step past desk client id agrees known (is_live desk client id) refl
 
 -- write
-bytes_long : (past : Past) (desk : Desk) (client id : ℕ) → Agrees past desk → IsKey client id → length (bytes_of desk client id) ≡ page_size * page_total desk client id
+pub bytes_long : (past : Past) (desk : Desk) (client id : ℕ) → Agrees past desk → IsKey client id → length (bytes_of desk client id) ≡ page_size * page_total desk client id
 bytes_long past desk client id agrees key =
     window_length desk.map.memory (place_of (first_page desk client id)) (page_size * page_total desk client id) (room_in past desk client id agrees key)
 

@@ -2,13 +2,14 @@
 use Rattle.std.proofs.Common.{◌≡◌, ◌<◌, ◌≤◌, ◌==◌, ◌&&◌, ◌+◌, not, nat_le, nat_lt, ℕ, zero, suc, Bool, true, false, Option, Some, refl, ◌∙◌, ap, arith}
 use Rattle.std.proofs.lemmas.Bool.Decides.{nat_tests}
 use Rattle.overflow_slots.specs.Search.{first_where}
-use Rattle.overflow_slots.proofs.Searches.{equal, first_found, first_same}
+use Rattle.overflow_slots.proofs.Searches.{first_found, first_same}
 use Rattle.session_pages.specs.{Runs.page_count, Runs.all_where, Runs.is_run, Runs.first_run, Map.free_run, Map.is_free}
 use Rattle.job_session.specs.{Own.Held, Own.most_buffers, Own.free_if, Own.is_free_id, Places.least_place, Places.is_used, Session.Past}
 use Rattle.job_session.specs.Desk.{Desk, page_total, kind_of, bytes_of, held_in, is_vacant, least_id}
 use Rattle.session_law.specs.Agree.{IsKey, client_count, owner_at, Agrees}
 use Rattle.session_law.proofs.{Bytes.is_inside, Runs.run_found}
 use Rattle.session_law.proofs.{Changing.held_if, Changing.held_is, Making.HasRoom}
+use Rattle.std.proofs.lemmas.Bool.{eqb-true}
 
 free_by : (b v : Bool) (held : Held) → b ≡ true → free_if (held_if (b && not v) held) ≡ v
 free_by true true held is = refl
@@ -32,7 +33,7 @@ same_id past desk client agrees known =
 pub id_found : (desk : Desk) (client id : ℕ) → least_id desk.counts client ≡ Some id → (id < most_buffers) × (page_total desk client id ≡ 0)
 id_found desk client id is =
     let found = first_found (is_vacant desk.counts client) 0 most_buffers id is in
-    (omega (arith, found.0), equal (page_total desk client id) 0 found.1)
+    (omega (arith, found.0), eqb-true (page_total desk client id) 0 found.1)
 
 all_same : (p q : ℕ → Bool) (from n : ℕ) → ((k : ℕ) → k < from + n → p k ≡ q k) → all_where p from n ≡ all_where q from n
 unfolding all_where

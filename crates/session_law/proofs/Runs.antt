@@ -1,8 +1,9 @@
 -- A run of pages that was found: each of its pages is free.
 use Rattle.std.proofs.Common.{◌≡◌, ◌<◌, ◌≤◌, ◌&&◌, ◌+◌, nat_le, ℕ, zero, suc, Bool, true, false, slice_index, Some, refl, arith}
 use Rattle.std.proofs.lemmas.Bool.Decides.{nat_tests}
-use Rattle.overflow_slots.proofs.Searches.{equal, first_found}
+use Rattle.overflow_slots.proofs.Searches.{first_found}
 use Rattle.session_pages.specs.{Runs.page_count, Runs.all_where, Runs.is_run, Runs.first_run, Map.PageMap, Map.free_run, Map.is_free}
+use Rattle.std.proofs.lemmas.Bool.{eqb-true}
 
 pub both_true : (a b : Bool) → (a && b) ≡ true → (a ≡ true) × (b ≡ true)
 both_true true true is = (refl, refl)
@@ -30,5 +31,5 @@ run_found map pages first is =
     let both = both_true (nat_le (first + pages) page_count) (all_where (is_free map.owners) first pages) found.1 in
     let low : nat_le (first + pages) page_count ≡ true = both.0 in (
       grind (arith, nat_tests),
-      λ page from below. equal (slice_index map.owners page) 0 (all_found (is_free map.owners) first pages page both.1 from below),
+      λ page from below. eqb-true (slice_index map.owners page) 0 (all_found (is_free map.owners) first pages page both.1 from below),
     )

@@ -1,5 +1,4 @@
 -- Bytes are written into a buffer.
-use Rattle.overflow_slots.proofs.Searches.{equal}
 use Rattle.std.proofs.Common.{◌≡◌, inr, ℕ, ◌+◌, ◌*◌, ◌<◌, ◌≤◌, ◌==◌, true, false, List, length, slice_index, Some, arith, refl, sym, ◌∙◌, ap}
 use Rattle.field_words.specs.{Sizes.page_size, Writes.with_bytes}
 use Rattle.field_words.proofs.Writes.{length-with_bytes}
@@ -9,6 +8,7 @@ use Rattle.job_session.specs.{Own.Held, Own.with_buffer, Session.Past, Session.w
 use Rattle.session_law.specs.Agree.{IsKey, IsSized, owner_at, Agrees}
 use Rattle.session_law.proofs.Bytes.{is_within, is_outside, window_written, written_apart}
 use Rattle.session_law.proofs.{Changing.IsChange, Changing.change_agrees, Changing.slot_below, Changing.held_live, Listing.listed_same}
+use Rattle.std.proofs.lemmas.Bool.{eqb-true}
 
 -- a buffer has pages, and the bytes end in them
 pub record Lies (desk : Desk) (client id at : ℕ) (part : List ℕ) : Type 0 where
@@ -21,7 +21,7 @@ pub own_page : (past : Past) (desk : Desk) (client id page : ℕ) → Agrees pas
     → is_within (first_page desk client id) (page_total desk client id) page ≡ true → owner_at desk page ≡ slot_of client id + 1
 own_page past desk client id page agrees key inside is =
     let ours : (owner_at desk page == slot_of client id + 1) ≡ true = sym (agrees.owned client id page key inside) ∙ is in
-    equal (owner_at desk page) (slot_of client id + 1) ours
+    eqb-true (owner_at desk page) (slot_of client id + 1) ours
 
 pub room_in : (past : Past) (desk : Desk) (client id : ℕ) → Agrees past desk → IsKey client id
     → place_of (first_page desk client id) + page_size * page_total desk client id ≤ length desk.map.memory

@@ -15,10 +15,9 @@ use Rattle.job_session.specs.Desk.{Desk, slot_of as slot_number, first_page, pag
 use Rattle.session_law.specs.Agree.{IsKey, client_count, owner_at, Agrees}
 use Rattle.session_law.proofs.{Bytes.within_yes, Writing.room_in}
 use Rattle.session_safety.specs.Running.{file_in, IsAccepted, SubmitsReachOwn}
-use Rattle.session_safety.proofs.{Contents.IsLying, Contents.lies, Running.is_faultless, Running.entry_whole, Running.regions_are, Running.slot_long}
-
-equal : (k n : ℕ) → (k == n) ≡ true → k ≡ n
-equal k n is = grind (arith, nat_tests)
+use Rattle.session_safety.proofs.{Contents.IsLying, Contents.lies, Running.is_faultless, Running.entry_whole, Running.regions_are}
+use Rattle.session_law.proofs.Outcomes.{bytes_long}
+use Rattle.std.proofs.lemmas.Bool.{eqb-true}
 
 -- a byte of a buffer's pages
 record IsByteOf (desk : Desk) (client id p : ℕ) : Type 0 where
@@ -38,7 +37,7 @@ owner_is past desk client id p agrees key byte =
     let low : first_page desk client id ≤ page = omega (arith, byte.from) in
     let high : page < first_page desk client id + page_total desk client id = omega (arith, byte.from, byte.upto) in
     let inside : page < page_count = omega (arith, room, high, agrees.sized.map.sized) in
-    equal (owner_at desk page) (slot_number client id + 1)
+    eqb-true (owner_at desk page) (slot_number client id + 1)
     (sym (agrees.owned client id page key inside) ∙ within_yes (first_page desk client id) (page_total desk client id) page low high)
 
 -- no byte is of two clients' pages
@@ -55,7 +54,7 @@ in_buffer : (past : Past) (desk : Desk) (client place size p : ℕ) (b : Buffer)
 in_buffer past desk client place size p b bytes agrees known at place_is size_is from upto =
     let id = at.id in
     let key : IsKey client id = record { known = known; small = at.small } in
-    let long = slot_long past desk client id agrees key in
+    let long = bytes_long past desk client id agrees key in
     let there : b.place ≡ place_of (first_page desk client id) = ap (λ (e : Buffer). e.place) at.is in
     let room : b.size ≡ page_size * page_total desk client id = ap (λ (e : Buffer). e.size) at.is ∙ long in
     (id, (key, record { from = omega (arith, place_is, there, from); upto = omega (arith, place_is, size_is, there, room, upto) }))

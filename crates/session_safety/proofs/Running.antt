@@ -22,6 +22,7 @@ use Rattle.session_law.proofs.{Laying.regions, Laying.regions_back, Laying.size_
 use Rattle.session_law.proofs.Writing.{room_in}
 use Rattle.session_safety.specs.Running.{file_in, lists_in, with_lists, IsAccepted, IsReady, SubmitsMayRun, ReadyMemoriesMayRun}
 use Rattle.session_safety.proofs.{Bytes.file_bytes, Contents.IsLying, Contents.front_take, Contents.lies, Contents.whole_entry}
+use Rattle.session_law.proofs.Outcomes.{bytes_long}
 
 -- No rule of the file is broken.
 none_by : (bytes : List ℕ) (refusal : Option Refusal) → job_answer (rule_option bytes refusal) ≡ Ok tt → refusal ≡ None
@@ -56,11 +57,6 @@ pub regions_are : (desk : Desk) (client : ℕ) (parts : List ℕ) → (file_in d
 unfolding file_at lying_file
 regions_are desk client parts = regions_back (length (lying desk client 0 most_buffers)) _
 
--- a buffer's pages in the session's memory
-pub slot_long : (past : Past) (desk : Desk) (client id : ℕ) → Agrees past desk → IsKey client id → length (bytes_of desk client id) ≡ page_size * page_total desk client id
-slot_long past desk client id agrees key =
-    window_length desk.map.memory (place_of (first_page desk client id)) (page_size * page_total desk client id) (room_in past desk client id agrees key)
-
 filled_whole : (bytes : List ℕ) → content_filled bytes (length bytes) ≡ bytes
 unfolding zeros
 filled_whole bytes = let none : length bytes - length bytes ≡ 0 = omega arith in ap (λ n. bytes ++ zeros n) none ∙ append-nil bytes
@@ -75,7 +71,7 @@ slot_stands past desk client m b bytes agrees known at kind code =
     let own = bytes_of desk client id in
     let is_code : kind_of desk client id ≡ Code = sym (ap (λ (e : Buffer). e.kind) at.is) ∙ kind in
     let content : bytes ≡ own = at.bytes_are ∙ ap (λ (k : Kind). content_of k own) is_code in
-    let long = slot_long past desk client id agrees (record { known = known; small = at.small }) in
+    let long = bytes_long past desk client id agrees (record { known = known; small = at.small }) in
     let has : HasContent m (buffer_laid client (place_of (first_page desk client id)) (slot_held desk client id)) own =
     ap (window_of m (place_of (first_page desk client id))) long ∙ code id at.small is_code ∙ sym (filled_whole own) in
     subst (λ (e : Buffer). HasContent m e bytes) (sym at.is)

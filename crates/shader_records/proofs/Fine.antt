@@ -6,9 +6,10 @@ use Rattle.field_words.proofs.{Questions.none_broken, Nones.front_none, Nones.re
 use Rattle.qpu_isa.specs.Shader.{ShaderModel, sample_at}
 use Rattle.emitted_facts.specs.Records.{attribute_size, attribute_stride, is_single, address_word}
 use Rattle.packets.specs.StateWord.{attribute_count}
-use Rattle.shader_records.specs.Sources.{state_at, source_size, record_source, uniform_source, code_number, attribute_number, shader_used, is_threaded, taken_before, record_word, sample_number, source_word, size_in}
+use Rattle.shader_records.specs.Sources.{state_at, source_size, record_source, uniform_source, code_number, attribute_number, shader_used, is_threaded, taken_before, record_word, sample_number, source_word}
 use Rattle.shader_records.specs.Rules.{cut_questions, code_questions, handle_questions, disagrees, fixed_questions, is_attribute_past, has_vertex_past, attribute_questions, names_questions, body_questions, record_questions, setup_questions, first_word_at, sample_questions, use_questions, shader_questions, state_questions, all_questions}
 use Rattle.shader_records.specs.{Faults.uniform_fault, Faults.sample_fault, Inputs.InputModel}
+use Rattle.buffer_table.specs.Handles.{size_in}
 
 -- Of a record.
 pub source_inside : (input : InputModel) (at state most : ℕ) → first_of (record_questions input at state most) ≡ None → at + source_size state ≤ length input.records

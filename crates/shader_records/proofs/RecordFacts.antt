@@ -2,14 +2,14 @@
 use Rattle.std.proofs.Common.{◌≡◌, ℕ, zero, suc, ◌+◌, ◌*◌, ◌/◌, ◌%◌, ◌-◌, ◌==◌, ◌<◌, ◌≤◌, Bool, true, false, not, ◌&&◌, nat_lt, nat_le, Option, Some, None, is_some, if◌then◌else◌, refl, sym, ap, subst, arith, ◌∙◌}
 use Rattle.std.proofs.{Math.Nat.mul-le-mul_left, lemmas.Bool.ltb-false}
 use Rattle.field_words.specs.{Words.u32_at, Questions.first_of}
-use Rattle.buffer_table.specs.Handles.{is_plain}
+use Rattle.buffer_table.specs.Handles.{is_plain, size_in}
 use Rattle.buffer_table.proofs.Named.{code_is}
 use Rattle.qpu_isa.specs.Shader.{ShaderModel, IsSoundShader}
 use Rattle.emitted_facts.specs.Records.{attribute_size, attribute_stride, is_single, address_word, shape_word, extension_word}
 use Rattle.emitted_facts.specs.Facts.{IsStream, IsUse, IsAttributeIn, IsRecord}
 use Rattle.packets.specs.StateWord.{attribute_count, record_size, is_extended}
 use Rattle.emitted_facts.proofs.Records.{count_limits, attributes_in, extended_from, header_in, same_size, same_stride}
-use Rattle.shader_records.specs.Sources.{code_number, attribute_number, shader_behind, shader_used, is_threaded, taken_before, record_word, place_in, size_in}
+use Rattle.shader_records.specs.Sources.{code_number, attribute_number, shader_behind, shader_used, is_threaded, taken_before, record_word, place_in}
 use Rattle.shader_records.specs.Emission.{shader_word, attribute_word, emitted_word, stream_place, stream_word_of, HasStreams}
 use Rattle.shader_records.specs.{Inputs.InputModel, Inputs.AreInputs, Inputs.shader_in, Named.IsDataIn, Named.IsCodeIn}
 use Rattle.shader_records.specs.Rules.{disagrees, has_vertex_past, record_questions, use_questions}

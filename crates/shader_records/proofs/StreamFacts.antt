@@ -9,13 +9,13 @@ use Rattle.texture_layouts.specs.Setup.{base_of, texture_of, faces_of, size_belo
 use Rattle.texture_layouts.specs.Fits.{texture_questions, direct_questions}
 use Rattle.texture_layouts.proofs.Inside.{in_buffer}
 use Rattle.emitted_facts.specs.Facts.{setup, word_or_zero, IsSampleIn, IsStream}
-use Rattle.shader_records.specs.Sources.{sample_number, source_word, place_in, size_in, handles_size, code_number, attribute_number, record_word}
+use Rattle.shader_records.specs.Sources.{sample_number, source_word, place_in, handles_size, code_number, attribute_number, record_word}
 use Rattle.shader_records.specs.Emission.{place_added, moved_word, is_address, addressed_word, stream_word_of, shader_word, attribute_word, emitted_word}
 use Rattle.shader_records.specs.{Inputs.InputModel, Inputs.IsShaped, Rules.setup_questions, Rules.use_questions, Rules.record_questions}
 use Rattle.shader_records.specs.Named.{AreInMemory, IsDataIn}
 use Rattle.shader_records.proofs.Fine.{sample_fine, address_fits}
 use Rattle.packets.specs.StateWord.{attribute_count, record_size}
-use Rattle.buffer_table.specs.{Table.most_place, Table.TableModel, Handles.data_of}
+use Rattle.buffer_table.specs.{Table.most_place, Table.TableModel, Handles.data_of, Handles.size_in}
 
 -- The words of a stream that emission changes.
 

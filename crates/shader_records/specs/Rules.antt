@@ -8,9 +8,10 @@ use Rattle.texture_layouts.specs.Fits.{texture_questions, direct_questions}
 use Rattle.emitted_facts.specs.{Records.attribute_size, Records.attribute_stride, Records.is_single, Records.address_word, Facts.setup}
 use Rattle.packets.specs.StateWord.{attribute_count}
 use Rattle.shader_records.specs.declared.rule.RecordRule.TheVariants.{HandlesCutOff, RecordCutOff, NoCode, NoData, ThreadsDisagree, ThreadedVertex, CodeWordSet, AttributeOutside, VertexOutside, NoTexture}
-use Rattle.shader_records.specs.Sources.{state_at, handles_size, source_size, record_source, uniform_source, code_number, attribute_number, shader_used, is_threaded, taken_before, record_word, sample_number, source_word, size_in}
+use Rattle.shader_records.specs.Sources.{state_at, handles_size, source_size, record_source, uniform_source, code_number, attribute_number, shader_used, is_threaded, taken_before, record_word, sample_number, source_word}
 use Rattle.shader_records.specs.{declared.fault.RecordFault.RecordFault, Inputs.InputModel}
 use Rattle.shader_records.specs.Faults.{number_of, record_fault, uniform_fault, sample_fault}
+use Rattle.buffer_table.specs.Handles.{size_in}
 
 -- A1: the handles are cut off. A2: the record is.
 unfoldable pub cut_questions : InputModel → ℕ → ℕ → List (Question RecordFault)

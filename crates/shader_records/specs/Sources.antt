@@ -109,11 +109,7 @@ IsEnd input place end = (end ≡ place) × (end ≤ length input.uniforms)
 abbrev pub HasStrides : InputModel → (at state count : ℕ) → Type 0
 HasStrides input at state count = is_extended state ≡ true → at + handles_size state + 100 + 4 * count ≤ length input.records
 
--- the place and the size of a buffer, 0 where none is named
+-- the place of a buffer, 0 where none is named
 abbrev pub place_in : TableModel → Option ℕ → ℕ
 place_in table None = 0
 place_in table (Some number) = (buffer_at table.buffers number).place
-
-abbrev pub size_in : TableModel → Option ℕ → ℕ
-size_in table None = 0
-size_in table (Some number) = (buffer_at table.buffers number).size

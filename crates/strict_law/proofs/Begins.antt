@@ -14,7 +14,7 @@ use Rattle.qpu_machine.specs.Qpu.{idle_qpu}
 use Rattle.qpu_law.specs.Home.{Home}
 use Rattle.machine.specs.{declared.job.Start.Start, State.job_start}
 use Rattle.machine_law.specs.{Begins.LaunchBegins, Begins.JobBegins, Units.EachAt}
-use Rattle.machine_law.proofs.Begins.{homes_stay_law, fetches_stay, single_stays, word_stays, record_stays, text_stays}
+use Rattle.machine_law.proofs.Begins.{homes_stay_law, fetches_stay, single_stays, word_stays, record_stays, text_stays, lists_so}
 use Rattle.strict_law.specs.Strict.{IsStrict, DrawStrict, JobStrict}
 use Rattle.strict_law.specs.Known.{LaunchStrict, QpuStrict, IsHomeOf, JobKnown}
 
@@ -58,30 +58,14 @@ draws_strict rights plains first j word packet draws = record {
 pub job_known : (rights : List Rights) (plains : ℕ → List Interval) (first : List ℕ) (j : ℕ) (start : Start) → JobStrict rights plains first j start → JobKnown rights first j (job_start start)
 job_known rights plains first j start job =
     let begins = job.begins in
-    let r : Rights = rights_of rights j in
-    let K = HasReadOnly rights first in
     let O = LaunchStrict (IsHomeOf rights first j) in
-    let all : ListsFine r K O begins.config begins.frame (lists_start start.bin_place (length (joined_bytes begins.packets)) start.render_place (length (slots_text begins.slots))) =
-    lists_begin r K O begins.config begins.frame start.bin_place start.render_place begins.packets begins.slots
-    (record {
-      walks = walks_so begins.config (DrawStrict rights plains first j) (DrawsSo r K O) (λ word packet draws kind. draws_strict rights plains first j word packet draws) nothing_kept begins.packets job.draws;
-      stands = text_stays rights first j start.bin_place (joined_bytes begins.packets) begins.bin_text;
-      reads = begins.bin_text.reads;
-    })
-    (record {
-      walks = begins.render_walks;
-      fit = begins.render_fits;
-      sets = begins.render_sets;
-      stands = text_stays rights first j start.render_place (slots_text begins.slots) begins.render_text;
-      reads = begins.render_text.reads;
-    }) in
-    let binned : ListsFine r K O begins.config begins.frame (lists_start start.bin_place start.bin_len start.render_place (length (slots_text begins.slots))) =
-    subst (λ n. ListsFine r K O begins.config begins.frame (lists_start start.bin_place n start.render_place (length (slots_text begins.slots)))) (sym begins.bin_len) all in
     record {
       config = begins.config;
       frame = begins.frame;
       allocates = begins.allocates;
-      lists = subst (λ n. ListsFine r K O begins.config begins.frame (lists_start start.bin_place start.bin_len start.render_place n)) (sym begins.render_len) binned;
+      lists =
+          lists_so rights plains first O j start begins
+          (walks_so begins.config (DrawStrict rights plains first j) (DrawsSo (rights_of rights j) (HasReadOnly rights first) O) (λ word packet draws kind. draws_strict rights plains first j word packet draws) nothing_kept begins.packets job.draws);
     }
 
 pub each_begin : (rights : List Rights) (plains : ℕ → List Interval) (first : List ℕ) (k : ℕ) (starts : List Start) → EachAt (JobStrict rights plains first) k starts → EachAt (JobBegins rights plains first) k starts

@@ -23,6 +23,7 @@ use Rattle.ends_law.proofs.Renderer.{frame_stored, general_stored, waiting_loade
 use Rattle.strict_lists.specs.Rules.{primitives_in, asked_from}
 use Rattle.strict_law.specs.{Lists.packet_at, Lists.executed_by, Records.selects_missing}
 use Rattle.strict_law.proofs.Packets.{breaks_none, rest_strict, count_next, kept_before}
+use Rattle.served_law.proofs.Renderer.{branch_meets}
 
 -- A record that a word names selects what is there, in each memory of K.
 abbrev pub Selects : (List ℕ → Type 0) → ℕ → List ℕ → Type 0
@@ -112,20 +113,10 @@ pub binner_goes : (who : Who) (K : List ℕ → Type 0) (executed : List (List �
 unfolding binner_plan binner_ready
 binner_goes who K executed s free words m here left ready = binner_by_goes who K executed s s.binner.work free words m here left ready
 
--- So it does where the renderer steps.
-enters : (who : Who) (P : Lists → Type 0) (s : Lists) (named : Option ℕ) (m : List ℕ) → ((inside : Option SubList) → P (with_inside s inside)) → Comes who P (enter_plan s named) m
-enters who P s None m enter = tt
-enters who P s (Some tile) m enter = enter (Some (record { tile = tile; at = 0 }))
-
-branch_stays : (who : Who) (P : Lists → Type 0) (s : Lists) (address : ℕ) (m : List ℕ) → ((inside : Option SubList) → P (with_inside s inside)) → Comes who P (branch_plan s address) m
-unfolding branch_plan
-branch_stays who P s address m enter =
-    keeps_if who AnyLook AnyAccess (λ k next. P next) m s.closed (enter_plan s (tile_by s.binner.kept.config address)) Wilds (λ on. enters who P s (tile_by s.binner.kept.config address) m enter) (λ off. tt)
-
 act_stays : (who : Who) (B : ℕ → ℕ → Type 0) (s : Lists) (words m : List ℕ) (packet : Packet) → B s.binner.place s.binner.end → Comes who (λ next. B next.binner.place next.binner.end) (act s words packet) m
 unfolding render_tile_plan whole_written
 act_stays who B s words m WaitOnSemaphore here = here
-act_stays who B s words m (BranchToSubList address) here = branch_stays who (λ next. B next.binner.place next.binner.end) s address m (λ inside. here)
+act_stays who B s words m (BranchToSubList address) here = branch_meets who (λ next. B next.binner.place next.binner.end) s address m (λ inside. here)
 act_stays who B s words m StoreTileColor here = frame_stored who (λ next. B next.binner.place next.binner.end) s.renderer.frame s.renderer.x s.renderer.y words s m here
 act_stays who B s words m StoreTileColorAndEnd here = frame_stored who (λ next. B next.binner.place next.binner.end) s.renderer.frame s.renderer.x s.renderer.y words s m here
 act_stays who B s words m (StoreFullResolution address) here = (tt, here)

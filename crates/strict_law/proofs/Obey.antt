@@ -4,12 +4,12 @@ use Rattle.std.proofs.lemmas.Bool.{cases_lt, eq-eqb, le-leb, or_cases, or_from, 
 use Rattle.std.proofs.lemmas.Bool.Decides.{nat_tests}
 use Rattle.std.specs.Int.{from_le_bytes, w64}
 use Rattle.machine_plan.specs.Memory.{bytes_at}
-use Rattle.qpu_isa.specs.Terms.{is_end, writes_s}
+use Rattle.qpu_isa.specs.Terms.{is_end, writes_s, loads}
 use Rattle.qpu_isa.specs.Setups.{setups_kept}
 use Rattle.shader_flow.specs.{Flow.word, Flow.end_of, Flow.checked_of, Pending.pending_of, Pending.takes}
 use Rattle.qpu_machine.specs.{declared.state.Qpu.Qpu, declared.state.Request.Request, declared.state.Thread.Thread, Bounds.finished0, Bounds.finished1}
 use Rattle.qpu_machine.specs.declared.state.Fate.TheVariants.{Ends, Switches}
-use Rattle.qpu_machine.specs.{Qpu.active_of, Qpu.queue_count, Wild.takes_one, Writes.fate_of, Writes.loads}
+use Rattle.qpu_machine.specs.{Qpu.active_of, Qpu.queue_count, Wild.takes_one, Writes.fate_of}
 use Rattle.machine.specs.{State.State, Step.Event}
 use Rattle.qpu_law.specs.Home.{Home, HasNoFault, IsAt}
 use Rattle.qpu_law.proofs.Going.{behind, in_checked, not_end, takes_same}
@@ -27,6 +27,7 @@ use Rattle.strict_law.proofs.Shaders.{StrictAt, strict_here, kept_long}
 use Rattle.served_law.proofs.Marks.{end_before, at_end, at_switch}
 use Rattle.strict_law.proofs.{Threads.none_left, Threads.reads_word, Threads.switch_none}
 use Rattle.strict_law.proofs.{Watch.each_item, Processors.EachStrict, Processors.active_strict}
+use Rattle.strict_law.proofs.Roles.{vertices_are}
 
 -- What is known of the thread before the instruction at n.
 pub record Before (code : List ℕ) (n queued0 queued1 : ℕ) (t : Thread) : Type 0 where
@@ -162,10 +163,6 @@ reads_is : (w address : ℕ) → reads w address ≡ reads_address w address
 unfolding reads reads_address
 reads_is w address = refl
 
-vertices_is : (w : ℕ) → touches_vertices w ≡ uses_vpm w
-unfolding touches_vertices touches reads uses_vpm reads_address
-vertices_is w = refl
-
 closed_off : (code : List ℕ) (n queued0 queued1 : ℕ) (t : Thread) → Before code n queued0 queued1 t → end_of code ≤ n → uses_closed t (word code n) ≡ false
 unfolding uses_closed e5
 closed_off code n queued0 queued1 t known late =
@@ -174,7 +171,7 @@ closed_off code n queued0 queued1 t known late =
     let more = or_parts (reads_address w 35) (uses_vpm w) off.1 in
     or_from (takes_one t w) (reads w 35 || touches_vertices w)
     (takes_same code n t known.inside (record { tmu0 = known.pending0; tmu1 = known.pending1 }) ∙ off.0)
-    (or_from (reads w 35) (touches_vertices w) (reads_is w 35 ∙ more.0) (vertices_is w ∙ more.1))
+    (or_from (reads w 35) (touches_vertices w) (reads_is w 35 ∙ more.0) (vertices_are w ∙ more.1))
 
 -- Peripherals.
 peripherals_are : (w : ℕ) → peripherals w ≡ coupled_of w

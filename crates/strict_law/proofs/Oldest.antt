@@ -3,12 +3,13 @@ use Rattle.std.proofs.Common.{◌≡◌, ◌≤◌, ◌<◌, ◌⊎◌, ℕ, zer
 use Rattle.std.proofs.lemmas.Bool.{true≢false}
 use Rattle.shader_flow.specs.Flow.{word}
 use Rattle.qpu_law.specs.Home.{Home}
-use Rattle.qpu_machine.specs.{declared.state.Qpu.Qpu, declared.state.Request.Request, declared.state.Thread.Thread, Bounds.finished0, Bounds.finished1, Qpu.queue_count, Writes.loads}
+use Rattle.qpu_machine.specs.{declared.state.Qpu.Qpu, declared.state.Request.Request, declared.state.Thread.Thread, Bounds.finished0, Bounds.finished1, Qpu.queue_count}
 use Rattle.strict_rules.specs.{Queue.queue_of, Queue.last_act, Rules.loads_none}
 use Rattle.served_law.specs.Known.{AreBeside}
 use Rattle.strict_law.specs.{Known.QpuStrict, Known.InOrder, Order.oldest_of}
 use Rattle.served_law.proofs.{Shaders.same_load, Beside.beside_turn}
 use Rattle.strict_law.proofs.{Stretches.split_few, Threads.old_or_single, Orders.has_by, Orders.oldest_own, Processors.single_slot, Obey.Steps, Obey.facts}
+use Rattle.qpu_isa.specs.Terms.{loads}
 
 oldest_by : (second : Bool) (order : List Bool) (first_old first_all other_old other_all : ℕ) (threaded : Bool) → InOrder second order first_old first_all other_old other_all
     → (if second then other_old else first_old) ≤ (if second then other_all else first_all) → 1 ≤ (if second then other_all else first_all) → (1 ≤ (if second then other_old else first_old)) ⊎ (threaded ≡ false)

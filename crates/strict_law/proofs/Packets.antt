@@ -10,10 +10,10 @@ use Rattle.packets.specs.Opcode.{start_tile_binning, indexed_primitive_list, arr
 use Rattle.packets.specs.declared.config.Config.{Config}
 use Rattle.bin_walks.specs.Walks.{Kept, kept_after, nothing_kept, Drawing, Tame}
 use Rattle.field_words.specs.Words.{u32_at}
-use Rattle.bin_list.specs.{Packets.opcode, Seen.last_opcode, Seen.latest, Seen.place}
+use Rattle.bin_list.specs.{Packets.opcode, Seen.last_opcode, Seen.latest, Seen.place, Packets.draws}
 use Rattle.list_law.proofs.Logs.{same}
-use Rattle.promises.specs.Steps.{draws, one_if}
-use Rattle.strict_lists.specs.Rules.{is_primitive, primitives_in, is_started, e9, e10, e13, is_reset, course_before, packet_questions, list_fault, asked_from}
+use Rattle.promises.specs.Steps.{one_if}
+use Rattle.strict_lists.specs.Rules.{primitives_in, is_started, e9, e10, e13, is_reset, course_before, packet_questions, list_fault, asked_from}
 use Rattle.strict_law.specs.Lists.{has_kind, is_start, IsForbiddenPacket, HasNoKind, IsOneTooMany, SelectsMissing, LacksReset, SetsFormat}
 use Rattle.strict_law.specs.Records.{selects_missing}
 
@@ -46,17 +46,12 @@ unfolding draws e9 has_kind
 kind_is packet drawn off = kind_by (opcode packet == indexed_primitive_list) (opcode packet == array_primitive_list) (slice_index packet 1) drawn off
 
 -- E10
-drawn_is : (packet : List ℕ) → draws packet ≡ is_primitive packet
-unfolding draws is_primitive
-drawn_is packet = refl
-
 drawn_count : (executed : List (List ℕ)) → count_by draws executed ≡ primitives_in executed
 drawn_count [] = refl
 drawn_count (packet ∷ executed) =
     let rest = drawn_count executed in
     let first = sum_by-cons (λ p. if draws p then 1 else 0) packet executed in
-    let this = ap (λ b. one_if b) (drawn_is packet) in
-    omega (arith, rest, first, this)
+    omega (arith, rest, first)
 
 count_by_bool : (b : Bool) (n : ℕ) → n ≤ 7920 → (b && n == 7920) ≡ false → n + one_if b ≤ 7920
 count_by_bool true n few off = grind (arith, common_steps, nat_tests, off)
@@ -64,7 +59,7 @@ count_by_bool false n few off = omega (arith, few)
 
 pub count_next : (executed : List (List ℕ)) (packet : List ℕ) → primitives_in executed ≤ 7920 → BreaksNone executed packet → primitives_in (packet ∷ executed) ≤ 7920
 unfolding e10 course_before
-count_next executed packet few none = count_by_bool (is_primitive packet) (primitives_in executed) few none.count
+count_next executed packet few none = count_by_bool (draws packet) (primitives_in executed) few none.count
 
 room_by : (b : Bool) (n : ℕ) → b ≡ true → (b && n == 7920) ≡ false → n ≤ 7920 → nat_le 7920 n ≡ true → ⊥
 room_by true n on off few over = grind (arith, common_steps, nat_tests, off, over)
@@ -73,7 +68,7 @@ room_by false n on off few over = absurd cc
 not_over : (executed : List (List ℕ)) (packet : List ℕ) → primitives_in executed ≤ 7920 → draws packet ≡ true → e10 (course_before executed) packet ≡ false → nat_le 7920 (count_by draws executed) ≡ true → ⊥
 unfolding e10 course_before
 not_over executed packet few drawn off over =
-    room_by (is_primitive packet) (primitives_in executed) (sym (drawn_is packet) ∙ drawn) off few (ap (λ n. nat_le 7920 n) (sym (drawn_count executed)) ∙ over)
+    room_by (draws packet) (primitives_in executed) drawn off few (ap (λ n. nat_le 7920 n) (sym (drawn_count executed)) ∙ over)
 
 -- E13
 reset_by : (b : Bool) (reset other : Bool) → b ≡ true → (if b then not reset else other) ≡ false → reset ≡ true

@@ -14,8 +14,8 @@ use Rattle.served_law.proofs.{Threads.asks, Beside.IsLike, Beside.beside_turn, B
 use Rattle.served_law.proofs.Processors.{own_queued, other_queued, got_by, kept_by, taken_mine, taken_other, none_queued, chosen_by}
 use Rattle.strict_law.specs.{Known.LaunchStrict, Known.ThreadStrict, Known.SlotStrict, Known.QpuStrict, Known.KeepsNone, Known.Ordered, Known.InOrder, Known.next_old, Order.order_after}
 use Rattle.strict_law.proofs.Orders.{settled_order, in_settled_other, in_settled_first, none_left, empty_order}
-use Rattle.qpu_machine.specs.{Bounds.finished0, Bounds.finished1, Writes.loads}
-use Rattle.qpu_isa.specs.Terms.{writes_s}
+use Rattle.qpu_machine.specs.{Bounds.finished0, Bounds.finished1}
+use Rattle.qpu_isa.specs.Terms.{writes_s, loads}
 use Rattle.machine_law.specs.Units.{EachAt}
 use Rattle.strict_law.proofs.{Staying.Stays, Staying.stays_fresh, Staying.stays_given, Threads.ThreadGoes, Threads.thread_begins}
 

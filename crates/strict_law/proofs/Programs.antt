@@ -8,7 +8,7 @@ use Rattle.packets.specs.Opcode.{halt, flush, start_tile_binning, increment_sema
 use Rattle.packets.specs.{declared.config.Config.Config, declared.packet.Packet.Packet, Length.render_taken}
 use Rattle.packets.specs.declared.packet.Packet.TheVariants.{WaitOnSemaphore, BranchToSubList, StoreTileColor, StoreTileColorAndEnd, StoreFullResolution, LoadFullResolution, StoreTileBuffer, LoadTileBuffer, TileRenderingMode, ClearColors, TileCoordinates}
 use Rattle.packets.specs.Packet.{packet_decoded}
-use Rattle.bin_list.specs.Packets.{opcode}
+use Rattle.bin_list.specs.Packets.{opcode, draws}
 use Rattle.bin_walks.specs.Walks.{Kept as Passed, kept_after, Drawing, Walks}
 use Rattle.shader_flow.specs.Flow.{is_threaded}
 use Rattle.machine_plan.specs.{declared.launch.Free.Free, declared.launch.Launch.Launch, declared.who.Who.Who}
@@ -28,12 +28,13 @@ use Rattle.list_law.proofs.{Bytes.none_left, Logs.same, Safe.keeps_if}
 use Rattle.list_law.proofs.Binning.{plan_flush, plan_raise, plan_draw, plan_word, plan_start, plan_config, plan_halt}
 use Rattle.qpu_law.specs.Home.{Home}
 use Rattle.ends_law.specs.Left.{BinRest}
-use Rattle.promises.specs.Steps.{draws}
-use Rattle.ends_law.proofs.Rests.{bin_behind, bin_done, packet_read}
+use Rattle.ends_law.proofs.Rests.{bin_behind, bin_done, packet_read, begin_goes}
 use Rattle.ends_law.proofs.Renderer.{frame_stored, general_stored, waiting_loaded, wait_goes}
 use Rattle.ends_law.proofs.Plans.{AnyLook, AnyAccess, Comes, comes_any, comes_into}
 use Rattle.strict_rules.specs.Rules.{has_vpm_part, has_tile_part}
 use Rattle.strict_law.specs.Roles.{program_by}
+use Rattle.list_law.proofs.Rendering.{every_drop}
+use Rattle.served_law.proofs.Binner.{other_than}
 
 -- The shader has what programs of another kind alone may use.
 abbrev pub has_foreign : Program → List ℕ → Bool
@@ -97,10 +98,6 @@ start_fits who IsOwn m Fragment free word all = (tt, start_as_fits who IsOwn m F
 start_fits who IsOwn m Vertex free word all = start_as_fits who IsOwn m Vertex false free word all.vertex
 start_fits who IsOwn m Coordinate free word all = start_as_fits who IsOwn m Coordinate false free word all.coordinate
 
--- The binner does what a packet says, and stands behind it.
-differs : (o k j : ℕ) → (o == k) ≡ true → (k == j) ≡ false → (o == j) ≡ false
-differs o k j is other = ap (λ x. x == j) (same o k is) ∙ other
-
 word_stays : (W : ℕ → Type 0) (word : Option ℕ) (packet : List ℕ) (packets : List (List ℕ)) → (opcode packet == gl_shader_state) ≡ false → DrawUnder W (word_after word packet) packets → DrawUnder W word packets
 word_stays W word packet packets off all = subst (λ b. DrawUnder W (if b then Some (u32_at packet 1) else word) packets) off all
 
@@ -111,11 +108,6 @@ drawn_fits : (who : Who) (K : List ℕ → Type 0) (W : ℕ → Type 0) (s : Lis
 unfolding work_of
 drawn_fits who K W s packet m None all fits = tt
 drawn_fits who K W s packet m (Some word) all fits = record { packets = all.packets; rest = all.rest; work = fits; items = all.items }
-
-begin_fits : (who : Who) (P : Lists → Type 0) (s : Lists) (m : List ℕ) (config : Option Config) → P (after_start s) → Comes who P (begin_plan s config) m
-unfolding clear_plan
-begin_fits who P s m None here = tt
-begin_fits who P s m (Some c) here = (tt, here)
 
 packet_fits : (who : Who) (K : List ℕ → Type 0) (W : ℕ → Type 0) (s : Lists) (packet m : List ℕ) (packets : List (List ℕ)) → BinRest K s.binner.place s.binner.end packets → DrawUnder W (word_after s.binner.kept.word packet) packets
     → (draws packet ≡ true → IfSome s.binner.kept.word W) → IfSome s.binner.work (λ w. W w.word) → Every (λ item. W item.word) s.items → Comes who (WordsFit K W) (packet_plan s packet) m
@@ -131,9 +123,9 @@ packet_fits who K W s packet m packets bin under draw work items =
     (λ known. keeps_if who L G P m (o == halt) (Done (after_halt s)) (plan_config s packet)
     (λ on. record { packets = []; rest = record { bin = bin_done K s.binner.end; draws = tt }; work = work; items = items })
     (λ no_halt. keeps_if who L G P m (o == tile_binning_mode) (Done (config_set s packet)) (plan_start s packet)
-    (λ on. record { packets = packets; rest = same_word (differs o tile_binning_mode gl_shader_state on refl); work = work; items = items })
+    (λ on. record { packets = packets; rest = same_word (other_than o tile_binning_mode gl_shader_state on refl); work = work; items = items })
     (λ no_config. keeps_if who L G P m (o == start_tile_binning) (begin_plan s s.binner.kept.config) (plan_word s packet)
-    (λ on. begin_fits who (WordsFit K W) s m s.binner.kept.config (record { packets = packets; rest = same_word (differs o start_tile_binning gl_shader_state on refl); work = work; items = items }))
+    (λ on. begin_goes who (WordsFit K W) s m s.binner.kept.config (record { packets = packets; rest = same_word (other_than o start_tile_binning gl_shader_state on refl); work = work; items = items }))
     (λ no_start. keeps_if who L G P m (o == gl_shader_state) (Done (with_word s packet)) (plan_draw s packet)
     (λ on. record { packets = packets; rest = record { bin = bin; draws = word_comes W word packet packets on under }; work = work; items = items })
     (λ no_word.
@@ -280,12 +272,6 @@ choice_fits who K IsOwn s free words m sub found here all fits =
     (λ other. keeps_if who L G P m (choice == 2) (renderer.program_plan at Fragment free found.item) (Done (quiet next))
     (λ on. subst (λ b. Comes who (TurnedFits K IsOwn (started b)) (renderer.program_plan at Fragment free found.item) m) (sym other) (program_fits who K IsOwn at Fragment free found.item m here here_fits fits))
     (λ none. (beyond_fits, tt))))
-
--- the item at which the renderer stands
-every_drop : (P : Item → Type 0) (n : ℕ) (items : List Item) → Every P items → Every P (drop n items)
-every_drop P zero items all = all
-every_drop P (suc n) [] all = tt
-every_drop P (suc n) (item ∷ items) all = every_drop P n items all.1
 
 found_by : (P : Item → Type 0) (n : ℕ) (item : Item) (later : Option Found) (b : Bool) → P item → IfSome later (λ found. P found.item) → IfSome (if b then Some (record { number = n; item = item }) else later) (λ found. P found.item)
 found_by P n item later true one rest = one

@@ -23,13 +23,7 @@ use Rattle.strict_law.specs.Strict.{DrawStrict, JobStrict}
 use Rattle.strict_law.proofs.{Watch.Watch, Watch.Watches, WatchRuns.run_watched, WatchRuns.runs_find, WatchDays.IsOf, WatchDays.days_find, WatchDays.days_watched}
 use Rattle.strict_law.proofs.Programs.{has_foreign, LaunchFits, WordFits, WordsFit, binner_fits, renderer_fits, words_begin}
 use Rattle.strict_law.proofs.Roles.{QpuFits, starts_fit, went_fits, served_fits, qpu_goes, qpu_found, keeps_role}
-
--- What is read of a record is what its words say.
-words_at : (m : List ℕ) (word offset i : ℕ) → offset ≡ 4 * i → u32_at (bytes_at m (record_place word + offset) 4) 0 ≡ words_in m word i
-words_at m word offset i is = word_read m (record_place word + offset) 4 (omega arith) ∙ ap (λ n. u32_at m (record_place word + n)) is
-
-launched_is : (m : List ℕ) (word : ℕ) (program : Program) (threaded : Bool) (s : ℕ) → code_offset program ≡ 4 * code_word s → code_offset program + 4 ≡ 4 * stream_word s → program_launched m program threaded word ≡ program_in m word threaded s
-launched_is m word program threaded s code stream = search (rules, arith, word_read, words_at)
+use Rattle.list_law.proofs.Emitted.{words_at, launched_is}
 
 threaded_is : (m : List ℕ) (word : ℕ) → threaded_by m word ≡ not (is_single (words_in m word))
 unfolding threaded_flag is_single

@@ -233,7 +233,7 @@ qpu_found IsHere true files q role left = record { first = left.first; other = s
 qpu_found IsHere false files q role left = record { first = slot_stays IsHere (role false) (with_files files) (stays_filed files) q.first left.first; other = left.other }
 
 -- An instruction of a shader that has nothing foreign isn't foreign.
-vertices_are : (w : ℕ) → touches_vertices w ≡ uses_vpm w
+pub vertices_are : (w : ℕ) → touches_vertices w ≡ uses_vpm w
 unfolding touches_vertices touches reads uses_vpm reads_address
 vertices_are w = refl
 

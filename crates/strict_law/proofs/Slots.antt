@@ -6,7 +6,7 @@ use Rattle.std.proofs.lemmas.List.Sums.{sum-map, sum_by-append, sum_by-cons}
 use Rattle.std.specs.Prelude.{is_none, option_map, sum, sum_by}
 use Rattle.std.specs.Int.{from_le_bytes, w64}
 use Rattle.field_words.specs.declared.access.Actor.TheVariants.{Qpu as TheQpu}
-use Rattle.qpu_isa.specs.Terms.{writes_s, writes_tmu}
+use Rattle.qpu_isa.specs.Terms.{writes_s, writes_tmu, loads}
 use Rattle.shader_flow.specs.{Flow.word, Flow.checked_of, Flow.is_threaded, Pending.pending_of}
 use Rattle.shader_flow.proofs.{Counts.pending_inside}
 use Rattle.shader_check.proofs.{Clean.clean, Setups.one_tmu, Setups.s_writes}
@@ -15,7 +15,7 @@ use Rattle.strict_rules.specs.Words as words
 use Rattle.strict_rules.proofs.Requests.{queue_inside}
 use Rattle.machine_plan.specs.{declared.launch.Launch.Launch, declared.who.Who.Who, Memory.bytes_at}
 use Rattle.qpu_machine.specs.{declared.state.Asked.Asked, declared.state.Qpu.Qpu, declared.state.Request.Request, declared.state.Thread.Thread}
-use Rattle.qpu_machine.specs.{Start.thread_of, Step.ThreadTurn, Step.thread_plan, Writes.loads}
+use Rattle.qpu_machine.specs.{Start.thread_of, Step.ThreadTurn, Step.thread_plan}
 use Rattle.qpu_machine.specs.declared.state.Fate.{Fate, TheVariants.Ends, TheVariants.Switches, TheVariants.GoesOn}
 use Rattle.qpu_machine.specs.Qpu.{active_of, left_by, gives_way, woken_slot, fresh_thread, after_turn, went, with_result, after_drop, result_given, after_service, has_none, is_beside, takes_first, takes_other, in_first, in_other, started_in}
 use Rattle.qpu_law.specs.{Home.Home, Home.HasNoFault, Home.IsAt, Home.ArePending, Home.Lands, Home.turn_done}

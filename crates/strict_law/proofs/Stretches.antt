@@ -3,7 +3,7 @@ use Rattle.std.proofs.Common.{◌≡◌, ◌≢◌, ◌≤◌, ◌<◌, inl, inr
 use Rattle.std.proofs.lemmas.Bool.{and_parts, cases_Bool, cases_lt, false_from_ne_true, le-leb, le-ltb, lt-ltb, or_parts, true≢false}
 use Rattle.std.proofs.lemmas.Bool.Decides.{nat_tests}
 use Rattle.std.specs.{Prelude.drop}
-use Rattle.qpu_isa.specs.{Terms.is_end, Terms.is_switch, Terms.is_address_write, Terms.writes_tmu, Terms.writes_s, Setups.is_direct}
+use Rattle.qpu_isa.specs.{Terms.is_end, Terms.is_switch, Terms.is_address_write, Terms.writes_tmu, Terms.writes_s, Setups.is_direct, Terms.loads}
 use Rattle.shader_flow.specs.{Flow.word, Flow.checked_of, Flow.after_switch, Flow.is_target, Flow.is_threaded, Pending.pending_of, Pending.takes}
 use Rattle.shader_flow.proofs.Bounded.{some_below_here}
 use Rattle.shader_flow.specs.Rules.{s11}
@@ -17,7 +17,7 @@ use Rattle.machine_plan.proofs.Runs.{every-append, every-weaker}
 use Rattle.qpu_law.specs.Home.{Home, HasNoFault, IsAt, IsBlank}
 use Rattle.qpu_law.proofs.Going.{behind, fine_at}
 use Rattle.qpu_law.proofs.Pointer.{lost_writes, unknown_next}
-use Rattle.qpu_machine.specs.{declared.state.Mark.Mark, declared.state.Thread.Thread, Writes.fate_of, Writes.loads}
+use Rattle.qpu_machine.specs.{declared.state.Mark.Mark, declared.state.Thread.Thread, Writes.fate_of}
 use Rattle.qpu_machine.specs.declared.state.Fate.{Fate, TheVariants.Ends, TheVariants.Switches, TheVariants.GoesOn}
 use Rattle.promises.specs.Steps.{one_if}
 use Rattle.strict_rules.specs.{declared.state.Request.Request, Queue.request_at, Queue.queue_after, Queue.queue_of, Queue.last_act, Rules.e4, Rules.has_older, Rules.loads_early, Rules.switches_late}

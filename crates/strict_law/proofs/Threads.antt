@@ -3,7 +3,7 @@ use Rattle.std.proofs.Common.{◌≡◌, ◌≢◌, ◌≤◌, ◌<◌, inl, inr
 use Rattle.std.proofs.lemmas.Bool.{not-true, or_parts, true≢false}
 use Rattle.std.specs.Int.{from_le_bytes, w64}
 use Rattle.field_words.specs.Words.{u32_at}
-use Rattle.qpu_isa.specs.Terms.{is_switch, writes_s}
+use Rattle.qpu_isa.specs.Terms.{is_switch, writes_s, loads}
 use Rattle.shader_flow.specs.{Flow.word, Flow.end_of, Flow.checked_of, Flow.is_threaded, Pending.pending_of}
 use Rattle.shader_flow.proofs.Ends.{checked_of-le}
 use Rattle.uniform_stream.specs.Rules.{s20}
@@ -11,7 +11,7 @@ use Rattle.machine_plan.specs.{declared.launch.Launch.Launch, declared.who.Who.W
 use Rattle.machine_plan.specs.{Plan.Plan, Plan.Done, Plan.Wilds, Plan.Reads}
 use Rattle.list_law.proofs.Safe.{keeps_if}
 use Rattle.qpu_machine.specs.Step.{ThreadTurn, turn_executed, word_plan, thread_plan, is_held_by, is_held, thread_ready}
-use Rattle.qpu_machine.specs.Writes.{awake, past_uniform, fate_of, loads}
+use Rattle.qpu_machine.specs.Writes.{awake, past_uniform, fate_of}
 use Rattle.qpu_machine.specs.{declared.state.Thread.Thread, Start.thread_of, Wild.takes_one, Wild.is_wild}
 use Rattle.qpu_machine.specs.declared.state.Fate.{Fate, TheVariants.Ends, TheVariants.Switches}
 use Rattle.qpu_law.specs.Home.{Home, HasNoFault, IsAt, Jumps, GoesTo, Lands, turn_done}

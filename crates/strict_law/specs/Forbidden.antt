@@ -7,12 +7,12 @@ use Rattle.std.specs.Prelude.{◌≡◌, ℕ, ◌+◌, ◌-◌, ◌==◌, Bool, 
 use Rattle.std.specs.Int.{from_le_bytes, w64}
 use Rattle.field_words.specs.declared.access.Actor.TheVariants.{Qpu as TheQpu}
 use Rattle.qpu_isa.specs.Word.{sig_of, waddr_add_of, waddr_mul_of, raddr_a_of, raddr_b_of}
-use Rattle.qpu_isa.specs.Terms.{is_alu, is_branch, is_end, has_small, names_address, writes_s}
+use Rattle.qpu_isa.specs.Terms.{is_alu, is_branch, is_end, has_small, names_address, writes_s, loads}
 use Rattle.qpu_isa.specs.Setups.{setups_kept}
 use Rattle.machine_plan.specs.Memory.{bytes_at}
 use Rattle.qpu_machine.specs.{declared.state.Qpu.Qpu, declared.state.Thread.Thread}
 use Rattle.qpu_machine.specs.declared.state.Fate.TheVariants.{Ends, Switches}
-use Rattle.qpu_machine.specs.{Qpu.active_of, Qpu.queue_count, Qpu.resting_of, Wild.takes_one, Writes.fate_of, Writes.loads}
+use Rattle.qpu_machine.specs.{Qpu.active_of, Qpu.queue_count, Qpu.resting_of, Wild.takes_one, Writes.fate_of}
 use Rattle.machine.specs.{State.State, State.item_at, Step.Event}
 use Rattle.promises.specs.{Steps.one_if, Finished.count_unloaded}
 

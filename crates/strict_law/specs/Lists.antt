@@ -10,7 +10,7 @@ use Rattle.field_words.specs.declared.access.Actor.TheVariants.{Binner as TheBin
 use Rattle.field_words.specs.Words.{u32_at}
 use Rattle.packets.specs.Opcode.{start_tile_binning, indexed_primitive_list, primitive_list_format, gl_shader_state}
 use Rattle.packets.specs.Length.{bin_taken}
-use Rattle.bin_list.specs.{Packets.opcode, Seen.last_opcode, Seen.latest}
+use Rattle.bin_list.specs.{Packets.opcode, Seen.last_opcode, Seen.latest, Packets.draws}
 use Rattle.machine_plan.specs.{Memory.bytes_at, Regions.Interval, Regions.Rights, Regions.HasReadOnly}
 use Rattle.machine_plan.specs.Others.{Happening as Sole, OthersRun}
 use Rattle.list_machine.specs.{declared.state.Work.Work, Lists.Lists}
@@ -18,7 +18,6 @@ use Rattle.machine.specs.{declared.job.Start.Start, State.Picked, State.State, S
 use Rattle.machine.specs.Step.{Event, ready, turn}
 use Rattle.machine_law.specs.{Jobs.ArePlain, Units.EachAt}
 use Rattle.promises.specs.Days.{Day, Happening, after, dawn}
-use Rattle.promises.specs.Steps.{draws}
 use Rattle.day_law.specs.Day.{AllMayHappen}
 use Rattle.strict_law.specs.{Days.AdmitStrict, Kept.Keeping, Kept.kept_along, Kept.kept_of, Records.selects_missing, Strict.JobStrict}
 

@@ -7,10 +7,10 @@ use Rattle.std.specs.Prelude.{◌≡◌, ◌≤◌, ℕ, ◌+◌, ◌==◌, Bool
 use Rattle.std.specs.Int.{from_le_bytes, w64}
 use Rattle.field_words.specs.declared.access.{Access.Access, Actor.Actor}
 use Rattle.field_words.specs.declared.access.Actor.TheVariants.{Binner as TheBinner, Renderer as TheRenderer, Qpu as TheQpu, Tmu as TheTmu}
-use Rattle.qpu_isa.specs.Terms.{writes_s}
+use Rattle.qpu_isa.specs.Terms.{writes_s, loads}
 use Rattle.machine_plan.specs.{Memory.bytes_at, Regions.Interval, Regions.Rights, Regions.HasReadOnly}
 use Rattle.machine_plan.specs.Others.{Happening as Sole, OthersRun}
-use Rattle.qpu_machine.specs.{declared.state.Qpu.Qpu, declared.state.Thread.Thread, Qpu.active_of, Writes.loads}
+use Rattle.qpu_machine.specs.{declared.state.Qpu.Qpu, declared.state.Thread.Thread, Qpu.active_of}
 use Rattle.machine.specs.{declared.job.Start.Start, State.State, State.Units, State.item_at, State.units_start, Step.Event, Step.ready, Step.turn}
 use Rattle.machine_law.specs.{Jobs.ArePlain, Units.EachAt}
 use Rattle.day_law.specs.Day.{AllMayHappen}

@@ -2,7 +2,7 @@
 use Rattle.std.specs.Prelude.{ℕ, ◌+◌, ◌/◌, ◌%◌, ◌==◌, Bool, false, not, ◌&&◌, ◌||◌, List, [], ◌∷◌, ◌++◌, slice_index, nat_lt, if◌then◌else◌}
 use Rattle.field_words.specs.Questions.{Question, Ask, with_answers}
 use Rattle.packets.specs.Opcode.{start_tile_binning, indexed_primitive_list, array_primitive_list, primitive_list_format}
-use Rattle.bin_list.specs.{Packets.opcode, Packets.packets, Seen.place, Seen.last_opcode}
+use Rattle.bin_list.specs.{Packets.opcode, Packets.packets, Seen.place, Seen.last_opcode, Packets.draws}
 use Rattle.strict_lists.specs.{declared.course.Course.Course, declared.rule.ListRule.ListRule, declared.rule.ListFault.ListFault}
 use Rattle.strict_lists.specs.declared.rule.ListRule.TheVariants.{PrimitiveKind, PrimitiveCount, ListFormat}
 
@@ -11,13 +11,10 @@ number_of PrimitiveKind = 9
 number_of PrimitiveCount = 10
 number_of ListFormat = 13
 
-unfoldable pub is_primitive : List ℕ → Bool
-is_primitive packet = opcode packet == indexed_primitive_list || opcode packet == array_primitive_list
-
 -- how many primitives there are
 abbrev pub primitives_in : List (List ℕ) → ℕ
 primitives_in [] = 0
-primitives_in (packet ∷ earlier) = primitives_in earlier + (if is_primitive packet then 1 else 0)
+primitives_in (packet ∷ earlier) = primitives_in earlier + (if draws packet then 1 else 0)
 
 -- binning was started
 abbrev pub is_started : List (List ℕ) → Bool
@@ -42,7 +39,7 @@ course_before earlier =
 
 -- one primitive too many
 unfoldable pub e10 : Course → List ℕ → Bool
-e10 course packet = is_primitive packet && course.primitives == most_primitives
+e10 course packet = draws packet && course.primitives == most_primitives
 
 -- the reset that a tile list begins with
 unfoldable pub is_reset : List ℕ → Bool

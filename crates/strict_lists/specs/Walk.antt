@@ -2,8 +2,8 @@
 use Rattle.std.specs.Prelude.{◌≡◌, ◌≤◌, ℕ, ◌+◌, ◌==◌, ◌||◌, List, length, if◌then◌else◌}
 use Rattle.field_words.specs.Questions.{first_of}
 use Rattle.packets.specs.Opcode.{start_tile_binning}
-use Rattle.bin_list.specs.Packets.{opcode, packets}
-use Rattle.strict_lists.specs.{declared.course.Course.Course, Rules.is_primitive, Rules.course_before, Rules.asked_from, Rules.list_questions}
+use Rattle.bin_list.specs.Packets.{opcode, packets, draws}
+use Rattle.strict_lists.specs.{declared.course.Course.Course, Rules.course_before, Rules.asked_from, Rules.list_questions}
 
 -- what is kept one packet later
 unfoldable pub course_after : Course → List ℕ → Course
@@ -11,7 +11,7 @@ course_after course packet = record {
   at = course.at + length packet;
   last = opcode packet;
   started = (opcode packet == start_tile_binning || course.started);
-  primitives = course.primitives + (if is_primitive packet then 1 else 0);
+  primitives = course.primitives + (if draws packet then 1 else 0);
 }
 
 pub record IsUnderway (list rest : List ℕ) (course : Course) : Type 0 where

@@ -3,7 +3,7 @@ ghost use Rattle.std.specs.Prelude.{◌≡◌, ◌≤◌, ◌+◌, length};
 ghost use Rattle.field_words.specs.Sizes.{most_list};
 ghost use Rattle.strict_lists.specs.Walk.{course_after};
 
-use crate::rules::is_primitive;
+use bin_list::draws;
 use packets::opcode::START_TILE_BINNING;
 
 /// Where the next packet begins, the opcode of the last one, whether binning was started, and how many primitives there were.
@@ -28,6 +28,6 @@ pub(crate) fn behind(course: Course, packet: &[u8]) -> Course
         at: course.at + packet.len() as u32,
         last: packet[0],
         started: packet[0] == START_TILE_BINNING || course.started,
-        primitives: course.primitives + u32::from(is_primitive(packet)),
+        primitives: course.primitives + u32::from(draws(packet)),
     }
 }

@@ -1,23 +1,16 @@
 //! The strict rules at one packet.
 ghost use Rattle.std.specs.Prelude.{◌≡◌, ◌≤◌, length};
 ghost use Rattle.field_words.specs.Questions.{first_of};
-ghost use Rattle.strict_lists.specs.Rules.{is_primitive, e9, e10, is_reset, e13, packet_questions};
+ghost use Rattle.strict_lists.specs.Rules.{e9, e10, is_reset, e13, packet_questions};
+ghost use Rattle.bin_list.specs.Packets.{draws};
 
 use crate::course::Course;
 use crate::rule::ListRule;
+use bin_list::draws;
 use field_words::byte_at;
 use packets::opcode::{
     ARRAY_PRIMITIVE_LIST, INDEXED_PRIMITIVE_LIST, PRIMITIVE_LIST_FORMAT, START_TILE_BINNING,
 };
-
-/// Whether the packet is a primitive.
-#[tactic(auto, unfolding(crate::specs::Rules::is_primitive))]
-pub(crate) fn is_primitive(packet: &[u8]) -> bool
-    requires { 1 ≤ length packet.now }
-    ensures { result ≡ is_primitive packet.now }
-{
-    packet[0] == INDEXED_PRIMITIVE_LIST || packet[0] == ARRAY_PRIMITIVE_LIST
-}
 
 // A primitive of no kind.
 #[tactic(auto, unfolding(crate::specs::Rules::e9))]
@@ -36,7 +29,7 @@ fn breaks_e10(course: &Course, packet: &[u8]) -> bool
     requires { 1 ≤ length packet.now }
     ensures { result ≡ e10 course.now packet.now }
 {
-    is_primitive(packet) && course.primitives == 7920
+    draws(packet) && course.primitives == 7920
 }
 
 // The reset that a tile list begins with.

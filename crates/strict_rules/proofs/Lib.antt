@@ -1,4 +1,3 @@
 pub mod Leasts
-pub mod Lists
 pub mod Requests
 pub mod Rooms

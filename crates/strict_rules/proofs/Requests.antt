@@ -3,10 +3,10 @@ use Rattle.std.proofs.Common.{◌≡◌, ◌≤◌, ◌<◌, ◌+◌, ◌-◌, �
 use Rattle.std.proofs.Math.ListN.{drop_of_length-le}
 use Rattle.std.proofs.lemmas.Bool.{cases_lt, lt-ltb, le-ltb}
 use Rattle.std.specs.List.{list_any}
-use Rattle.qpu_isa.specs.Terms.{is_switch, writes_s}
+use Rattle.qpu_isa.specs.Terms.{is_switch, writes_s, loads}
 use Rattle.shader_flow.specs.{Bounded.last_below, Flow.word, Flow.checked_of, Pending.pending_of}
 use Rattle.shader_flow.proofs.Bounded.{last_below-suc, last_below_found}
-use Rattle.strict_rules.specs.{declared.state.Request.Request, Words.loads, Rules.has_older, Queue.request_at, Queue.queue_after, Queue.queue_of, Queue.acts_at, Queue.last_act, Walk.load_count}
+use Rattle.strict_rules.specs.{declared.state.Request.Request, Rules.has_older, Queue.request_at, Queue.queue_after, Queue.queue_of, Queue.acts_at, Queue.last_act, Walk.load_count}
 
 queue_next : (code : List ℕ) (tmu i : ℕ)
     → queue_of code tmu (i + 1)

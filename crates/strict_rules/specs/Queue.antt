@@ -1,8 +1,8 @@
 -- The requests that a shader has sent to the TMUs and not loaded, its instructions taken in the order of their indexes.
 use Rattle.std.specs.Prelude.{ℕ, zero, suc, ◌+◌, ◌-◌, Bool, ◌||◌, List, [], ◌∷◌, ◌++◌, length, drop, map, sum, nat_lt, if◌then◌else◌, Option, None, Some}
-use Rattle.qpu_isa.specs.Terms.{is_switch, writes_s}
+use Rattle.qpu_isa.specs.Terms.{is_switch, writes_s, loads}
 use Rattle.shader_flow.specs.{Bounded.last_below, Flow.word, Flow.checked_of, Flow.is_threaded, Pending.pending_of}
-use Rattle.strict_rules.specs.{declared.state.Request.Request, Words.loads}
+use Rattle.strict_rules.specs.{declared.state.Request.Request}
 
 -- a TMU keeps setup words before the instruction at i
 unfoldable pub keeps_words : List ℕ → ℕ → Bool

@@ -1,11 +1,11 @@
 -- The strict rules on shaders, each as a sentence about the instruction at i, and all in the order of refusal.
 use Rattle.std.specs.{Prelude.ℕ, Prelude.◌+◌, Prelude.◌==◌, Prelude.Bool, Prelude.not, Prelude.◌&&◌, Prelude.◌||◌, Prelude.List, Prelude.[], Prelude.◌∷◌, Prelude.length, Prelude.nat_lt, Prelude.nat_le, List.list_any}
 use Rattle.field_words.specs.Questions.{Question, Ask, each, with_answers}
-use Rattle.qpu_isa.specs.Terms.{is_switch, writes_tmu, writes_s}
+use Rattle.qpu_isa.specs.Terms.{is_switch, writes_tmu, writes_s, loads}
 use Rattle.shader_flow.specs.{Bounded.some_below, Flow.word, Flow.end_of, Flow.checked_of, Flow.is_target, Flow.is_threaded, Pending.takes}
 use Rattle.strict_rules.specs.{declared.state.Request.Request, declared.rule.StrictRule.StrictRule, declared.rule.StrictFault.StrictFault}
 use Rattle.strict_rules.specs.declared.rule.StrictRule.TheVariants.{SetupAtSwitch, SetupAtEnd, Requests, Stretch, LastThree, Coupled, Mutex}
-use Rattle.strict_rules.specs.Words.{reads_address, loads, uses_vpm, uses_tile, coupled_of}
+use Rattle.strict_rules.specs.Words.{reads_address, uses_vpm, uses_tile, coupled_of}
 use Rattle.strict_rules.specs.Queue.{keeps_words, queue_of, requests_of, slots_of, most_slots, most_requests, last_act}
 
 -- a switch that acts while a TMU keeps setup words

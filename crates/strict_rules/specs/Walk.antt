@@ -2,7 +2,8 @@
 use Rattle.std.specs.Prelude.{◌≡◌, ◌≤◌, ◌<◌, ℕ, ◌*◌, ◌&&◌, List, length, nat_lt, if◌then◌else◌}
 use Rattle.shader_flow.specs.{Flow.word, Flow.checked_of, Flow.IsFlow, Pending.pending_of}
 use Rattle.shader_flow.specs.declared.state.Flow.{Flow}
-use Rattle.strict_rules.specs.{declared.state.Unit.Unit as Kept, declared.state.Walked.Walked, Words.loads, Queue.queue_of, Queue.last_act}
+use Rattle.strict_rules.specs.{declared.state.Unit.Unit as Kept, declared.state.Walked.Walked, Queue.queue_of, Queue.last_act}
+use Rattle.qpu_isa.specs.Terms.{loads}
 
 -- of one TMU
 pub record IsKept (code : List ℕ) (tmu at : ℕ) (unit : Kept) : Type 0 where

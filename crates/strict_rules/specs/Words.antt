@@ -7,10 +7,6 @@ use Rattle.qpu_isa.specs.Terms.{is_alu, is_branch, has_small, names_address}
 unfoldable pub reads_address : ℕ → ℕ → Bool
 reads_address word address = is_alu word && (raddr_a_of word == address || (raddr_b_of word == address && not (has_small word)))
 
--- signals 10 and 11 load a result of TMU 0 and 1
-unfoldable pub loads : ℕ → ℕ → Bool
-loads word tmu = sig_of word == 10 + tmu
-
 -- 48 to 50 are the VPM, the memory of vertices, for reads and for writes
 unfoldable pub uses_vpm : ℕ → Bool
 uses_vpm word =

@@ -12,9 +12,9 @@ use crate::here::Here;
 use crate::queues::has_older;
 use crate::rule::StrictRule;
 use crate::state::Unit;
-use crate::words::{coupled, loads, reads_address, uses_vpm};
+use crate::words::{coupled, reads_address, uses_vpm};
 use qpu_isa::word::is_switch;
-use qpu_isa::writes::{takes, writes_s, writes_tmu};
+use qpu_isa::writes::{loads, takes, writes_s, writes_tmu};
 use shader_flow::is_marked;
 
 // The instruction is the program end.

@@ -4,16 +4,14 @@ ghost use Rattle.field_words.specs.Sizes.{most_words};
 ghost use Rattle.arrayvec.specs.ArrayVec.{array_vec_len};
 ghost use Rattle.shader_flow.specs.Flow.{word, checked_of};
 ghost use Rattle.shader_flow.specs.Pending.{pending_of};
-ghost use Rattle.qpu_isa.specs.Terms.{writes_s};
-ghost use Rattle.strict_rules.specs.Words.{loads};
+ghost use Rattle.qpu_isa.specs.Terms.{writes_s, loads};
 ghost use Rattle.strict_rules.specs.Queue.{request_at, queue_after, queue_of, last_act};
 ghost use Rattle.strict_rules.specs.Walk.{IsKept, IsWalked, load_count};
 
 use crate::state::{Request, Unit, Walked};
-use crate::words::loads;
 use arrayvec::ArrayVec;
 use qpu_isa::word::is_switch;
-use qpu_isa::writes::{tmu_writes, writes_s};
+use qpu_isa::writes::{loads, tmu_writes, writes_s};
 
 /// How many setup words the TMU keeps after the instruction `at`, where it keeps `pending` before.
 pub(crate) fn next_pending(code: &[u64], last: usize, tmu: u8, at: usize, pending: u16) -> u16
@@ -84,7 +82,7 @@ pub(crate) fn load_count(code: &[u64], last: usize, tmu: u8, at: usize) -> usize
 }
 
 // The requests that are outstanding after an instruction.
-#[tactic(auto, using(crate::proofs::Lists::remove_first, crate::proofs::Lists::drop_none), unfolding(crate::specs::Queue::queue_after))]
+#[tactic(auto, using(field_words::proofs::Lists::remove_first, field_words::proofs::Lists::drop_none), unfolding(crate::specs::Queue::queue_after))]
 fn next_queue(word: u64, tmu: u8, request: Request, queue: &mut ArrayVec<Request, 4>)
     requires number { tmu < 2 }
     requires room { writes_s word tmu ≡ true → array_vec_len queue.old < 4 }

@@ -1,7 +1,7 @@
 //! What the strict rules ask of one instruction.
 ghost use Rattle.std.specs.Prelude.{◌≡◌, ◌<◌, ◌||◌};
 ghost use Rattle.qpu_isa.specs.Terms.{names_address};
-ghost use Rattle.strict_rules.specs.Words.{reads_address, loads, uses_vpm, names_tile, has_tile_signal, uses_tile, is_coupled, add_couples, mul_couples, loads_result, coupled_of};
+ghost use Rattle.strict_rules.specs.Words.{reads_address, uses_vpm, names_tile, has_tile_signal, uses_tile, is_coupled, add_couples, mul_couples, loads_result, coupled_of};
 
 use qpu_isa::word::{has_small, is_alu, is_branch, raddr_a, raddr_b, sig, waddr_add, waddr_mul};
 use qpu_isa::writes::names_address;
@@ -12,15 +12,6 @@ pub(crate) fn reads_address(word: u64, address: u8) -> bool
     ensures { result ≡ reads_address word address }
 {
     is_alu(word) && (raddr_a(word) == address || (raddr_b(word) == address && !has_small(word)))
-}
-
-/// Whether the instruction loads a result of this TMU.
-#[tactic(auto, unfolding(crate::specs::Words::loads))]
-pub(crate) fn loads(word: u64, tmu: u8) -> bool
-    requires { tmu < 2 }
-    ensures { result ≡ loads word tmu }
-{
-    sig(word) == 10 + tmu
 }
 
 // Whether the instruction reads or writes this address.

@@ -24,16 +24,12 @@ use Rattle.accepted_law.proofs.{Emitted.emitted_alike_law, RenderWalking.frame_s
 use Rattle.textured_job.specs.{Job.two_clients, Job.one_client, Laws.AreWitnesses, Laws.two_clients_bytes, Laws.one_client_bytes}
 use Rattle.textured_job.proofs.Cases.{Case, First, Single, file_in, number_in, input_in}
 use Rattle.textured_job.proofs.{Lists.bin_there, Lists.grid_is, Whole.input_is, Whole.file_none_of_two, Whole.file_none_of_one}
-use Rattle.textured_job.proofs.Witness.{two_are_file, one_is_file, two_clients_witness, one_client_accepted}
+use Rattle.textured_job.proofs.Witness.{two_are_file, one_is_file, two_clients_witness, one_client_accepted, two_in}
 
 -- past the last job there is none of the client
 beyond : (c : ℕ) (f : FileModel) (j : ℕ) → length f.jobs ≤ j → jobs_of c f j ≡ false
 unfolding jobs_of
 beyond c f j past = grind (arith, past)
-
-two_in : length two_clients.jobs ≡ 2
-unfolding two_clients
-two_in = refl
 
 one_in : length one_client.jobs ≡ 1
 unfolding two_clients one_client

@@ -263,7 +263,7 @@ one_in : length textured_file.jobs ≡ 1
 unfolding textured_file
 one_in = refl
 
-two_in : length two_clients.jobs ≡ 2
+pub two_in : length two_clients.jobs ≡ 2
 unfolding two_clients
 two_in = refl
 

@@ -16,6 +16,7 @@ use Rattle.strict_rules.specs.{declared.rule.StrictRule.StrictRule, declared.rul
 use Rattle.strict_rules.specs.declared.rule.StrictRule.TheVariants.{SetupAtSwitch, SetupAtEnd, Requests, Stretch, LastThree, Coupled, Mutex}
 use Rattle.strict_check.specs.{declared.findings.Findings.Findings, Findings.findings_of}
 use Rattle.vc4check_c.specs.{Shader.position_report, Shader.flag_report, declared.block.Known.Known}
+use Rattle.shader_check.proofs.Indexed.{model}
 
 longer : (list : List ℕ) (x n : ℕ) → length list ≤ n → length (list ++ (x ∷ [])) ≤ suc n
 longer list x n few = subst (λ k. k ≤ suc n) (sym (length-append list (x ∷ []))) (omega (arith, few))
@@ -205,10 +206,6 @@ made_reads shader findings =
 
 block_reads : (shader : ShaderModel) (findings : Findings) (block : List Known) → block ≡ block_of shader findings → Reads shader findings block
 block_reads shader findings block is = subst (Reads shader findings) (sym is) (made_reads shader findings)
-
--- So it reads as that shader.
-abbrev model : ℕ → List Sample → List ℕ → Bool → ShaderModel
-model uniforms samples words threaded = record { uniforms = uniforms; samples = samples; address_words = words; threaded = threaded }
 
 pub made_read : (code : List ℕ) (block : List Known) → IsBlockOf code block → read_of block ≡ report_of (words_of code)
 unfolding read_of report_of

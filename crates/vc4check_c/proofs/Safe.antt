@@ -39,6 +39,7 @@ use Rattle.accepted_strict.proofs.Files.{strict_files_obey_law}
 use Rattle.vc4check_c.specs.Obeys.{Obeys, ObeysGuide, AllObeyGuide}
 use Rattle.vc4check_c.proofs.{MayRun.faultless, MayRun.may_run, MayRun.unstrict_none, MayRun.strict_none, Submissions.inside_at}
 use Rattle.vc4check_c.proofs.Places.{unstrict_file, faultless_file, strict_file}
+use Rattle.accepted_law.proofs.Neighbours.{given_if}
 
 -- Handles one after the other.
 named_append : (code : Bool) (buffers : List GivenBuffer) (xs ys : List ℕ) → intervals_named code buffers (xs ++ ys) ≡ intervals_named code buffers xs ++ intervals_named code buffers ys
@@ -56,10 +57,6 @@ entry_there : (buffers : List GivenBuffer) (number : ℕ) (given : GivenBuffer) 
 unfolding buffer_at
 entry_there buffers number given here =
     get_or_from_slice_get (map entry_in buffers) number (entry_in given) past_end (slice_get-map entry_in buffers number ∙ ap (option_map entry_in) here)
-
--- What one handle gives, in the file as in the submission.
-abbrev given_if : Bool → Buffer → List Interval
-given_if gives b = if gives then interval b.place b.size ∷ [] else []
 
 where_if : (buffers : List Buffer) (is gives : Bool) (number : ℕ) → is ≡ true
     → interval_where buffers (if is && gives then Some number else None) ≡ given_if gives (buffer_at buffers number)

@@ -1,7 +1,8 @@
 use Rattle.std.proofs.Common.{length, map, refl, ap, ◌∙◌}
 use Rattle.job_format.specs.Parts.{parts_view}
-use Rattle.job_check.proofs.Emission.{fit_at, length_zeros}
+use Rattle.job_check.proofs.Emission.{fit_at}
 use Rattle.job_check.proofs.check.fresh_memory.Goals as goal
+use Rattle.field_words.proofs.Writes.{length_zeros}
 
 pub put_contents-requires-clause-fit : goal.put_contents-requires-clause-fit
 put_contents-requires-clause-fit c =

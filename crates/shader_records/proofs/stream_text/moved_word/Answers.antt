@@ -1,9 +1,10 @@
 -- A first word is at most a page past its buffer's size, and the buffer ends within the greatest memory.
 use Rattle.std.proofs.Common.{◌<◌, ◌^◌, arith, ◌∙◌, ap}
 use Rattle.qpu_isa.specs.Shader.{shader_view, sample_at, first_position}
-use Rattle.shader_records.specs.Sources.{source_word, size_in}
+use Rattle.shader_records.specs.Sources.{source_word}
 use Rattle.shader_records.proofs.StreamFacts.{base_fits}
 use Rattle.shader_records.proofs.stream_text.moved_word.Goals as goal
+use Rattle.buffer_table.specs.Handles.{size_in}
 
 pub relocated-requires : goal.relocated-requires
 relocated-requires c =

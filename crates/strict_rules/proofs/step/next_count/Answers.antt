@@ -1,7 +1,6 @@
 use Rattle.std.proofs.Common.{◌<◌, ◌+◌, ◌-◌, length, if◌then◌else◌, sym, ap, arith, ◌∙◌}
-use Rattle.qpu_isa.specs.Terms.{writes_s}
+use Rattle.qpu_isa.specs.Terms.{writes_s, loads}
 use Rattle.shader_flow.specs.Flow.{word, checked_of}
-use Rattle.strict_rules.specs.Words.{loads}
 use Rattle.strict_rules.proofs.Requests.{queue_past, count_inside}
 use Rattle.strict_rules.proofs.step.next_count.Goals as goal
 

@@ -1,4 +1,4 @@
--- Queues, as the code changes them.
+-- A list without its first item.
 use Rattle.std.proofs.Common.{◌≡◌, List, [], ◌∷◌, length, drop, refl, arith}
 use Rattle.std.specs.List.{remove}
 
