@@ -113,6 +113,7 @@ pub binner_goes : (who : Who) (K : List ℕ → Type 0) (executed : List (List �
 unfolding binner_plan binner_ready
 binner_goes who K executed s free words m here left ready = binner_by_goes who K executed s s.binner.work free words m here left ready
 
+-- So it does where the renderer steps.
 act_stays : (who : Who) (B : ℕ → ℕ → Type 0) (s : Lists) (words m : List ℕ) (packet : Packet) → B s.binner.place s.binner.end → Comes who (λ next. B next.binner.place next.binner.end) (act s words packet) m
 unfolding render_tile_plan whole_written
 act_stays who B s words m WaitOnSemaphore here = here

@@ -98,6 +98,7 @@ start_fits who IsOwn m Fragment free word all = (tt, start_as_fits who IsOwn m F
 start_fits who IsOwn m Vertex free word all = start_as_fits who IsOwn m Vertex false free word all.vertex
 start_fits who IsOwn m Coordinate free word all = start_as_fits who IsOwn m Coordinate false free word all.coordinate
 
+-- The binner does what a packet says, and stands behind it.
 word_stays : (W : ℕ → Type 0) (word : Option ℕ) (packet : List ℕ) (packets : List (List ℕ)) → (opcode packet == gl_shader_state) ≡ false → DrawUnder W (word_after word packet) packets → DrawUnder W word packets
 word_stays W word packet packets off all = subst (λ b. DrawUnder W (if b then Some (u32_at packet 1) else word) packets) off all
 

@@ -25,6 +25,7 @@ use Rattle.strict_law.proofs.Programs.{has_foreign, LaunchFits, WordFits, WordsF
 use Rattle.strict_law.proofs.Roles.{QpuFits, starts_fit, went_fits, served_fits, qpu_goes, qpu_found, keeps_role}
 use Rattle.list_law.proofs.Emitted.{words_at, launched_is}
 
+-- What is read of a record is what its words say.
 threaded_is : (m : List ℕ) (word : ℕ) → threaded_by m word ≡ not (is_single (words_in m word))
 unfolding threaded_flag is_single
 threaded_is m word = grind (arith, common_steps, nat_tests, byte_read, low_bit)

@@ -58,6 +58,7 @@ unfolding buffer_at
 entry_there buffers number given here =
     get_or_from_slice_get (map entry_in buffers) number (entry_in given) past_end (slice_get-map entry_in buffers number ∙ ap (option_map entry_in) here)
 
+-- What one handle gives, in the file as in the submission.
 where_if : (buffers : List Buffer) (is gives : Bool) (number : ℕ) → is ≡ true
     → interval_where buffers (if is && gives then Some number else None) ≡ given_if gives (buffer_at buffers number)
 where_if buffers true true number here = refl
