@@ -8,7 +8,6 @@ use Rattle.list_machine.specs.declared.state.Item.{Item}
 use Rattle.machine.specs.{State.State, Step.is_enabled, Step.step}
 use Rattle.qpu_machine.specs.declared.state.Ask.TheVariants.{Direct}
 use Rattle.qpu_machine.specs.declared.state.Request.{Request}
-use Rattle.qpu_machine.specs.declared.state.Qpu.{Qpu}
 use Rattle.qpu_machine.specs.declared.state.Thread.{Thread}
 use Rattle.apart_needs.specs.States.{reads, writes, state, one_job, no_lists, new_thread, running, bytes, from_5, tiling}
 

@@ -5,16 +5,16 @@ use Rattle.std.specs.Prelude.{if◌then◌else◌}
 use Rattle.field_words.specs.Questions.{Question, Ask, first_of, each, with_answers}
 use Rattle.field_words.proofs.Questions.{passes, answered_none}
 use Rattle.buffer_table.specs.{Table.buffer_at}
-use Rattle.job_format.specs.{declared.rule.Refusal.Refusal, File.IsWellFormed, File.IsFileOf}
+use Rattle.job_format.specs.{declared.rule.Refusal.Refusal, File.IsFileOf}
 use Rattle.job_format.proofs.Laws.{read_again}
 use Rattle.render_list.specs.Surfaces.{surface_faults}
 use Rattle.job_check.specs.Jobs.{job_of, has_bin, grid_of, render_room, lists_begin, layout_of, states_in, input_for}
 use Rattle.job_check.specs.Faults.{table_stage, shader_stage, shaders_stage, handles_stage, bin_stage, records_stage, surface_refused, surfaces_stage, layout_stage, lists_stages, job_stages, file_stages, table_stage_within, stages_within}
 use Rattle.job_check.specs.Shaders.{words_in, report_of, content_of, shader_of, shaders_up_to}
 use Rattle.job_check.specs.Whole.{refusal_of, all_questions as file_questions, questions_within}
-use Rattle.example_job.specs.Example.{vertex_bytes, file_of, example, across_of, down_of, count_of, frame_of, shader}
+use Rattle.example_job.specs.Example.{file_of, example, across_of, down_of, count_of, frame_of, shader}
 use Rattle.example_job.specs.Lists.{records_of}
-use Rattle.example_job.proofs.Formed.{well_formed}
+use Rattle.example_job.proofs.Formed.{bin_length, records_length, well_formed}
 use Rattle.example_law.proofs.Numbers.{states_are, in_range, IsTiles, tiles_in, is_some, memory_bytes, table_for, table_no_fault, handles_no_fault, render_most, lists_fit}
 use Rattle.example_law.proofs.{Shader.shader_no_fault, Shader.shader_reported, Bin.bin_no_fault, Bin.grid_is, Bin.states_reported}
 use Rattle.example_law.proofs.Records.{input, records_no_fault, surfaces_no_fault}

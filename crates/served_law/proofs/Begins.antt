@@ -8,7 +8,8 @@ use Rattle.list_law.proofs.Start.{walks_so}
 use Rattle.qpu_machine.specs.Qpu.{idle_qpu}
 use Rattle.machine.specs.{declared.job.Start.Start, State.job_start, State.units_start}
 use Rattle.machine_law.specs.{Begins.JobBegins, Units.EachAt}
-use Rattle.ends_law.proofs.Begins.{draws_so, lists_so, bin_starts, render_starts}
+use Rattle.machine_law.proofs.Begins.{lists_so}
+use Rattle.ends_law.proofs.Begins.{draws_so, bin_starts, render_starts}
 use Rattle.served_law.specs.Finish.{DrawServed, JobMayFinish}
 use Rattle.promises.specs.Finished.{may_wait}
 use Rattle.served_law.specs.Known.{LaunchServed, QpuServed, AllGo, JobServed, UnitsServed}

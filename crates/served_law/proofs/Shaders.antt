@@ -11,7 +11,6 @@ use Rattle.qpu_law.specs.Home.{Home, HasNoFault, Jumps, GoesTo}
 use Rattle.uniform_stream.specs.Rules.{s20}
 use Rattle.qpu_law.proofs.Going.{behind, fine_at, in_checked, makes_on, target_inside}
 use Rattle.promises.specs.{Steps.one_if, Finished.may_wait}
-use Rattle.strict_rules.specs.Words as words
 use Rattle.strict_rules.specs.Queue.{queue_of, requests_of, most_requests}
 use Rattle.strict_rules.specs.Rules.{meets_requests, loads_none, lacks_slot, lacks_room, leaves_requests, e3, waits_at}
 use Rattle.strict_rules.proofs.{Requests.count_inside, Rooms.never_waits, Rooms.room_for}
@@ -42,10 +41,6 @@ pub serves_at : (code : List ℕ) (i : ℕ) → may_wait code ≡ false → i < 
 serves_at code i served inside = serves_by code i (no_e3 code i served inside)
 
 -- An instruction takes a request by a load, and sends one.
-pub same_load : (w tmu : ℕ) → words.loads w tmu ≡ loads w tmu
-unfolding words.loads loads
-same_load w tmu = refl
-
 taken_by : (load : Bool) (n : ℕ) → (if load then n - 1 else n) ≡ n - one_if load
 taken_by true n = refl
 taken_by false n = omega arith
@@ -54,8 +49,7 @@ pub next_queue : (code : List ℕ) (tmu i : ℕ) → i < checked_of code
     → length (queue_of code tmu (i + 1)) ≡ (length (queue_of code tmu i) - one_if (loads (word code i) tmu)) + one_if (writes_s (word code i) tmu)
 next_queue code tmu i inside =
     count_inside code tmu i inside
-    ∙ (ap (λ n. n + one_if (writes_s (word code i) tmu)) (taken_by (words.loads (word code i) tmu) (length (queue_of code tmu i)))
-    ∙ ap (λ b. (length (queue_of code tmu i) - one_if b) + one_if (writes_s (word code i) tmu)) (same_load (word code i) tmu))
+    ∙ ap (λ n. n + one_if (writes_s (word code i) tmu)) (taken_by (loads (word code i) tmu) (length (queue_of code tmu i)))
 
 -- The count goes on, where the instruction isn't held up by the results that there are.
 pub count_on : (code : List ℕ) (tmu i queued finished after more : ℕ) → i < checked_of code → queued + finished ≡ length (queue_of code tmu i) → one_if (loads (word code i) tmu) ≤ finished

@@ -19,7 +19,7 @@ use Rattle.strict_rules.specs.{Queue.queue_of, Rules.loads_none}
 use Rattle.strict_rules.proofs.Rooms.{room_first, room_second}
 use Rattle.ends_law.proofs.{Plans.Comes, Threads.reads_word, Threads.starts_at, Threads.thread_comes}
 use Rattle.served_law.specs.Known.{LaunchServed, ThreadServed}
-use Rattle.served_law.proofs.{Marks.at_end, Shaders.one_s, Shaders.no_e3, Shaders.serves_by, Shaders.serves_at, Shaders.same_load, Shaders.count_on, Shaders.goes_same, Shaders.ends_none}
+use Rattle.served_law.proofs.{Marks.at_end, Shaders.one_s, Shaders.no_e3, Shaders.serves_by, Shaders.serves_at, Shaders.count_on, Shaders.goes_same, Shaders.ends_none}
 
 -- how many of what was asked goes to a TMU
 abbrev pub asks : ℕ → Option Asked → ℕ
@@ -137,7 +137,7 @@ never_held code tmu i finished off room count =
     let w : ℕ = word code i in
     let is : finished ≡ length (queue_of code tmu i) = omega (arith, count) in
     or_from (loads w tmu && finished == 0) (writes_s w tmu && nat_le 8 (0 + finished))
-    (ap (λ k. loads w tmu && k == 0) is ∙ (ap (λ b. b && length (queue_of code tmu i) == 0) (sym (same_load w tmu)) ∙ off))
+    (ap (λ k. loads w tmu && k == 0) is ∙ off)
     (never_full (writes_s w tmu) (0 + finished) (λ sent. let below = room sent in omega (arith, count, below)))
 
 pub thread_may : (rights : List Rights) (K : List ℕ → Type 0) (t : Thread) (m : List ℕ) → K m → ThreadServed rights K 0 0 t → glance_result (thread_ready t 0 0) m ≡ true

@@ -1,20 +1,17 @@
 -- What strict jobs begin with.
-use Rattle.std.proofs.Common.{◌≡◌, ◌<◌, ℕ, ◌+◌, not, Bool, false, List, [], ◌∷◌, length, refl, sym, subst, arith}
-use Rattle.field_words.specs.Pieces.{joined_texts as joined_bytes}
-use Rattle.packets.specs.Packet.{slots_text}
+use Rattle.std.proofs.Common.{◌≡◌, ◌<◌, ℕ, ◌+◌, not, Bool, false, List, [], ◌∷◌, refl, sym, subst, arith}
 use Rattle.emitted_facts.specs.Records.{is_single, code_word, stream_word}
 use Rattle.emitted_facts.proofs.Records.{header_in}
 use Rattle.bin_walks.specs.Walks.{nothing_kept}
 use Rattle.machine_plan.specs.declared.launch.Launch.{Launch}
 use Rattle.machine_plan.specs.Regions.{Interval, Rights, rights_of, HasReadOnly}
-use Rattle.list_machine.specs.Lists.{lists_start}
-use Rattle.list_law.specs.{Binning.DrawsSo, Emitted.words_in, Emitted.program_in, Lists.ListsFine, Uses.Programs}
-use Rattle.list_law.proofs.{Emitted.emitted_programs, Start.lists_begin, Start.walks_so}
+use Rattle.list_law.specs.{Binning.DrawsSo, Emitted.words_in, Emitted.program_in, Uses.Programs}
+use Rattle.list_law.proofs.{Emitted.emitted_programs, Start.walks_so}
 use Rattle.qpu_machine.specs.Qpu.{idle_qpu}
 use Rattle.qpu_law.specs.Home.{Home}
 use Rattle.machine.specs.{declared.job.Start.Start, State.job_start}
 use Rattle.machine_law.specs.{Begins.LaunchBegins, Begins.JobBegins, Units.EachAt}
-use Rattle.machine_law.proofs.Begins.{homes_stay_law, fetches_stay, single_stays, word_stays, record_stays, text_stays, lists_so}
+use Rattle.machine_law.proofs.Begins.{homes_stay_law, fetches_stay, single_stays, word_stays, record_stays, lists_so}
 use Rattle.strict_law.specs.Strict.{IsStrict, DrawStrict, JobStrict}
 use Rattle.strict_law.specs.Known.{LaunchStrict, QpuStrict, IsHomeOf, JobKnown}
 

@@ -7,11 +7,11 @@ use Rattle.packets.specs.declared.packet.Packet.TheVariants.{WaitOnSemaphore, Br
 use Rattle.packets.specs.{declared.config.Config.Config, declared.packet.Packet.Packet, Length.bin_length, Length.bin_taken, Length.render_taken, Packet.packet_decoded}
 use Rattle.bin_list.specs.Packets.{opcode}
 use Rattle.bin_walks.specs.Walks.{Walks}
-use Rattle.machine_plan.specs.{declared.who.Who.Who, declared.launch.Free.Free, Choice.word_at, Glance.glance_result, Memory.bytes_at, Plan.Done, Plan.Wilds, World.plan_mapped}
+use Rattle.machine_plan.specs.{declared.who.Who.Who, declared.launch.Free.Free, Choice.word_at, Glance.glance_result, Memory.bytes_at, Plan.Done, World.plan_mapped}
 use Rattle.list_machine.specs.Lists.{Lists, Turned, turned_to, quiet, past, with_work}
 use Rattle.list_machine.specs.Blocks.{tiles_of, spot_of, put_plan}
 use Rattle.list_machine.specs.Binner.{config_set, with_word, after_start, after_halt, read_plan, fetched_with, started_with, chosen_tile, tile_plan, item_plan, work_plan, binner_by, binner_plan, binner_may, binner_ready}
-use Rattle.list_machine.specs.Renderer.{beyond, with_inside, enter_plan, tile_by, branch_plan, tile_plan as render_tile_plan, at_tile, act, plan_of_packet, packet_plan, item_at, at_item, item_fetched, vertex_plan, program_plan, choice_plan, found_plan, plan_in, renderer_plan}
+use Rattle.list_machine.specs.Renderer.{beyond, tile_plan as render_tile_plan, at_tile, act, plan_of_packet, packet_plan, item_at, at_item, item_fetched, vertex_plan, program_plan, choice_plan, found_plan, plan_in, renderer_plan}
 use Rattle.list_machine.specs.{declared.state.Found.Found, declared.state.Item.Item, declared.state.Program.Program, declared.state.SubList.SubList, declared.state.Work.Work, Fetch.fetch_plan, Start.start_plan}
 use Rattle.list_machine.specs.declared.state.{Load.TheVariants.Full, Load.TheVariants.General, Program.TheVariants.Coordinate, Program.TheVariants.Fragment, Program.TheVariants.Vertex}
 use Rattle.list_machine.specs.Surfaces.{whole_written}

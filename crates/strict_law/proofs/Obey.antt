@@ -19,10 +19,10 @@ use Rattle.strict_rules.specs.{Words.reads_address, Words.uses_vpm, Words.is_cou
 use Rattle.strict_rules.specs.Queue as queue
 use Rattle.strict_rules.specs.Rules.{e2, e5, e6, e7, loads_none}
 use Rattle.strict_law.specs.{Strict.IsStrict, Known.Finds, Known.ThreadStrict, Known.SlotStrict, Known.QpuStrict, Known.KeepsNone}
-use Rattle.strict_law.specs.Forbidden.{Executes, keeps_words, has_words, unloaded0, unloaded1, loads_nothing, sends, leaves_requests, reads, touches, touches_vertices, is_last, uses_closed, is_peripheral, peripherals, IsForbidden, SwitchesWithWords, RestsWithWords, EndsWithWords, LoadsNothing, LacksRoom, LeavesRequests, UsesClosed, UsesTwo, TakesMutex}
+use Rattle.strict_law.specs.Forbidden.{Executes, keeps_words, has_words, unloaded0, unloaded1, loads_nothing, sends, leaves_requests, reads, touches_vertices, is_last, uses_closed, is_peripheral, peripherals, IsForbidden, SwitchesWithWords, RestsWithWords, EndsWithWords, LoadsNothing, LacksRoom, LeavesRequests, UsesClosed, UsesTwo, TakesMutex}
 use Rattle.strict_rules.proofs.Rooms.{room_for}
 use Rattle.served_law.specs.Known.{AreBeside}
-use Rattle.served_law.proofs.{Shaders.same_load, Shaders.next_queue, Shaders.few_requests, Beside.beside_turn, Room.both_queued, Room.most_is}
+use Rattle.served_law.proofs.{Shaders.next_queue, Shaders.few_requests, Beside.beside_turn, Room.both_queued, Room.most_is}
 use Rattle.strict_law.proofs.Shaders.{StrictAt, strict_here, kept_long}
 use Rattle.served_law.proofs.Marks.{end_before, at_end, at_switch}
 use Rattle.strict_law.proofs.{Threads.none_left, Threads.reads_word, Threads.switch_none}
@@ -77,9 +77,7 @@ none_by load n count is off = ap (λ k. load && k == 0) is ∙ off
 
 has_some : (code : List ℕ) (tmu n count : ℕ) → count ≡ length (queue.queue_of code tmu n) → loads_none code tmu n ≡ false → (loads (word code n) tmu && count == 0) ≡ false
 unfolding loads_none
-has_some code tmu n count is off =
-    none_by (loads (word code n) tmu) count (length (queue.queue_of code tmu n)) is
-    (ap (λ b. b && length (queue.queue_of code tmu n) == 0) (sym (same_load (word code n) tmu)) ∙ off)
+has_some code tmu n count is off = none_by (loads (word code n) tmu) count (length (queue.queue_of code tmu n)) is off
 
 count_left : (code : List ℕ) (tmu n count : ℕ) → n < checked_of code → count ≡ length (queue.queue_of code tmu n) → length (queue.queue_of code tmu (n + 1)) ≡ 0
     → nat_lt 0 ((count - one_if (loads (word code n) tmu)) + one_if (writes_s (word code n) tmu)) ≡ false

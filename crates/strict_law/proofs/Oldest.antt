@@ -7,7 +7,7 @@ use Rattle.qpu_machine.specs.{declared.state.Qpu.Qpu, declared.state.Request.Req
 use Rattle.strict_rules.specs.{Queue.queue_of, Queue.last_act, Rules.loads_none}
 use Rattle.served_law.specs.Known.{AreBeside}
 use Rattle.strict_law.specs.{Known.QpuStrict, Known.InOrder, Order.oldest_of}
-use Rattle.served_law.proofs.{Shaders.same_load, Beside.beside_turn}
+use Rattle.served_law.proofs.{Beside.beside_turn}
 use Rattle.strict_law.proofs.{Stretches.split_few, Threads.old_or_single, Orders.has_by, Orders.oldest_own, Processors.single_slot, Obey.Steps, Obey.facts}
 use Rattle.qpu_isa.specs.Terms.{loads}
 
@@ -42,7 +42,7 @@ some_one load (suc n) on off = omega arith
 
 has_some : (code : List ℕ) (tmu n : ℕ) → loads_none code tmu n ≡ false → loads (word code n) tmu ≡ true → 1 ≤ length (queue_of code tmu n)
 unfolding loads_none
-has_some code tmu n off load = some_one (loads (word code n) tmu) (length (queue_of code tmu n)) load (ap (λ b. b && length (queue_of code tmu n) == 0) (sym (same_load (word code n) tmu)) ∙ off)
+has_some code tmu n off load = some_one (loads (word code n) tmu) (length (queue_of code tmu n)) load off
 
 pub oldest_at : (IsOf : ℕ → Home → Type 0) (orders : ℕ → List Bool) (m : List ℕ) (q : Qpu) (t : Thread) (w : ℕ) → Steps IsOf (orders 0) (orders 1) m q t w → (tmu : ℕ) → tmu < 2 → loads w tmu ≡ true → oldest_of (orders tmu) ≡ Some q.second
 oldest_at IsOf orders m q t w one zero small load =

@@ -1,6 +1,6 @@
 -- The programs that a job's list units start: what is known of each, by its kind, along the packets of the binner's list, the primitive in
 -- work and the items of the tile lists.
-use Rattle.std.proofs.Common.{◌≡◌, ◌<◌, inl, inr, ℕ, zero, suc, ◌+◌, ◌-◌, ◌%◌, ◌==◌, ◌||◌, Bool, true, false, nat_lt, List, [], ◌∷◌, ◌++◌, length, drop, slice_index, Option, Some, None, IfSome, if◌then◌else◌, refl, sym, ◌∙◌, ap, subst, arith}
+use Rattle.std.proofs.Common.{◌≡◌, ◌<◌, inl, inr, ℕ, ◌+◌, ◌-◌, ◌%◌, ◌==◌, ◌||◌, Bool, true, false, nat_lt, List, [], ◌∷◌, ◌++◌, length, drop, slice_index, Option, Some, None, IfSome, if◌then◌else◌, refl, sym, subst, arith}
 use Rattle.std.proofs.lemmas.Bool.{or_cases}
 use Rattle.std.proofs.{lemmas.Grind.common_steps, lemmas.Bool.Decides.nat_tests}
 use Rattle.field_words.specs.{Words.u32_at}
@@ -19,7 +19,7 @@ use Rattle.list_machine.specs.declared.state.{Found.Found, Item.Item, Load.TheVa
 use Rattle.list_machine.specs.declared.state.Program.{Program, TheVariants.Fragment, TheVariants.Vertex, TheVariants.Coordinate}
 use Rattle.list_machine.specs.Lists.{Lists, Turned, turned_to, quiet, past, after_increment, after_flush, with_work, with_block}
 use Rattle.list_machine.specs.Blocks.{tiles_of, is_full, link_place, next_place, block_place, spot_of, item_of, zeros, put_here, put_plan}
-use Rattle.list_machine.specs.Binner.{config_set, with_word, after_start, clear_plan, begin_plan, work_of, plan_of_draw, draw_plan, after_halt, is_unknown, packet_plan, read_plan, fetched_with, started_with, chosen_tile, tile_plan, item_plan, work_plan, binner_by, binner_plan, binner_may, binner_ready, one_done, not_due}
+use Rattle.list_machine.specs.Binner.{config_set, with_word, after_start, begin_plan, work_of, plan_of_draw, draw_plan, after_halt, is_unknown, packet_plan, read_plan, fetched_with, started_with, chosen_tile, tile_plan, item_plan, work_plan, binner_by, binner_plan, binner_may, binner_ready, one_done, not_due}
 use Rattle.list_machine.specs.{Fetch.fetch_plan, Start.start_plan, Start.start_as, Start.launch_plan, Start.can_start}
 use Rattle.list_machine.specs.Renderer as renderer
 use Rattle.list_machine.specs.Surfaces.{whole_written}

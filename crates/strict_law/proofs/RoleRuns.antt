@@ -1,14 +1,13 @@
 -- In each run of strict jobs, and where they come and go, each thread keeps to what it was started as.
-use Rattle.std.proofs.Common.{◌≡◌, ◌<◌, ℕ, ◌+◌, ◌*◌, not, Bool, false, List, None, refl, sym, ◌∙◌, ap, subst, arith, rules}
+use Rattle.std.proofs.Common.{◌≡◌, ◌<◌, ℕ, not, Bool, false, List, None, refl, sym, ◌∙◌, subst, arith}
 use Rattle.std.proofs.{lemmas.Grind.common_steps, lemmas.Bool.Decides.nat_tests}
-use Rattle.field_words.specs.Words.{u32_at}
 use Rattle.emitted_facts.specs.Records.{is_single, code_word, stream_word}
 use Rattle.emitted_facts.proofs.Records.{header_in}
 use Rattle.bin_walks.specs.Walks.{nothing_kept}
-use Rattle.machine_plan.specs.{declared.launch.Launch.Launch, Memory.bytes_at, Regions.Interval, Regions.Rights, Regions.HasReadOnly}
-use Rattle.machine_plan.proofs.{Words.byte_read, Words.word_read}
+use Rattle.machine_plan.specs.{declared.launch.Launch.Launch, Regions.Interval, Regions.Rights, Regions.HasReadOnly}
+use Rattle.machine_plan.proofs.{Words.byte_read}
 use Rattle.list_machine.specs.declared.state.Program.{Program, TheVariants.Fragment, TheVariants.Vertex, TheVariants.Coordinate}
-use Rattle.list_machine.specs.{Fetch.record_place, Lists.Lists, Start.code_offset, Start.is_threaded as threaded_flag}
+use Rattle.list_machine.specs.{Lists.Lists, Start.is_threaded as threaded_flag}
 use Rattle.list_law.specs.{Emitted.words_in, Emitted.program_in, Uses.program_launched, Uses.threaded_by}
 use Rattle.list_law.proofs.Words.{low_bit}
 use Rattle.qpu_law.specs.Home.{Home}
@@ -23,7 +22,7 @@ use Rattle.strict_law.specs.Strict.{DrawStrict, JobStrict}
 use Rattle.strict_law.proofs.{Watch.Watch, Watch.Watches, WatchRuns.run_watched, WatchRuns.runs_find, WatchDays.IsOf, WatchDays.days_find, WatchDays.days_watched}
 use Rattle.strict_law.proofs.Programs.{has_foreign, LaunchFits, WordFits, WordsFit, binner_fits, renderer_fits, words_begin}
 use Rattle.strict_law.proofs.Roles.{QpuFits, starts_fit, went_fits, served_fits, qpu_goes, qpu_found, keeps_role}
-use Rattle.list_law.proofs.Emitted.{words_at, launched_is}
+use Rattle.list_law.proofs.Emitted.{launched_is}
 
 -- What is read of a record is what its words say.
 threaded_is : (m : List ℕ) (word : ℕ) → threaded_by m word ≡ not (is_single (words_in m word))

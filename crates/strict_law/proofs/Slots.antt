@@ -1,5 +1,5 @@
 -- A processor's requests have room in its slots.
-use Rattle.std.proofs.Common.{◌≡◌, ◌≢◌, ◌≤◌, ◌<◌, ◌⊎◌, inl, inr, ℕ, zero, suc, ◌+◌, ◌-◌, ◌&&◌, ◌||◌, not, Bool, true, false, List, [], ◌∷◌, ◌++◌, drop, length, map, Option, Some, None, IfSome, if◌then◌else◌, nat_le, refl, sym, ◌∙◌, ap, subst, arith}
+use Rattle.std.proofs.Common.{◌≡◌, ◌≢◌, ◌≤◌, ◌<◌, ◌⊎◌, inl, inr, ℕ, zero, suc, ◌+◌, ◌&&◌, ◌||◌, not, Bool, true, false, List, [], ◌∷◌, ◌++◌, drop, length, map, Option, Some, None, IfSome, if◌then◌else◌, nat_le, refl, sym, ◌∙◌, ap, subst, arith}
 use Rattle.std.proofs.lemmas.Bool.{and_parts, eq-eqb, leb-false, ne_eqb, true≢false}
 use Rattle.std.proofs.lemmas.List.{map-append}
 use Rattle.std.proofs.lemmas.List.Sums.{sum-map, sum_by-append, sum_by-cons}
@@ -11,7 +11,6 @@ use Rattle.shader_flow.specs.{Flow.word, Flow.checked_of, Flow.is_threaded, Pend
 use Rattle.shader_flow.proofs.{Counts.pending_inside}
 use Rattle.shader_check.proofs.{Clean.clean, Setups.one_tmu, Setups.s_writes}
 use Rattle.strict_rules.specs.{declared.state.Request.Request as Sent, Queue.request_at, Queue.queue_after, Queue.queue_of, Queue.slots_of, Queue.most_slots, Rules.lacks_slot}
-use Rattle.strict_rules.specs.Words as words
 use Rattle.strict_rules.proofs.Requests.{queue_inside}
 use Rattle.machine_plan.specs.{declared.launch.Launch.Launch, declared.who.Who.Who, Memory.bytes_at}
 use Rattle.qpu_machine.specs.{declared.state.Asked.Asked, declared.state.Qpu.Qpu, declared.state.Request.Request, declared.state.Thread.Thread}
@@ -27,7 +26,7 @@ use Rattle.promises.specs.Steps.{one_if}
 use Rattle.promises.specs.Days.{Files, found_in, with_files}
 use Rattle.ends_law.proofs.{Plans.Comes, Plans.weaker, Threads.thread_comes}
 use Rattle.served_law.specs.Known.{AreBeside}
-use Rattle.served_law.proofs.{Processors.chosen_by, Shaders.same_load, Shaders.jump_from, Marks.at_end}
+use Rattle.served_law.proofs.{Processors.chosen_by, Shaders.jump_from, Marks.at_end}
 use Rattle.strict_law.specs.{Strict.IsStrict, Known.Finds, Known.LaunchStrict, Known.QpuStrict, Order.Orders}
 use Rattle.strict_law.specs.Slots.{words_kept, slots_with, slots_by, slots_in, Slots, slots_after, words_in, HasRoom}
 use Rattle.strict_law.proofs.Staying.{Stays, stays_same, stays_fresh, stays_given, stays_filed}
@@ -82,7 +81,6 @@ slots_on code tmu n kept slots inside pending is =
     ap (λ (l : List ℕ). (if loads w tmu then drop 1 l else l) ++ (if writes_s w tmu then (kept + 1) ∷ [] else [])) is
     ∙ ap (λ k. (if loads w tmu then drop 1 (slot_list (queue_of code tmu n)) else slot_list (queue_of code tmu n)) ++ (if writes_s w tmu then (k + 1) ∷ [] else [])) pending
     ∙ map_after (loads w tmu) (writes_s w tmu) (request_at code tmu n) (queue_of code tmu n)
-    ∙ ap (λ load. slot_list ((if load then drop 1 (queue_of code tmu n) else queue_of code tmu n) ++ (if writes_s w tmu then request_at code tmu n ∷ [] else []))) (sym (same_load w tmu))
     ∙ ap (λ queue. slot_list queue) (sym (queue_inside code tmu n inside))
 
 empty_list : (queue : List Sent) → length queue ≡ 0 → slot_list queue ≡ []
@@ -334,7 +332,7 @@ fill_next code tmu i sound inside =
     let sent : writes_s w tmu ≡ true → one_if (writes_tmu w tmu) ≡ 1 = λ on. ap (λ b. one_if b) (s_writes w tmu on) in
     let queue = ap (λ (one : List Sent). total one) (queue_inside code tmu i inside) in
     let pending = pending_inside code tmu i inside ∙ ap (λ k. if writes_s w tmu then 0 else pending_of code tmu i + k) written in
-    let fills = fill_by (words.loads w tmu) (writes_s w tmu) (request_at code tmu i) (queue_of code tmu i) (pending_of code tmu i) (one_if (writes_tmu w tmu)) refl sent in
+    let fills = fill_by (loads w tmu) (writes_s w tmu) (request_at code tmu i) (queue_of code tmu i) (pending_of code tmu i) (one_if (writes_tmu w tmu)) refl sent in
     omega (arith, queue, pending, fills)
 
 fuller : (a b c d most : ℕ) (first second : Bool) → c ≤ a + one_if first → d ≤ b + one_if second → ((first || second) ≡ true → a + b < most) → (first ≡ true → second ≡ false) → a + b ≤ most → c + d ≤ most

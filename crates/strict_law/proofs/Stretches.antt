@@ -21,10 +21,9 @@ use Rattle.qpu_machine.specs.{declared.state.Mark.Mark, declared.state.Thread.Th
 use Rattle.qpu_machine.specs.declared.state.Fate.{Fate, TheVariants.Ends, TheVariants.Switches, TheVariants.GoesOn}
 use Rattle.promises.specs.Steps.{one_if}
 use Rattle.strict_rules.specs.{declared.state.Request.Request, Queue.request_at, Queue.queue_after, Queue.queue_of, Queue.last_act, Rules.e4, Rules.has_older, Rules.loads_early, Rules.switches_late}
-use Rattle.strict_rules.specs.Words as words
 use Rattle.strict_rules.proofs.Requests.{queue_inside, acted_near, acted_here, acted_same, acted_early}
 use Rattle.strict_law.specs.{Strict.IsStrict, Known.IsSplit, Known.next_old}
-use Rattle.served_law.proofs.Shaders.{same_load, next_queue}
+use Rattle.served_law.proofs.Shaders.{next_queue}
 use Rattle.strict_law.proofs.Shaders.{strict_here, empty_at}
 use Rattle.served_law.proofs.Marks.{at_switch}
 
@@ -75,10 +74,9 @@ split_on code tmu n old inside split =
     let w = word code n in
     let r : Request = request_at code tmu n in
     let queue : List Request = queue_of code tmu n in
-    let one = split_load (last_act code n) (words.loads w tmu) queue old split in
-    let all = split_send (last_act code n) (writes_s w tmu) r (if words.loads w tmu then drop 1 queue else queue) (old - one_if (words.loads w tmu)) (sent_late code tmu n (last_act code n) (acted_near code n)) one in
-    subst (λ b. IsSplit (last_act code n) (queue_of code tmu (n + 1)) (old - one_if b)) (same_load w tmu)
-    (subst (λ q. IsSplit (last_act code n) q (old - one_if (words.loads w tmu))) (sym (queue_inside code tmu n inside)) all)
+    let one = split_load (last_act code n) (loads w tmu) queue old split in
+    let all = split_send (last_act code n) (writes_s w tmu) r (if loads w tmu then drop 1 queue else queue) (old - one_if (loads w tmu)) (sent_late code tmu n (last_act code n) (acted_near code n)) one in
+    subst (λ q. IsSplit (last_act code n) q (old - one_if (loads w tmu))) (sym (queue_inside code tmu n inside)) all
 
 -- all were sent before where they are counted
 earlier : (n : ℕ) (r : Request) → Before n r → Before (n + 1) r
@@ -103,7 +101,7 @@ all_before code tmu (suc n) inside =
     let queue : List Request = queue_of code tmu n in
     let now : Before (n + 1) r = lt-ltb n (n + 1) (omega arith) in
     let old : Every (Before (n + 1)) queue = every-weaker (Before n) (Before (n + 1)) (λ x before. earlier n x before) queue (all_before code tmu n (omega (arith, here))) in
-    let next = each_sent (n + 1) (writes_s (word code n) tmu) r (if words.loads (word code n) tmu then drop 1 queue else queue) now (each_left (n + 1) (words.loads (word code n) tmu) queue old) in
+    let next = each_sent (n + 1) (writes_s (word code n) tmu) r (if loads (word code n) tmu then drop 1 queue else queue) now (each_left (n + 1) (loads (word code n) tmu) queue old) in
     subst (λ i. Every (Before i) (queue_of code tmu i)) e (subst (λ q. Every (Before (n + 1)) q) (sym (queue_inside code tmu n here)) next)
 
 pub split_all : (code : List ℕ) (tmu n : ℕ) → n ≤ checked_of code → IsSplit n (queue_of code tmu n) (length (queue_of code tmu n))
@@ -166,7 +164,7 @@ pub takes_old : (code : List ℕ) (tmu n old : ℕ) → loads_early code tmu n �
 unfolding loads_early
 takes_old code tmu n old off load some split =
     let queue : List Request = queue_of code tmu n in
-    let rest = behind (words.loads (word code n) tmu) (nat_lt 0 (length queue) && not (has_older (last_act code n) queue)) (same_load (word code n) tmu ∙ load) off in
+    let rest = behind (loads (word code n) tmu) (nat_lt 0 (length queue) && not (has_older (last_act code n) queue)) load off in
     some_older (last_act code n) queue old split (not_off (has_older (last_act code n) queue) (behind (nat_lt 0 (length queue)) (not (has_older (last_act code n) queue)) (above_zero (length queue) some) rest))
 
 pub early_at : (code : List ℕ) (n : ℕ) → is_threaded code ≡ true → e4 code n ≡ false → (tmu : ℕ) → tmu < 2 → loads_early code tmu n ≡ false

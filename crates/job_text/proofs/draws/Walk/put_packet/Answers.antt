@@ -23,7 +23,7 @@ returns c =
         whole_lines look old first packet at (line_lines look old first packet at _ c.in_ok-put_line.ensures),
         subst (λ s. AreLinesOf look s first second) (c.split.ensures.front ∙ ap (λ n. front n records) c.record_taken.ensures) c.in_ok-put_lines.ensures,
         subst (λ s. AreLinesOf look s second third) (c.split-2.ensures.front ∙ ap (λ n. front n uniforms) c.by_state.ensures) c.in_ok-put_lines-2.ensures,
-        c.in_ok-put_if.ensures ∙ ap (λ b. third ++ if_so b (codes "\n")) c.is_draw.ensures,
+        c.in_ok-put_if.ensures ∙ ap (λ b. third ++ if_so b (codes "\n")) c.draws.ensures,
       ),
       c.split.ensures.rest ∙ ap (λ n. behind n records) c.record_taken.ensures,
       c.split-2.ensures.rest ∙ ap (λ n. behind n uniforms) c.by_state.ensures,
