@@ -1,17 +1,17 @@
 -- A binner list that breaks no strict rule is emitted as one that doesn't either: what the rules ask of stays as it is, and the packets that
 -- are dropped don't stand behind the start of binning.
-use Rattle.std.proofs.Common.{◌≡◌, ◌≢◌, ◌≤◌, ◌<◌, ℕ, ◌+◌, ◌/◌, ◌%◌, ◌==◌, ◌&&◌, ◌||◌, not, Bool, true, false, nat_lt, List, [], ◌∷◌, ◌++◌, length, take, drop, slice_index, None, if◌then◌else◌, refl, sym, ◌∙◌, ap, subst, arith}
+use Rattle.std.proofs.Common.{◌≡◌, ◌≢◌, ◌≤◌, ℕ, ◌+◌, ◌/◌, ◌%◌, ◌==◌, ◌&&◌, ◌||◌, not, Bool, true, false, nat_lt, List, [], ◌∷◌, ◌++◌, length, take, drop, slice_index, None, if◌then◌else◌, refl, sym, ◌∙◌, ap, arith}
 use Rattle.std.proofs.lemmas.Bool.{eqb-true, true≢false}
 use Rattle.std.proofs.lemmas.List.{append_cancel_left, get_or_append_left, get_or-take, length-append, length-drop, length-take, take_all, take-append-le}
 use Rattle.std.specs.Prelude.{min, ◌-◌}
 use Rattle.std.specs.Int.{to_le_bytes, w32}
-use Rattle.field_words.specs.{Pieces.joined_texts, Questions.first_of, Questions.with_answers, Words.u32_at, Writes.with_bytes}
+use Rattle.field_words.specs.{Pieces.joined_texts, Questions.first_of, Questions.with_answers, Writes.with_bytes}
 use Rattle.field_words.proofs.{Nones.front_none, Nones.rest_none, Nones.none_answered, Questions.answered_none, Questions.none_broken, Questions.passes, Questions.first_none}
 use Rattle.relocation.specs.declared.layout.Layout.{Layout}
 use Rattle.packets.specs.Opcode.{start_tile_binning, indexed_primitive_list, array_primitive_list, primitive_list_format, gl_shader_state, tile_binning_mode, buffer_handles}
 use Rattle.packets.specs.Length.{bin_length}
 use Rattle.bin_list.specs.{declared.seen.Seen.Seen, Packets.opcode, Seen.last_opcode, Seen.place, Seen.seen_before, Rules.GivenModel, Packets.draws}
-use Rattle.bin_list.specs.Emitted.{index_text, state_text, config_text, packet_text}
+use Rattle.bin_list.specs.Emitted.{index_text, packet_text}
 use Rattle.bin_walks.specs.Emission.{emission}
 use Rattle.bin_walks.proofs.Texts.{state_opcode, config_opcode}
 use Rattle.ends_law.specs.Left.{IsWhole, AllWhole}

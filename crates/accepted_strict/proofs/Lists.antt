@@ -4,18 +4,17 @@ use Rattle.std.specs.Prelude.{unwrap_or}
 use Rattle.field_words.specs.{Pieces.joined_texts, Questions.first_of, Questions.each}
 use Rattle.field_words.proofs.Nones.{front_none, rest_none, each_none, none_answered}
 use Rattle.bin_list.specs.{Packets.packets, Rules.given_of}
-use Rattle.bin_walks.specs.{Walks.Drawing, Walks.Kept, Walks.Tame, Walks.Walks, Walks.kept_after, Walks.nothing_kept, Law.IsWalked, Emission.emission, Emission.config_of}
+use Rattle.bin_walks.specs.{Walks.Drawing, Walks.Kept, Walks.Tame, Walks.Walks, Walks.kept_after, Walks.nothing_kept, Emission.emission, Emission.config_of}
 use Rattle.bin_walks.specs.Draws.{IsDrawn}
 use Rattle.bin_list.specs.{Packets.packets_passed, Seen.seen_before, States.states_of}
 use Rattle.packets.specs.declared.config.Config.{Config}
-use Rattle.bin_walks.proofs.Law.{emitted_lists_walk_law}
 use Rattle.job_format.specs.Model.{FileModel}
 use Rattle.job_check.specs.Jobs.{job_of, has_bin, layout_of, states_in, bin_list_of}
 use Rattle.job_check.specs.Shaders.{table_of}
 use Rattle.list_law.proofs.Start.{Follows, walks_so}
 use Rattle.accepted_law.specs.{Ends.DrawShaders, Parts.BinWalks, Settled.Grounds}
 use Rattle.accepted_law.specs.Holdings.{config_for}
-use Rattle.accepted_law.proofs.{BinWalking.layout_is_low, Holding.bin_is, Tables.buffer_low}
+use Rattle.accepted_law.proofs.{Holding.bin_is}
 use Rattle.ends_law.specs.Left.{AllWhole}
 use Rattle.ends_law.proofs.Begins.{walks_whole}
 use Rattle.strict_lists.specs.Rules.{list_questions}

@@ -1,5 +1,5 @@
 -- The emitted record of each state of a strict file selects attributes of the state alone.
-use Rattle.std.proofs.Common.{◌≡◌, ◌≤◌, ◌<◌, inl, inr, ℕ, zero, suc, ◌+◌, ◌*◌, ◌/◌, ◌%◌, ◌^◌, ◌==◌, ◌||◌, not, Bool, true, false, List, [], ◌∷◌, ◌++◌, length, drop, slice_index, get_or, None, if◌then◌else◌, refl, sym, ◌∙◌, ap, subst, arith}
+use Rattle.std.proofs.Common.{◌≡◌, ◌≤◌, ◌<◌, inl, inr, ℕ, suc, ◌+◌, ◌*◌, ◌/◌, ◌%◌, ◌^◌, ◌==◌, not, true, false, List, [], ◌∷◌, length, drop, slice_index, get_or, None, if◌then◌else◌, refl, sym, ◌∙◌, ap, subst, arith}
 use Rattle.std.proofs.lemmas.Bool.{cases_lt, or_from}
 use Rattle.std.proofs.lemmas.List.{get_or-drop, length-drop}
 use Rattle.std.proofs.Math.Seq.{drop-cons}
@@ -16,10 +16,10 @@ use Rattle.job_check.specs.Jobs.{job_of, has_bin, input_for, layout_of, states_i
 use Rattle.list_machine.specs.Fetch.{record_place}
 use Rattle.list_law.proofs.Emitted.{same_count}
 use Rattle.shader_records.specs.{Inputs.InputModel, Emission.shader_word, Emission.stream_place}
-use Rattle.shader_records.specs.Sources.{no_state, state_at, handles_size, source_size, record_source, record_offset, record_word, stream_offset}
+use Rattle.shader_records.specs.Sources.{no_state, state_at, source_size, record_source, record_word, stream_offset}
 use Rattle.shader_records.proofs.{Inside.emitted_in, MemoryFacts.record_in_memory, RecordFacts.emitted_shader}
 use Rattle.accepted_law.specs.Settled.{Grounds}
-use Rattle.accepted_law.proofs.States.{StateFound, state_found, place_for, place_whole, place_of, state_of}
+use Rattle.accepted_law.proofs.States.{place_for, place_whole, place_of, state_of}
 use Rattle.accepted_law.proofs.Uses.{inputs_low, streams_low, emitted_stand}
 use Rattle.strict_lists.specs.Records.{selects_past, selection_questions}
 use Rattle.strict_check.specs.Stages.{list_stage, records_stage, records_from, record_questions, use_questions, record_at, selection_refused, codes_stage, job_stages, strict_stages}

@@ -1,8 +1,7 @@
 //! The handles of a job: which buffers it may name.
 ghost use Rattle.std.specs.Prelude.{◌≡◌, ◌<◌, ◌≤◌, length, slice_index, IfOk, IfSome};
 ghost use Rattle.std.specs.Option.{SomeIff};
-ghost use Rattle.field_words.specs.Questions.{Answers, NamesFirst, NeverHidesFault, first_of, each};
-ghost use Rattle.buffer_table.specs.Table.{TableModel, buffer_at};
+ghost use Rattle.field_words.specs.Questions.{Answers, NamesFirst, NeverHidesFault, first_of};
 ghost use Rattle.buffer_table.specs.Handles.{handle_questions, handles_questions, AreNumbersOf, IsData, IsCode, data_of, code_of};
 
 use crate::buffer::Kind;

@@ -1,11 +1,11 @@
 //! Looking back from a use for the instruction that made what is in a register. The walk over a shader asks the table
 //! instead; these count each look.
-ghost use Rattle.std.specs.Prelude.{◌≡◌, ◌<◌, ◌≤◌, ◌+◌, ◌==◌, ℕ, false, true, not, ◌&&◌, nat_le, length, IfSome, MatchOption};
+ghost use Rattle.std.specs.Prelude.{◌≡◌, ◌<◌, ◌≤◌, ◌+◌, ◌==◌, ℕ, false, true, ◌&&◌, nat_le, length, IfSome, MatchOption};
 ghost use Rattle.qpu_isa.specs.Terms.{names, is_accumulator, is_switch};
 ghost use Rattle.qpu_isa.specs.Report.{IsRegister};
 ghost use Rattle.shader_flow.specs.Bounded.{some_in};
 ghost use Rattle.shader_flow.specs.Flow.{word, is_target, IsFlow};
-ghost use Rattle.clamp_facts.specs.Facts.{switches_between, stays, sets, carries, is_delayed, carrier_of, is_not_negative, makes_clamp, fact_of_write, fact_at, clamps};
+ghost use Rattle.clamp_facts.specs.Facts.{switches_between, stays, sets, carries, is_delayed, carrier_of, is_not_negative, makes_clamp, fact_at, clamps};
 ghost use Rattle.clamp_facts.specs.Readings.{value_in, clamp_in};
 ghost use Rattle.clamp_facts.specs.Upkeep.{IsLastNaming, IsCarrier};
 

@@ -1,5 +1,5 @@
 //! The command `gen`.
-ghost use Rattle.std.specs.Prelude.{◌≡◌, ◌≢◌, ◌≤◌, ◌<◌, ◌⊎◌, IfOk};
+ghost use Rattle.std.specs.Prelude.{◌≡◌, ◌≢◌, ◌<◌, ◌⊎◌, IfOk};
 ghost use Rattle.commands.specs.Answer.{text_of, IsExampleAnswer};
 ghost use Rattle.commands.specs.Run.{IsAnswered, IsCut, FailsAt};
 

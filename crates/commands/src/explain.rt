@@ -1,7 +1,7 @@
 //! All rules, as `explain --list` says them.
 ghost use Rattle.std.specs.Prelude.{◌≡◌, ◌++◌, IfOk, OnOk};
 ghost use Rattle.std.specs.List.{flat_map};
-ghost use Rattle.commands.specs.Topics.{rule_row, rows_upto, family_rows};
+ghost use Rattle.commands.specs.Topics.{rule_row, family_rows};
 
 use job_format::Stage;
 use rule_words::{Family, RuleName};

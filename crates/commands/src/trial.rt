@@ -1,5 +1,5 @@
 //! The words of a kind of unit and of seeds.
-ghost use Rattle.std.specs.Prelude.{◌≡◌, ◌≤◌, ◌<◌, ◌^◌, ◌+◌, IfSome};
+ghost use Rattle.std.specs.Prelude.{◌≡◌, ◌<◌, IfSome};
 ghost use Rattle.commands.specs.Trials.{unit_named, range_of, behind_dot, seeds_named, IsRangeWithin};
 
 use replay::UnitKind;

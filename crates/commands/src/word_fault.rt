@@ -1,5 +1,5 @@
 //! Which of the words is wrong, where they ask for nothing that the program does.
-ghost use Rattle.std.specs.Prelude.{◌≡◌, ◌≤◌, ◌<◌, ◌+◌, ◌++◌, Some, codes};
+ghost use Rattle.std.specs.Prelude.{◌≡◌, ◌<◌, Some};
 ghost use Rattle.commands.specs.WordFault.{argument_row, values_of, values_text, argument_text, surplus_text, strange_option_text, word_fault_text};
 
 use super::choice::Choice;

@@ -1,5 +1,5 @@
 //! The text of an example job.
-ghost use Rattle.std.specs.Prelude.{◌≡◌, ◌≤◌, ◌*◌, ◌<◌, ◌^◌, ◌++◌, length, IfOk, OnOk, string_bytes};
+ghost use Rattle.std.specs.Prelude.{◌≡◌, ◌<◌, ◌++◌, IfOk, OnOk};
 ghost use Rattle.std.specs.List.{sum};
 ghost use Rattle.dumper.specs.Example.{number_line, lengths_text, example_text};
 

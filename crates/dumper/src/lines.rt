@@ -1,8 +1,8 @@
 //! The rows of a part of a memory.
-ghost use Rattle.std.specs.Prelude.{◌≡◌, ◌≤◌, ◌<◌, ◌^◌, ◌+◌, ◌*◌, ◌++◌, ◌%◌, ◌-◌, [], length, take, drop, false, if◌then◌else◌};
+ghost use Rattle.std.specs.Prelude.{◌≡◌, ◌≤◌, ◌<◌, ◌^◌, ◌+◌, ◌*◌, ◌++◌, ◌-◌, [], length, take, if◌then◌else◌};
 ghost use Rattle.field_words.specs.Writes.{with_bytes};
 ghost use Rattle.hex.specs.Hex.{encode_lower};
-ghost use Rattle.dumper.specs.Text.{place_text, row_size, row_line, is_blank, rows_text, row_text, row_at};
+ghost use Rattle.dumper.specs.Text.{place_text, row_size, row_line, is_blank, rows_text};
 ghost use Rattle.dumper.specs.Parts.{part_at, part_rows, part_end, alone, row_in};
 
 /// The length of a row's line: eight digits of its place, a blank, two for each byte and a line feed.

@@ -1,5 +1,5 @@
 //! The text of a run.
-ghost use Rattle.std.specs.Prelude.{◌≡◌, ◌≤◌, ◌<◌, ◌++◌, length, codes, IfOk, OnOk, string_bytes};
+ghost use Rattle.std.specs.Prelude.{◌≡◌, ◌≤◌, ◌<◌, ◌++◌, IfOk, OnOk, string_bytes};
 ghost use Rattle.dumper.specs.Trace.{unit_text, counts_text, reach_text, step_end, step_text, ending_name, ending_text, trace_text};
 ghost use Rattle.dumper.specs.Text.{place_text};
 ghost use Rattle.std.specs.Fmt.{decimal};

@@ -5,10 +5,9 @@ use Rattle.packets.specs.{declared.config.Config.Config, declared.packet.Packet.
 use Rattle.emitted_facts.specs.Records.{is_single, code_word, stream_word}
 use Rattle.emitted_facts.proofs.Records.{header_in}
 use Rattle.bin_walks.specs.Walks.{Kept, nothing_kept, kept_after, Walks}
-use Rattle.machine_plan.specs.{declared.launch.Launch.Launch, Regions.Interval, Regions.Rights, Regions.rights_of, Regions.HasReadOnly}
-use Rattle.list_machine.specs.Lists.{lists_start}
-use Rattle.list_law.specs.{Binning.DrawsSo, Emitted.words_in, Emitted.program_in, Lists.ListsFine}
-use Rattle.list_law.proofs.{Emitted.emitted_programs, Logs.same, Start.lists_begin, Start.walks_so}
+use Rattle.machine_plan.specs.{Regions.Interval, Regions.Rights, Regions.rights_of, Regions.HasReadOnly}
+use Rattle.list_law.specs.{Binning.DrawsSo, Emitted.words_in, Emitted.program_in}
+use Rattle.list_law.proofs.{Emitted.emitted_programs, Logs.same, Start.walks_so}
 use Rattle.qpu_machine.specs.Qpu.{idle_qpu}
 use Rattle.machine.specs.{declared.job.Start.Start, State.job_start, State.units_start}
 use Rattle.machine_law.specs.Begins.{LaunchBegins, DrawBegins, JobBegins}

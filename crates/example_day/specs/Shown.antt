@@ -1,13 +1,13 @@
 -- A day by its single steps. A job is admitted, its program starts, finds registers that aren't zero, works with one of them and ends; the job
 -- retires; others write other lists and code in its place, and there a job is admitted again and steps.
-use Rattle.std.specs.Prelude.{◌≡◌, ℕ, ◌+◌, ◌*◌, ◌/◌, ◌%◌, ◌^◌, Bool, false, List, [], ◌∷◌, ◌++◌, replicate, slice_index_or, Option, None, Some}
+use Rattle.std.specs.Prelude.{◌≡◌, ℕ, ◌+◌, ◌/◌, ◌%◌, ◌^◌, false, List, [], ◌∷◌, ◌++◌, replicate, slice_index_or, Option, None, Some}
 use Rattle.field_words.specs.declared.access.Actor.TheVariants.{Binner as TheBinner, Qpu as TheQpu}
 use Rattle.machine_plan.specs.{declared.launch.Launch.Launch, Regions.Interval}
 use Rattle.qpu_machine.specs.{declared.state.Qpu.Qpu, declared.state.Thread.Thread, Qpu.idle_qpu, Qpu.slot_of, Start.thread_of}
 use Rattle.machine.specs.State.{item_at}
 use Rattle.day_ends.specs.Ends.{own_steps}
 use Rattle.day_law.specs.Day.{AllMayHappen}
-use Rattle.promises.specs.Days.{Day, Job, Files, Happening, Steps, Changes, Finds, Admits, Retires, after, dawn, no_rights, rights_in, with_files}
+use Rattle.promises.specs.Days.{Job, Files, Happening, Steps, Changes, Finds, Admits, Retires, after, dawn, no_rights, rights_in, with_files}
 
 -- The binner list, from place 0 on: a configuration of one tile, whose states stand at 144 and whose tile lists have 256 bytes from 192 on;
 -- start of binning; the record at 48, with one attribute; one vertex, the first.

@@ -1,7 +1,6 @@
 //! The binner list and the shader records of an example.
 ghost use Rattle.std.specs.Prelude.{◌≡◌, ◌≤◌, ◌++◌, ◌∷◌, [], IfOk, OnOk};
-ghost use Rattle.field_words.specs.Pieces.{joined_texts};
-ghost use Rattle.example_job.specs.Lists.{config, state, triangle, bin_of, record_bytes, records_of};
+ghost use Rattle.example_job.specs.Lists.{config, state, triangle, bin_of, records_of};
 
 use std::alloc::{AllocError, Global};
 

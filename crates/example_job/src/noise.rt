@@ -1,5 +1,5 @@
 //! Numbers that look random.
-ghost use Rattle.std.specs.Prelude.{◌≡◌, ◌<◌, ◌^◌, ◌++◌, IfOk, OnOk};
+ghost use Rattle.std.specs.Prelude.{◌≡◌, ◌<◌, IfOk};
 ghost use Rattle.example_job.specs.Noise.{next_state, noise};
 
 use std::alloc::{AllocError, Global};

@@ -1,5 +1,5 @@
 -- The headline used: what it comes to for the two files.
-use Rattle.std.proofs.Common.{◌≡◌, ◌≤◌, ◌<◌, ◌⊎◌, inl, inr, ℕ, zero, suc, ◌+◌, List, [], ◌∷◌, length, map, None, sym, subst, arith, ◌∙◌}
+use Rattle.std.proofs.Common.{◌≡◌, ◌≤◌, ◌<◌, ◌⊎◌, inl, inr, ℕ, zero, suc, ◌+◌, List, [], ◌∷◌, length, map, sym, subst, arith, ◌∙◌}
 use Rattle.std.specs.List.{AllByRecursion, flat_map}
 use Rattle.field_words.specs.{declared.access.Access.Access, declared.access.Actor.TheVariants.Tmu as TheTmu}
 use Rattle.job_format.specs.{Model.FileModel, File.IsFileOf}

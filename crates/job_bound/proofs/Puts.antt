@@ -1,5 +1,5 @@
 -- What a step of a list unit does to the items of its job: the renderer leaves them, and the binner puts one more, where there is room.
-use Rattle.std.proofs.Common.{Bool, ◌≡◌, ◌≢◌, ◌≤◌, ◌<◌, ℕ, ◌+◌, ◌%◌, ◌==◌, ◌||◌, true, false, List, [], ◌∷◌, ◌++◌, length, slice_index, Option, Some, None, if◌then◌else◌, refl, sym, ◌∙◌, ap, subst, arith}
+use Rattle.std.proofs.Common.{Bool, ◌≡◌, ◌≢◌, ◌≤◌, ◌<◌, ℕ, ◌+◌, ◌%◌, ◌==◌, ◌||◌, true, false, List, [], ◌∷◌, ◌++◌, length, slice_index, Option, Some, None, if◌then◌else◌, refl, ◌∙◌, ap, subst, arith}
 use Rattle.std.proofs.{lemmas.Grind.common_steps, lemmas.Bool.and_parts, lemmas.Bool.Decides.nat_tests, lemmas.List.length-append}
 use Rattle.std.specs.Prelude.{nat_lt, max}
 use Rattle.field_words.specs.Pieces.{joined_texts}
@@ -12,7 +12,7 @@ use Rattle.machine_plan.specs.{Memory.bytes_at, Memory.bytes_stored, Plan.Plan, 
 use Rattle.machine_plan.proofs.Worlds.{keeps_mapped}
 use Rattle.list_machine.specs.Lists.{Lists, Turned, turned_to, quiet, past, after_increment, after_flush, with_work, with_block, most_items}
 use Rattle.list_machine.specs.Blocks.{tiles_of, has_room, spot_of, item_of, zeros, is_full, block_place, next_place, link_place, put_here, put_plan}
-use Rattle.list_machine.specs.Binner.{config_set, with_word, after_start, clear_plan, begin_plan, work_of, plan_of_draw, draw_plan, after_halt, is_unknown, packet_plan, read_plan, fetched_with, started_with, chosen_tile, tile_plan, item_plan, work_plan, binner_by, binner_plan, item_may, work_may, binner_may, binner_ready}
+use Rattle.list_machine.specs.Binner.{config_set, with_word, after_start, begin_plan, work_of, plan_of_draw, draw_plan, after_halt, is_unknown, packet_plan, read_plan, fetched_with, started_with, chosen_tile, tile_plan, item_plan, work_plan, binner_by, binner_plan, item_may, work_may, binner_may, binner_ready}
 use Rattle.list_machine.specs.Renderer.{beyond, enter_plan, tile_by, branch_plan, tile_plan as at_tile_plan, at_tile, act, plan_of_packet, packet_plan as render_packet_plan, item_at, at_item, item_fetched, vertex_plan, program_plan, choice_plan, found_plan, plan_in, renderer_plan}
 use Rattle.list_machine.specs.{declared.state.Found.Found, declared.state.Item.Item, declared.state.SubList.SubList, declared.state.Work.Work}
 use Rattle.list_machine.specs.declared.state.Load.TheVariants.{Full, General}

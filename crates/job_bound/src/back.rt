@@ -1,5 +1,5 @@
 //! Branches that lead back.
-ghost use Rattle.std.specs.Prelude.{◌≡◌, ◌<◌, ◌≤◌, ◌^◌, length, slice_index, Some};
+ghost use Rattle.std.specs.Prelude.{◌≡◌, ◌<◌, ◌≤◌, ◌^◌, length, Some};
 ghost use Rattle.field_words.specs.Sizes.{most_words};
 ghost use Rattle.field_words.specs.Questions.{first_of};
 ghost use Rattle.shader_flow.specs.Flow.{end_of};

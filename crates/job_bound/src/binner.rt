@@ -1,12 +1,11 @@
 //! How many steps a binner list takes, and for how many items it makes room.
-ghost use Rattle.std.specs.Prelude.{◌≡◌, ◌<◌, ◌≤◌, ◌+◌, ◌*◌, ◌/◌, length};
+ghost use Rattle.std.specs.Prelude.{◌≡◌, ◌≤◌, ◌+◌, ◌*◌, ◌/◌, length};
 ghost use Rattle.field_words.specs.Sizes.{most_list};
 ghost use Rattle.field_words.specs.Words.{u32_at};
 ghost use Rattle.bin_list.specs.Packets.{packets, draws};
-ghost use Rattle.list_machine.specs.Binner.{work_of};
 ghost use Rattle.list_machine.specs.Lists.{most_items};
 ghost use Rattle.ends_law.specs.Left.{IsWhole, AllWhole};
-ghost use Rattle.promises.specs.Steps.{items_within, room_in, room_of, work_steps, packet_steps, bin_steps};
+ghost use Rattle.promises.specs.Steps.{items_within, room_in, room_of, packet_steps, bin_steps};
 ghost use Rattle.job_bound.specs.Bound.{most_program, most_packet};
 
 use bin_list::{draws, split_front};

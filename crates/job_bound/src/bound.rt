@@ -1,7 +1,7 @@
 //! The bound of a file.
 ghost use Rattle.std.specs.Prelude.{◌≡◌, ◌<◌, ◌≤◌, ◌+◌, ◌*◌, length, IfOk};
 ghost use Rattle.field_words.specs.Sizes.{most_list};
-ghost use Rattle.field_words.specs.Questions.{Answers, NamesFirst, NeverHidesFault};
+ghost use Rattle.field_words.specs.Questions.{Answers, NeverHidesFault};
 ghost use Rattle.job_format.specs.File.{IsWellFormed, Fits};
 ghost use Rattle.job_format.specs.Parts.{parts_view};
 ghost use Rattle.render_list.specs.Frame.{IsTileSet};

@@ -1,5 +1,5 @@
 //! How many steps a renderer list takes.
-ghost use Rattle.std.specs.Prelude.{◌≡◌, ◌≤◌, ◌<◌, ◌||◌, ◌+◌, ◌*◌};
+ghost use Rattle.std.specs.Prelude.{◌≡◌, ◌≤◌, ◌<◌, ◌+◌, ◌*◌};
 ghost use Rattle.render_list.specs.Frame.{surface_at, is_present, tiles_across, tiles_down, IsTileSet};
 ghost use Rattle.render_list.specs.Text.{number_where};
 ghost use Rattle.job_bound.specs.Frames.{write_steps, frame_loads, frame_writes, tile_steps, frame_steps};

@@ -1,6 +1,6 @@
 -- Parts put into a memory, and contents that fit it.
 use Rattle.std.proofs.Common.{◌≡◌, ℕ, suc, ◌+◌, ◌<◌, ◌≤◌, List, [], ◌∷◌, ◌++◌, length, get_or, map, refl, sym, ap, subst, arith, ◌∙◌}
-use Rattle.std.proofs.lemmas.List.{get_or_default, length-replicate}
+use Rattle.std.proofs.lemmas.List.{get_or_default}
 use Rattle.field_words.specs.Writes.{Part, parts_placed, with_bytes, zeros}
 use Rattle.buffer_table.specs.{declared.buffer.Buffer.Buffer, Table.no_buffer, Table.past_end, Table.buffer_at, Sound.IsSound}
 use Rattle.buffer_table.proofs.Sounds.{sound_buffer}

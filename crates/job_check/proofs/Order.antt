@@ -1,5 +1,5 @@
 -- Stages one after the other.
-use Rattle.std.proofs.Common.{◌≡◌, ℕ, true, false, inl, inr, ◌+◌, ◌<◌, ◌≤◌, List, ◌++◌, Some, None, Option, Result, Ok, Err, IfOk, IfSome, refl, sym, subst, ◌∙◌}
+use Rattle.std.proofs.Common.{◌≡◌, ℕ, true, false, inl, inr, ◌+◌, ◌<◌, ◌≤◌, List, ◌++◌, Some, None, Option, Result, Ok, Err, IfOk, IfSome, refl, sym, subst}
 use Rattle.std.proofs.lemmas.Bool.{le-ltb, lt-ltb, cases_lt, false≢true}
 use Rattle.std.specs.Result.{IsErrAnd}
 use Rattle.field_words.specs.{declared.stop.Stop.Stop}

@@ -1,5 +1,5 @@
 //! The memory that an accepted job is to run in.
-ghost use Rattle.std.specs.Prelude.{◌≡◌, ◌≤◌, ◌<◌, ◌+◌, length, map, slice_index_or, ℕ};
+ghost use Rattle.std.specs.Prelude.{◌≡◌, ◌≤◌, ◌<◌, ◌+◌, length, map};
 ghost use Rattle.field_words.specs.Writes.{parts_placed, with_bytes};
 ghost use Rattle.job_check.specs.Emit.{content_parts, ContentsFit};
 

@@ -1,5 +1,5 @@
 //! The rules of a file, and the lists of its jobs. No memory of the jobs is made.
-ghost use Rattle.std.specs.Prelude.{◌≡◌, ◌<◌, ◌≤◌, ◌+◌, ◌++◌, ◌-◌, length, IfOk, IfSome, IsOk, drop, []};
+ghost use Rattle.std.specs.Prelude.{◌≡◌, ◌<◌, ◌≤◌, ◌+◌, ◌++◌, ◌-◌, length, IfOk, IfSome, IsOk, []};
 ghost use Rattle.buffer_table.specs.Table.{most_place};
 ghost use Rattle.field_words.specs.Questions.{Answers, NamesFirst, NeverHidesFault};
 ghost use Rattle.field_words.specs.Writes.{parts_placed, zeros};
@@ -12,7 +12,7 @@ ghost use Rattle.relocation.specs.Layout.{region_end};
 ghost use Rattle.job_check.specs.Jobs.{lists_begin, layout_of, end_of};
 ghost use Rattle.job_check.specs.Faults.{table_stage_within, shaders_stage, lists_stages, laid_stages, job_stages, jobs_stages, stages_within};
 ghost use Rattle.job_check.specs.Emit.{ArePlaced, PartsFit, list_parts, lengths_of, parts_moved};
-ghost use Rattle.job_check.specs.Region.{region_size, region_from, region_parts, IsLaid, IsRegion, AreChecked, Under};
+ghost use Rattle.job_check.specs.Region.{region_size, region_parts, IsLaid, IsRegion, AreChecked, Under};
 ghost use Rattle.job_check.specs.Context.{IsReported};
 
 use super::context::Context;

@@ -1,5 +1,5 @@
 //! S: the shaders of a file, by buffer.
-ghost use Rattle.std.specs.Prelude.{◌≡◌, ◌<◌, ◌≤◌, ◌*◌, ◌/◌, ◌^◌, length, IfOk, IfSome};
+ghost use Rattle.std.specs.Prelude.{◌≡◌, ◌<◌, ◌≤◌, ◌*◌, ◌/◌, length, IfOk, IfSome};
 ghost use Rattle.field_words.specs.Words.{u64_at};
 ghost use Rattle.field_words.specs.Sizes.{most_code, most_list};
 ghost use Rattle.field_words.specs.Questions.{Answers, NeverHidesFault};
@@ -9,7 +9,7 @@ ghost use Rattle.job_format.specs.File.{IsWellFormed};
 ghost use Rattle.job_format.specs.Parts.{parts_view};
 ghost use Rattle.qpu_isa.specs.Shader.{shader_view, IsSoundShader};
 ghost use Rattle.shader_records.specs.Inputs.{shader_option, shaders_view};
-ghost use Rattle.job_check.specs.Shaders.{words_in, words_of, code_questions, report_of, content_of, shader_of, AreShadersIn};
+ghost use Rattle.job_check.specs.Shaders.{words_of, code_questions, report_of, content_of, shader_of, AreShadersIn};
 ghost use Rattle.job_check.specs.Faults.{shader_stage, whole_questions_in, whole_stage, shaders_stage, HidesNoShader};
 
 use super::refusals::shader_refusal;

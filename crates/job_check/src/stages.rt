@@ -1,6 +1,6 @@
 //! The stages of the check that are asked of the file as a whole.
 ghost use Rattle.std.specs.Prelude.{◌≡◌, ◌≤◌, length, IsOk};
-ghost use Rattle.buffer_table.specs.Table.{TableModel, most_place, table_within};
+ghost use Rattle.buffer_table.specs.Table.{most_place, table_within};
 ghost use Rattle.field_words.specs.Questions.{Answers, NeverHidesFault, with_answers};
 ghost use Rattle.job_format.specs.Offsets.{most_buffers};
 ghost use Rattle.buffer_table.specs.Sound.{IsSound};

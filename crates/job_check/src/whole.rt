@@ -11,7 +11,7 @@ ghost use Rattle.job_check.specs.Whole.{all_questions, questions_within, format_
 
 use super::check::{Checked, check_read};
 use super::region::{Region, check_parts};
-use field_words::{NoMemory, Stop};
+use field_words::Stop;
 use job_format::{FormatFault, Refusal, Rule, Stage, read_parts};
 use std::alloc::Global;
 

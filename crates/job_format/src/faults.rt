@@ -1,6 +1,5 @@
 //! The rules of the format.
-ghost use Rattle.std.specs.Prelude.{◌≡◌, ◌+◌, ◌*◌, ◌++◌, ◌<◌, ◌≤◌, ◌^◌, length, Some, IfNone};
-ghost use Rattle.field_words.specs.Words.{u32_at};
+ghost use Rattle.std.specs.Prelude.{◌≡◌, ◌+◌, ◌*◌, ◌<◌, ◌≤◌, ◌^◌, length, Some, IfNone};
 ghost use Rattle.field_words.specs.Questions.{GoesOn, first_of, each};
 ghost use Rattle.job_format.specs.Faults.{is_version, is_miscounted, lacks_slots, header_questions, entry_questions, buffer_questions, job_entry_questions, job_questions, content_questions, parts_questions, end_questions, last_questions, rest_questions, jobs_and_rest_questions, body_questions, format_questions, fault};
 ghost use Rattle.job_format.specs.Whole.{HasHeader};

@@ -1,12 +1,12 @@
 //! The values of a job file in which no format rule is broken.
 ghost use Rattle.std.specs.Prelude.{◌≡◌, ◌↔◌, ◌+◌, ◌*◌, ◌<◌, ◌≤◌, length, map, None, IfOk};
-ghost use Rattle.field_words.specs.Words.{u16_at, u32_at};
+ghost use Rattle.field_words.specs.Words.{u16_at};
 ghost use Rattle.field_words.specs.Questions.{first_of, Answers, NamesFirst, NeverHidesFault};
 ghost use Rattle.job_format.specs.Faults.{format_questions};
 ghost use Rattle.job_format.specs.File.{IsFileOf, Reads};
 ghost use Rattle.job_format.specs.Model.{FileModel, file_view};
 ghost use Rattle.job_format.specs.Parts.{job_parts_view, parts_view};
-ghost use Rattle.job_format.specs.Offsets.{header_size, entry_size, job_size, most_buffers, most_handles, most_jobs, buffer_count, job_count, entry_offset, job_offset, job_word, content_offset, handles_offset, bin_offset, records_offset, uniforms_offset, end_offset};
+ghost use Rattle.job_format.specs.Offsets.{header_size, entry_size, job_size, most_buffers, most_handles, most_jobs, buffer_count, job_count, entry_offset, job_offset, job_word, handles_offset, bin_offset, records_offset, uniforms_offset, end_offset};
 ghost use Rattle.job_format.specs.Whole.{HasParts};
 ghost use Rattle.job_format.specs.Reading.{bytes_cut, regions_at, entry_at, surface_at, frame_at, kind_of, words_at, buffers_at, contents_at, job_at, jobs_at, file_at};
 

@@ -1,5 +1,5 @@
 //! A source and a sink in memory, which fail at chosen calls.
-ghost use Rattle.std.specs.Prelude.{◌≡◌, ◌-◌, ◌≤◌, ◌<◌, ◌↔◌, ◌⊎◌, [], length, drop, min, Contains, IfOk, OnOk, IsOk, IsErr, IfErr, OnErr, Some};
+ghost use Rattle.std.specs.Prelude.{◌≡◌, ◌-◌, ◌≤◌, ◌<◌, ◌↔◌, ◌⊎◌, [], length, drop, min, Contains, IfOk, OnOk, IsErr, OnErr, Some};
 ghost use Rattle.std.specs.Io.KnownBytes.{ReadConsumes};
 ghost use Rattle.job_io.specs.Faults.{Rose, count_after};
 ghost use Rattle.job_io.specs.Traffic.{Writes};

@@ -1,5 +1,5 @@
 //! A source and a sink that never fail.
-ghost use Rattle.std.specs.Prelude.{◌≡◌, ◌≤◌, ◌<◌, length, take, drop, min, IsOk, IfOk, OnErr, Some, None};
+ghost use Rattle.std.specs.Prelude.{◌≡◌, ◌≤◌, ◌<◌, length, drop, min, IsOk, IfOk, Some, None};
 ghost use Rattle.std.specs.Io.KnownBytes.{ReadConsumes};
 
 use super::give::give;

@@ -1,9 +1,8 @@
 //! The lines between `asm` and `end`: assembler text.
-ghost use Rattle.std.specs.Prelude.{◌≡◌, ◌≤◌, ◌<◌, ◌^◌, ◌-◌, ◌++◌, Ok, Err, length, map, IfOk, IfErr};
+ghost use Rattle.std.specs.Prelude.{◌≡◌, ◌≤◌, ◌<◌, ◌^◌, ◌-◌, ◌++◌, Ok, Err, length, IfOk, IfErr};
 ghost use Rattle.std.specs.List.{flat_map};
 ghost use Rattle.std.specs.Int.{to_le_bytes, w64};
-ghost use Rattle.script.specs.Lines.{before, lines_of};
-ghost use Rattle.qpu_asm.specs.Assembly.{Assembled};
+ghost use Rattle.script.specs.Lines.{lines_of};
 ghost use Rattle.job_make.specs.Made.{with_spaces, asm_line, both, block_text, words_made, bytes_assembled, block_read, IsFaultOf};
 
 use crate::fault::{MakeFault, Mistake};

@@ -1,5 +1,5 @@
 //! A text as bytes.
-ghost use Rattle.std.specs.Prelude.{◌≡◌, ◌+◌, ◌≤◌, ◌<◌, ◌^◌, [], false, length, option_copied, IfOk, IfErr, IfSome, Ok, MatchResult};
+ghost use Rattle.std.specs.Prelude.{◌≡◌, ◌+◌, ◌≤◌, ◌<◌, ◌^◌, [], false, length, option_copied, IfOk, IfErr, IfSome, Ok};
 ghost use Rattle.field_words.specs.declared.stop.Stop.TheVariants.{Fault};
 ghost use Rattle.hex.specs.Hex.{hex_digit_value};
 ghost use Rattle.job_make.specs.Made.{byte_at, front_digit, both, digits_read, number_read, word_read, line_read, name_read, part_read, name_on, stays_inside, size_from, text_sections, text_bytes, IsFaultOf};

@@ -4,7 +4,7 @@ use Rattle.std.proofs.{lemmas.Bool.false≢true, lemmas.Bool.le-leb, lemmas.Bool
 use Rattle.std.proofs.lemmas.Bool.Decides.{nat_tests}
 use Rattle.std.specs.Prelude.{slice_index, slice_set}
 use Rattle.job_queue.specs.declared.queue.QueueFault.TheVariants.{Full, Binning, NoJob, Waits, NotBinning, NotBinned}
-use Rattle.job_queue.specs.Past.{Job, Past, none_yet, is_in, meet, last_before, last_writer, reads_of, first_unknown, submit_answer, start_answer, bin_answer, render_answer, after_submit, after_start, after_bin, after_render}
+use Rattle.job_queue.specs.Past.{Job, Past, none_yet, is_in, meet, last_before, last_writer, first_unknown, submit_answer, start_answer, bin_answer, render_answer, after_submit, after_start, after_bin, after_render}
 use Rattle.job_queue.specs.{declared.queue.QueueFault.QueueFault, Desk.Desk, Desk.Agrees, Desk.greatest, Desk.writers_after}
 use Rattle.job_queue.specs.Past as past
 use Rattle.job_queue.proofs.Writers.{greatest_is, all_before, with_last, writer_last, writer_old, written_at, written_size}

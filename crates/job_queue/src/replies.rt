@@ -1,5 +1,5 @@
 //! Scripts of calls, and their answers.
-ghost use Rattle.std.specs.Prelude.{◌≡◌, ◌≤◌, ◌<◌, ◌^◌, length, IfOk, IfErr, OnOk, None, codes};
+ghost use Rattle.std.specs.Prelude.{◌≡◌, ◌≤◌, ◌<◌, ◌^◌, length, IfOk, IfErr, OnOk, None};
 ghost use Rattle.script.specs.Replies.{Adds, IsScriptFault};
 ghost use Rattle.job_queue.specs.Calls.{fault_line, is_formed as formed};
 ghost use Rattle.job_queue.specs.Desk.{Agrees};

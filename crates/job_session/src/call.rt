@@ -1,8 +1,7 @@
 //! The calls of a script.
-ghost use Rattle.std.specs.Prelude.{◌≡◌, ◌≤◌, ◌<◌, ◌↔◌, IfSome, IsTrue, length};
+ghost use Rattle.std.specs.Prelude.{◌≡◌, ◌<◌, ◌↔◌, IfSome, IsTrue};
 ghost use Rattle.std.specs.List.{AllPass};
 ghost use Rattle.hex.specs.Hex.{is_hex_digit as digit_test};
-ghost use Rattle.field_words.specs.Sizes.{most_code};
 ghost use Rattle.job_session.specs.Calls.{number_in, is_hex as hex_test, is_code as code_test, code_of, write_of, read_of, submit_of};
 ghost use Rattle.job_session.specs.Calls.{command_named};
 ghost use Rattle.job_session.specs.Calls.{call_of, command_asked, call_made, Fits, LineFits};

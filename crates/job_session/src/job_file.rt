@@ -1,9 +1,8 @@
 //! The file in which a client's job is checked.
-ghost use Rattle.std.specs.Prelude.{◌≡◌, ◌≤◌, ◌<◌, ◌++◌, length, IfOk, OnOk};
+ghost use Rattle.std.specs.Prelude.{◌≡◌, ◌<◌, ◌++◌, IfOk, OnOk};
 ghost use Rattle.std.specs.List.{flat_map};
 ghost use Rattle.field_words.specs.WordBytes.{word};
 ghost use Rattle.job_format.specs.Text.{kind_number, buffer_text};
-ghost use Rattle.job_session.specs.Own.{most_buffers};
 ghost use Rattle.job_session.specs.Submit.{header_of, with_client as client_set, job_bytes, all_contents, file_of};
 ghost use Rattle.job_session.specs.Desk.{held_in};
 

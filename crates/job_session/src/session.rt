@@ -6,14 +6,14 @@ ghost use Rattle.session_pages.specs.Map.{first_place};
 ghost use Rattle.job_session.specs.Own.{most_buffers};
 ghost use Rattle.job_session.specs.Submit.{buffers_packed, content_of, all_contents, laid_in, contents_at};
 ghost use Rattle.job_session.specs.Desk.{slot_count, slot_of, empty, least_id, page_total, held_in};
-ghost use Rattle.job_session.specs.Desk.{new_id, after_place, create_answer, after_create, code_answer, after_code, pages_for, free_answer, after_free};
+ghost use Rattle.job_session.specs.Desk.{new_id, after_place, create_answer, after_create, code_answer, after_code, free_answer, after_free};
 ghost use Rattle.job_session.specs.Desk.{write_answer, after_write, read_answer, submit_answer, IsStop, IsRefusal};
 
 use super::denied::Denied;
 use super::job_file::job_file;
 use super::rules::{check_file, check_shader};
 use buffer_table::{Buffer, Kind};
-use field_words::{MOST_CODE, NoMemory, PAGE_SIZE, Stop};
+use field_words::{NoMemory, PAGE_SIZE, Stop};
 use session_pages::{FIRST_PLACE, Pages};
 use std::alloc::Global;
 use std::marker::Model;

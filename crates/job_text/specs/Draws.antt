@@ -1,7 +1,7 @@
 -- The text of a file's draws: the packets of each job's list, with the record and the uniforms of each shader state.
-use Rattle.std.specs.Prelude.{ℕ, zero, suc, ◌≡◌, ◌+◌, ◌==◌, ◌||◌, Bool, nat_lt, min, List, [], ◌∷◌, ◌++◌, take, drop, length, codes, if◌then◌else◌}
+use Rattle.std.specs.Prelude.{ℕ, zero, suc, ◌≡◌, ◌+◌, ◌==◌, ◌||◌, nat_lt, min, List, [], ◌∷◌, ◌++◌, take, drop, length, codes, if◌then◌else◌}
 use Rattle.field_words.specs.Words.{u32_at}
-use Rattle.packets.specs.Opcode.{indexed_primitive_list, array_primitive_list, gl_shader_state}
+use Rattle.packets.specs.Opcode.{gl_shader_state}
 use Rattle.bin_list.specs.Packets.{opcode, packets, draws}
 use Rattle.shader_records.specs.Sources.{source_size}
 use Rattle.job_format.specs.declared.rule.Part.TheVariants.{JobEntry, BinnerList, Records, Uniforms}

@@ -1,5 +1,5 @@
 -- What a field's number means, as it is said behind the number.
-use Rattle.std.specs.Prelude.{ℕ, Bool, ◌++◌, List, [], map, codes, decimal, ◌==◌, ◌%◌, ◌/◌, ◌^◌, Option, Some, None, if◌then◌else◌}
+use Rattle.std.specs.Prelude.{ℕ, ◌++◌, List, [], map, codes, decimal, ◌==◌, ◌%◌, ◌/◌, ◌^◌, Option, Some, None, if◌then◌else◌}
 use Rattle.packets.specs.StateWord.{attribute_count, is_extended}
 use Rattle.texture_layouts.specs.declared.surface.Tiling.TheVariants.{Raster, T, Lt}
 use Rattle.texture_layouts.specs.{declared.surface.Tiling.Tiling, declared.format.Style.Style, Format.general_style, Format.frame_style}
@@ -8,7 +8,7 @@ use Rattle.job_text.specs.declared.note.Field.TheVariants.{Word, Kind, Flags, Ha
 use Rattle.job_text.specs.declared.note.Field.{Field}
 use Rattle.job_text.specs.declared.meanings.TheConstants.{DEPTHS}
 use Rattle.job_text.specs.Floats.{float_text, sixteenths_text}
-use Rattle.qpu_text.specs.{Load.hex_text, Pieces.named_in, Pieces.if_so, Pieces.if_so}
+use Rattle.qpu_text.specs.{Load.hex_text, Pieces.named_in, Pieces.if_so}
 
 abbrev pub tiling_name : Tiling → List ℕ
 tiling_name Raster = codes "raster"

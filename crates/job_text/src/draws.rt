@@ -27,9 +27,9 @@ struct Known<'a> {
     shaders: &'a [Option<ShaderInfo>],
 }
 
-/// A walk through the list of a job: what is left of its records and uniforms, the number of the next record, and the buffer of indexes.
+// A walk through the list of a job: what is left of its records and uniforms, the number of the next record, and the buffer of indexes.
 #[derive(Clone, Copy)]
-pub struct Walk<'a> {
+struct Walk<'a> {
     job: Job<'a>,
     shaders: &'a [Option<ShaderInfo>],
     records: Span<'a>,
@@ -147,7 +147,7 @@ impl<'a> Walk<'a> {
         let size = self.uniforms.bytes.len().saturating_sub(pieces.left);
         let (taken, uniforms) = split(self.uniforms, by_state(packet.bytes, size));
         put_lines(alloc, out, taken, &pieces.cuts, view)?;
-        put_if(out, draws(packet.bytes), b"\n")?;
+        put_if(out, draws(packet.bytes), "\n")?;
         self.records = records;
         self.uniforms = uniforms;
         self.number = self.number.saturating_add(by_state(packet.bytes, 1));

@@ -107,13 +107,10 @@ fn index_text(number: u32) -> &'static str
 }
 
 /// Appends a text where it is so.
-pub(crate) fn put_if(out: &mut Vec<u8>, is: bool, text: &[u8]) -> Result<(), AllocError>
+pub(crate) fn put_if(out: &mut Vec<u8>, is: bool, text: &'static str) -> Result<(), AllocError>
     ensures { OnOk result (out.new.items ≡ out.old.items ++ if_so is text.now) }
 {
-    if is {
-        out.extend_from_slice(text)?;
-    }
-    Ok(())
+    out.extend_from_slice(if_so(is, text).as_bytes())
 }
 
 fn put_mode(out: &mut Vec<u8>, number: u32, end: &str) -> Result<(), AllocError>
@@ -253,16 +250,16 @@ pub(crate) fn put_meaning(out: &mut Vec<u8>, field: Field, number: u32) -> Resul
         Field::PointWidth | Field::ScaleX | Field::ScaleY | Field::ScaleZ | Field::OffsetZ =>
             put_float(out, number),
         Field::Kind => out.extend_from_slice(kind_text(number).as_bytes()),
-        Field::Flags => put_if(out, number == 1, b" (the clear values are used)"),
-        Field::HandleIndex => put_if(out, number == u32::MAX, b" (absent)"),
+        Field::Flags => put_if(out, number == 1, " (the clear values are used)"),
+        Field::HandleIndex => put_if(out, number == u32::MAX, " (absent)"),
         Field::FrameBits => put_style(out, frame_style((number % 65536) as u16)),
         Field::GeneralBits => put_style(out, general_style((number % 65536) as u16)),
-        Field::SurfaceFlags => put_if(out, number % 2 == 1, b" (full resolution)"),
+        Field::SurfaceFlags => put_if(out, number % 2 == 1, " (full resolution)"),
         Field::PrimitiveMode => put_mode(out, number, ")"),
         Field::IndexMode => put_mode(out, number, index_text(number)),
         Field::StateWord => put_state(out, number),
-        Field::BinnerFlags => put_if(out, number % 2 == 1, b" (four samples a pixel)"),
-        Field::RecordFlags => put_if(out, number % 2 == 1, b" (single-threaded)"),
+        Field::BinnerFlags => put_if(out, number % 2 == 1, " (four samples a pixel)"),
+        Field::RecordFlags => put_if(out, number % 2 == 1, " (single-threaded)"),
         _ => Ok(()),
     }
 }

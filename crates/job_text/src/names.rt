@@ -1,5 +1,5 @@
 //! The names of what a file has.
-ghost use Rattle.std.specs.Prelude.{◌≡◌, ◌++◌, codes, decimal, OnOk};
+ghost use Rattle.std.specs.Prelude.{◌≡◌, ◌++◌, decimal, OnOk};
 ghost use Rattle.job_text.specs.Names.{named_text, role_name, stage_name, field_name, field_size, part_text, of_job};
 
 use crate::note::{Field, Part, Role, Stage};

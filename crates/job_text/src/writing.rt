@@ -66,7 +66,7 @@ fn put_end(out: &mut Vec<u8>, is: bool, view: View<'_>) -> Result<(), AllocError
     ensures { OnOk result (out.new.items ≡ out.old.items ++ end_text is (look_of view.entry)) }
 {
     if is {
-        put_if(out, !view.behind, b" <== refused here")?;
+        put_if(out, !view.behind, " <== refused here")?;
         out.extend_from_slice(b"\n")?;
         put_reason(out, view.behind, b"<== refused here")?;
         put_reason(out, true, view.why)

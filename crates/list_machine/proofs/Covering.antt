@@ -1,7 +1,6 @@
 -- How small what a load or store covers is.
-use Rattle.std.proofs.Common.{◌≡◌, ◌≤◌, ◌<◌, ℕ, suc, ◌+◌, ◌*◌, ◌/◌, ◌%◌, ◌^◌, inl, inr, arith}
-use Rattle.std.proofs.Math.Nat.{mul-le-mul, div-le_self, div-add-mod, le_refl, mul_comm}
-use Rattle.std.proofs.lemmas.Nat.{div-mul-add, mod-mul-add}
+use Rattle.std.proofs.Common.{◌≡◌, ◌≤◌, ◌<◌, ℕ, ◌+◌, ◌*◌, ◌/◌, ◌%◌, ◌^◌, inl, inr, arith}
+use Rattle.std.proofs.Math.Nat.{mul-le-mul, div-le_self, div-add-mod, le_refl}
 use Rattle.std.specs.Int.{div_ceil}
 use Rattle.texture_layouts.specs.{Surface.microtile_width_of, Surface.microtile_height_of, Format.IsShort}
 

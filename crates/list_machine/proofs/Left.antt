@@ -1,5 +1,5 @@
 -- The loops over the parts of a load or store.
-use Rattle.std.proofs.Common.{◌≡◌, ℕ, zero, suc, ◌+◌, ◌*◌, List, [], ◌∷◌, ◌++◌, length, Some, ◌∙◌, ap, subst, arith}
+use Rattle.std.proofs.Common.{◌≡◌, ℕ, zero, suc, ◌+◌, ◌*◌, List, [], ◌∷◌, ◌++◌, length, Some, subst}
 use Rattle.machine_plan.specs.{Memory.bytes_stored}
 use Rattle.machine_plan.specs.Plan.{Plan, Done, Reads, Writes, Outcome, Shows, access, outcome_of}
 use Rattle.machine_plan.proofs.{Joining.left_write, Reading.IsLeft, Reading.left_read, Reading.left_done}

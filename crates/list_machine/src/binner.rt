@@ -4,12 +4,12 @@
 ghost use Rattle.std.specs.Prelude.{◌≡◌, ◌≤◌, ◌<◌, ◌+◌, ◌^◌, ◌⊎◌, true, false, length, slice_index, Some, None, option_map};
 ghost use Rattle.arrayvec.specs.ArrayVec.{array_vec_len};
 ghost use Rattle.packets.specs.Length.{bin_length, bin_taken};
-ghost use Rattle.packets.specs.Opcode.{tile_binning_mode, gl_shader_state, indexed_primitive_list, array_primitive_list};
+ghost use Rattle.packets.specs.Opcode.{indexed_primitive_list, array_primitive_list};
 ghost use Rattle.machine_plan.specs.Glance.{Now};
 ghost use Rattle.machine_plan.specs.Turn.{Carries, CarriesOver, if_tame};
-ghost use Rattle.list_machine.specs.Lists.{turned_to, quiet, binner_ended, with_work, most_items, MayIncrement};
+ghost use Rattle.list_machine.specs.Lists.{turned_to, quiet, binner_ended, most_items, MayIncrement};
 ghost use Rattle.list_machine.specs.Blocks.{has_room};
-ghost use Rattle.list_machine.specs.Binner.{config_set, with_word, after_start, clear_plan, begin_plan, primitive_of, work_of, plan_of_draw, draw_plan, after_halt, is_unknown, packet_plan, read_plan, is_due, one_done, next_plan, not_due, due_plan, chosen_tile, tile_plan, item_plan, work_plan, binner_by, binner_plan, item_may, work_may, binner_may, binner_ready, has_binner_work};
+ghost use Rattle.list_machine.specs.Binner.{config_set, with_word, after_start, clear_plan, begin_plan, primitive_of, draw_plan, is_unknown, packet_plan, read_plan, is_due, one_done, next_plan, not_due, due_plan, chosen_tile, tile_plan, item_plan, work_plan, binner_plan, item_may, work_may, binner_ready, has_binner_work};
 
 use crate::blocks::{has_room, tiles_of, write_zeros};
 use crate::fetch::fetch_vertex;

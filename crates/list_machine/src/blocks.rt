@@ -6,7 +6,7 @@ ghost use Rattle.list_machine.specs.State.{Write};
 ghost use Rattle.machine_plan.specs.Memory.{bytes_stored};
 ghost use Rattle.machine_plan.specs.Plan.{access};
 ghost use Rattle.list_machine.specs.Lists.{most_items};
-ghost use Rattle.list_machine.specs.Blocks.{tiles_of, further_offset, block_place, has_room, one_more, spot_of, is_full, next_place, link_place, item_of, zeros, item_put, put_plan};
+ghost use Rattle.list_machine.specs.Blocks.{tiles_of, further_offset, block_place, has_room, spot_of, is_full, next_place, item_of, zeros, item_put, put_plan};
 
 use crate::job_lists::JobLists;
 use crate::state::{Item, Spot, Work};

@@ -4,7 +4,7 @@ ghost use Rattle.std.specs.Int.{div_ceil};
 ghost use Rattle.texture_layouts.specs.Format.{IsShort};
 ghost use Rattle.texture_layouts.specs.Surface.{IsPixelSize};
 ghost use Rattle.list_machine.specs.Store.{tile_side, pixels_covered};
-ghost use Rattle.list_machine.specs.Cover.{raster_cover, tiled_cover, cover_in, cover_by, cover_for, part_count, part_offset, part_place, IsSmall};
+ghost use Rattle.list_machine.specs.Cover.{raster_cover, tiled_cover, cover_in, cover_for, part_count, part_offset, part_place, IsSmall};
 
 use crate::state::Frame;
 use crate::surface::Cover;

@@ -5,7 +5,7 @@ ghost use Rattle.std.specs.Prelude.{◌≡◌, ◌≤◌, ◌<◌, ◌+◌, ◌*
 ghost use Rattle.arrayvec.specs.ArrayVec.{array_vec_len};
 ghost use Rattle.packets.specs.StateWord.{attribute_count, is_extended};
 ghost use Rattle.machine_plan.specs.Turn.{CarriesOver};
-ghost use Rattle.list_machine.specs.Fetch.{index_size, index_in, index_plan, draws_nothing, record_place, attribute_place, extension_place, data_size, stride_of, data_place, data_plan, extended_plan, attribute_plan, all_attributes_plan, indexed_plan, fetch_plan};
+ghost use Rattle.list_machine.specs.Fetch.{index_size, index_in, index_plan, draws_nothing, record_place, attribute_place, extension_place, stride_of, data_place, data_plan, extended_plan, attribute_plan, all_attributes_plan, indexed_plan, fetch_plan};
 
 use crate::reads::{read_listed, read_word};
 use crate::state::Primitive;

@@ -1,10 +1,10 @@
 //! The renderer's step in a tile's list, and its whole step.
-ghost use Rattle.std.specs.Prelude.{◌≡◌, ◌+◌, ◌≤◌, ◌<◌, ◌^◌, drop, length, true, false, Some, None, IfSome, option_map};
+ghost use Rattle.std.specs.Prelude.{◌≡◌, ◌+◌, ◌≤◌, ◌<◌, length, true, false, Some, None, IfSome, option_map};
 ghost use Rattle.arrayvec.specs.ArrayVec.{array_vec_len};
 ghost use Rattle.machine_plan.specs.Glance.{glance_result};
 ghost use Rattle.machine_plan.specs.Turn.{Carries, CarriesOver, if_tame};
-ghost use Rattle.list_machine.specs.Lists.{Lists, Turned, turned_to, quiet, renderer_ended, most_items};
-ghost use Rattle.list_machine.specs.Renderer.{first_of_tile, item_at, at_item, vertex_plan, program_plan, choice_plan, found_plan, plan_in, renderer_plan, renderer_ready, has_renderer_work};
+ghost use Rattle.list_machine.specs.Lists.{Lists, turned_to, quiet, renderer_ended, most_items};
+ghost use Rattle.list_machine.specs.Renderer.{item_at, at_item, vertex_plan, program_plan, choice_plan, plan_in, renderer_plan, renderer_ready, has_renderer_work};
 
 use crate::fetch::fetch_vertex;
 use crate::job_lists::JobLists;

@@ -1,5 +1,5 @@
 //! What the list units of one job keep, as a whole.
-ghost use Rattle.std.specs.Prelude.{◌≡◌, ◌≤◌, ◌<◌, ◌+◌, ◌*◌, ◌^◌, ◌++◌, ◌∷◌, [], length, IfOk};
+ghost use Rattle.std.specs.Prelude.{◌≡◌, ◌≤◌, ◌<◌, ◌+◌, ◌*◌, ◌^◌, [], length, IfOk};
 ghost use Rattle.list_machine.specs.Lists.{lists_start, with_kept, with_work, with_place, past, after_increment, after_flush, with_taken, with_item, with_block, binner_ended, renderer_ended, most_items, AreNear, MayIncrement};
 ghost use Rattle.list_machine.specs.Renderer.{beyond, with_frame, with_load, at_tile, with_inside};
 ghost use Rattle.list_machine.specs.Blocks.{spot_of};

@@ -1,5 +1,5 @@
 //! The turns of the shader processors and of their texture and memory units (TMUs).
-ghost use Rattle.std.specs.Prelude.{◌≡◌, ◌≤◌, ◌<◌, [], IsTrue};
+ghost use Rattle.std.specs.Prelude.{◌≡◌, ◌<◌, [], IsTrue};
 ghost use Rattle.machine_plan.specs.{Glance.glance_result, World.Moves, World.world_turned};
 ghost use Rattle.std.specs.List.{list_all};
 ghost use Rattle.qpu_machine.specs.Qpu.{is_idle};

@@ -1,6 +1,6 @@
 //! The calls of a script.
-ghost use Rattle.std.specs.Prelude.{◌≡◌, ◌≤◌, ◌<◌, IfSome};
-ghost use Rattle.overflow_slots.specs.Calls.{begin_of, call_named as named, call_of, is_formed as formed};
+ghost use Rattle.std.specs.Prelude.{◌≡◌, ◌<◌, IfSome};
+ghost use Rattle.overflow_slots.specs.Calls.{begin_of, call_named as named, call_of};
 ghost use Rattle.overflow_slots.specs.Calls.{IsInRange};
 
 use script::{cut_at, read_number};

@@ -1,5 +1,5 @@
 //! The picture of a memory.
-ghost use Rattle.std.specs.Prelude.{◌≡◌, ◌≤◌, ◌<◌, ◌^◌, ◌+◌, ◌++◌, length, codes, OnOk, IfOk};
+ghost use Rattle.std.specs.Prelude.{◌≡◌, ◌≤◌, ◌<◌, ◌^◌, ◌+◌, ◌++◌, length, OnOk, IfOk};
 ghost use Rattle.job_format.specs.Parts.{parts_view};
 ghost use Rattle.pictures.specs.Forest.{forest_text};
 ghost use Rattle.pictures.specs.Parts.{each};

@@ -4,9 +4,7 @@ ghost use Rattle.std.specs.Fmt.{decimal};
 ghost use Rattle.pictures.specs.Forest.{forest_text, attribute_text};
 ghost use Rattle.pictures.specs.Parts.{block, block_attributes, paper, label, hex, word_element, root_attributes, opening};
 
-use crate::svg::{
-    Drawn, begin, close, end_leaf, end_tag, numbered, push_number, push_words, worded,
-};
+use crate::svg::{Drawn, begin, close, end_leaf, end_tag, numbered, push_words, worded};
 use std::alloc::{AllocError, Global};
 
 /// What the elements' classes look like. The heat's seven tones are for reads and for writes.

@@ -1,7 +1,7 @@
 //! The text of a drawing: elements with attributes, and words with escapes. An element is written in pieces: `begin`, its attributes, and
 //! `end_leaf`; or `end_tag`, what is in it, and `close`.
 
-ghost use Rattle.std.specs.Prelude.{◌≡◌, ◌++◌, codes, OnOk, string_bytes};
+ghost use Rattle.std.specs.Prelude.{◌≡◌, ◌++◌, codes, OnOk};
 ghost use Rattle.std.specs.Fmt.{decimal};
 ghost use Rattle.pictures.specs.Forest.{escape, words_escaped, word_attribute, number_attribute, attribute_text};
 

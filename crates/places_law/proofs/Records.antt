@@ -10,7 +10,7 @@ use Rattle.shader_records.specs.Sources.{state_at, handles_size, source_size, re
 use Rattle.shader_records.specs.Rules.{cut_questions, code_questions, handle_questions, disagrees, fixed_questions, is_attribute_past, has_vertex_past, attribute_questions, names_questions, body_questions, record_questions, setup_questions, first_word_at, sample_questions, use_questions, shader_questions, state_questions, all_questions}
 use Rattle.shader_records.specs.{declared.fault.RecordFault.RecordFault, Inputs.InputModel}
 use Rattle.shader_records.specs.Faults.{number_of, record_fault, uniform_fault, sample_fault}
-use Rattle.places_law.proofs.Tables.{AreAlike, data_same, code_same, size_same, each_same}
+use Rattle.places_law.proofs.Tables.{AreAlike, data_same, code_same, each_same}
 use Rattle.places_law.proofs.Lists.{size_in_same}
 use Rattle.buffer_table.specs.Handles.{size_in}
 

@@ -7,8 +7,8 @@ use Rattle.field_words.specs.declared.access.Actor.{Actor}
 use Rattle.packets.specs.declared.packet.Packet.TheVariants.{WaitOnSemaphore, BranchToSubList, StoreTileColor, StoreTileColorAndEnd}
 use Rattle.packets.specs.declared.packet.Packet.TheVariants.{StoreFullResolution, LoadFullResolution, StoreTileBuffer, LoadTileBuffer}
 use Rattle.packets.specs.declared.packet.Packet.TheVariants.{TileRenderingMode, ClearColors, TileCoordinates}
-use Rattle.packets.specs.{declared.config.Config.Config, Config.config_in, Opcode.tile_binning_mode, Opcode.indexed_primitive_list}
-use Rattle.packets.specs.{Opcode.array_primitive_list, declared.packet.Packet.Packet}
+use Rattle.packets.specs.{declared.config.Config.Config, Config.config_in, Opcode.tile_binning_mode}
+use Rattle.packets.specs.{declared.packet.Packet.Packet}
 use Rattle.bin_list.specs.Packets.{opcode, draws}
 use Rattle.qpu_isa.specs.Terms.{is_branch, target_of, writes_s}
 use Rattle.shader_flow.specs.{Bounded.some_below, Flow.word, Flow.end_of, Flow.checked_of}

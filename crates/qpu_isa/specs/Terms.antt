@@ -119,9 +119,6 @@ add_is_tmu word = not (is_branch word) && nat_le 56 (waddr_add_of word)
 unfoldable pub mul_is_tmu : ℕ → Bool
 mul_is_tmu word = not (is_branch word) && nat_le 56 (waddr_mul_of word)
 
-unfoldable pub has_tmu_write : ℕ → Bool
-has_tmu_write word = add_is_tmu word || mul_is_tmu word
-
 unfoldable pub has_two_tmu_writes : ℕ → Bool
 has_two_tmu_writes word = add_is_tmu word && mul_is_tmu word
 

@@ -1,5 +1,5 @@
 //! A word as an instruction, and back.
-ghost use Rattle.std.specs.Prelude.{◌≡◌, ◌<◌, ◌≤◌, ◌+◌, ◌^◌, ℕ, ◌==◌, ◌↔◌, IsTrue};
+ghost use Rattle.std.specs.Prelude.{◌≡◌, ◌<◌, ◌+◌, ◌^◌, ℕ, ◌↔◌, IsTrue};
 ghost use Rattle.qpu_isa.specs.Inst.{inst_of, alu_of, load_imm_of, branch_of, word_of, alu_word, load_imm_word, branch_word, IsWithin, IsAluWithin, IsLoadImmWithin, IsBranchWithin, WordsReturn};
 
 use crate::inst::{Alu, Branch, Inst, LoadImm};

@@ -1,8 +1,7 @@
 //! What the calls tell of an instruction.
 #![tactic(auto, unfolding(crate::proofs::Opened::terms))]
 
-ghost use Rattle.std.specs.Prelude.{◌≡◌, ◌<◌, ◌^◌, ℕ, Bool, not};
-ghost use Rattle.qpu_isa.specs.Inst.{inst_of};
+ghost use Rattle.std.specs.Prelude.{◌≡◌, ◌<◌};
 ghost use Rattle.qpu_isa.specs.Report.{takes_uniform, tmu_at, tmu_written, first_given, is_named, names_written, IsRegister, TermsAgree, TargetsAreSums};
 
 use crate::inst::{Inst, Reg};

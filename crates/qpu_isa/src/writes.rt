@@ -5,7 +5,7 @@
 #![tactic(auto, unfolding(crate::proofs::Opened::terms))]
 
 ghost use Rattle.std.specs.Prelude.{◌≡◌, ◌<◌, ◌≤◌, ◌+◌, ◌*◌};
-ghost use Rattle.qpu_isa.specs.Terms.{add_names, mul_names, names_address, is_address_write, is_relative_address_write, names_forbidden, add_names_reg, mul_names_reg, names, is_accumulator, sets_alone, is_add_packed, is_mul_packed, reads_upper, names_upper, is_upper, reads_uniform_of, is_tmu_address, s_address, add_writes_tmu, mul_writes_tmu, tmu_writes, writes_tmu, writes_s, loads, add_is_tmu, mul_is_tmu, has_two_tmu_writes, has_conditional_tmu_write};
+ghost use Rattle.qpu_isa.specs.Terms.{add_names, mul_names, names_address, is_address_write, is_relative_address_write, names_forbidden, add_names_reg, mul_names_reg, names, is_accumulator, sets_alone, is_add_packed, is_mul_packed, reads_upper, names_upper, is_upper, reads_uniform_of, is_tmu_address, add_writes_tmu, mul_writes_tmu, tmu_writes, writes_tmu, writes_s, loads, add_is_tmu, mul_is_tmu, has_two_tmu_writes, has_conditional_tmu_write};
 ghost use Rattle.qpu_isa.specs.Setups.{adds_direct, muls_direct, is_direct, adds_setup, muls_setup, has_setup, takes_with};
 ghost use Rattle.qpu_isa.specs.Report.{IsRegister};
 

@@ -1,6 +1,5 @@
 //! Rows of 16 elements, and masks of elements.
-ghost use Rattle.std.specs.Prelude.{◌≡◌, ◌+◌, ◌≤◌, ◌<◌, ◌^◌, if◌then◌else◌, slice_index};
-ghost use Rattle.machine_plan.specs.Choice.{word_at};
+ghost use Rattle.std.specs.Prelude.{◌≡◌, ◌+◌, ◌≤◌, ◌<◌};
 ghost use Rattle.qpu_machine.specs.Row.{chosen_row, chosen_rows, has_lane, rows_merged, mask_of};
 
 use crate::state::Row;

@@ -1,6 +1,5 @@
 //! What the two units compute with, and what they come to.
 ghost use Rattle.std.specs.Prelude.{◌≡◌, ◌≤◌, ◌<◌};
-ghost use Rattle.qpu_isa.specs.Word.{op_add_of, op_mul_of};
 ghost use Rattle.qpu_machine.specs.Operands.{read_a, read_b, operand, immediate_row, sums, add_row, products, mul_row};
 
 use crate::lanes::chosen_row;

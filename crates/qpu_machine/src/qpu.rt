@@ -1,8 +1,8 @@
 //! When a processor may step, and where a program can start.
-ghost use Rattle.std.specs.Prelude.{◌≡◌, ◌<◌, ◌≤◌, ◌^◌, IfSome};
+ghost use Rattle.std.specs.Prelude.{◌≡◌, ◌<◌, ◌≤◌};
 ghost use Rattle.machine_plan.specs.Glance.{glance_result};
 ghost use Rattle.qpu_machine.specs.Bounds.{IsBounded};
-ghost use Rattle.qpu_machine.specs.Qpu.{active_of, queue_count, qpu_ready, has_none, is_beside, takes_first, takes_other, is_idle};
+ghost use Rattle.qpu_machine.specs.Qpu.{queue_count, qpu_ready, has_none, is_beside, takes_first, takes_other, is_idle};
 
 use crate::state::{Qpu, Request, Thread};
 use crate::step::is_ready;

@@ -1,9 +1,8 @@
 //! What a texture and memory unit (TMU) does with a request.
-ghost use Rattle.std.specs.Prelude.{◌≡◌, ◌<◌, ◌≤◌, [], ◌^◌, true, false, Some, None, slice_index};
+ghost use Rattle.std.specs.Prelude.{◌≡◌, ◌<◌, ◌≤◌, [], true, false, Some, None, slice_index};
 ghost use Rattle.arrayvec.specs.ArrayVec.{array_vec_len};
 ghost use Rattle.machine_plan.specs.Turn.{CarriesOver, if_tame};
 ghost use Rattle.qpu_machine.specs.State.{Read};
-ghost use Rattle.machine_plan.specs.Plan.{access};
 ghost use Rattle.texture_layouts.specs.Fits.{is_unlisted};
 ghost use Rattle.texture_layouts.specs.Setup.{texture_of};
 ghost use Rattle.qpu_machine.specs.Request.{direct_plan, chosen_level, chosen_place, texture_reads, is_undefined, ask_plan};

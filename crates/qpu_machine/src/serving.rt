@@ -1,5 +1,5 @@
 //! The step of a processor's texture and memory unit (TMU).
-ghost use Rattle.std.specs.Prelude.{◌≡◌, ◌≢◌, ◌<◌, ◌≤◌, IsTrue, false, Some, is_some, option_map, drop};
+ghost use Rattle.std.specs.Prelude.{◌≡◌, ◌≢◌, ◌<◌, ◌≤◌, IsTrue, false, Some, is_some, option_map};
 ghost use Rattle.arrayvec.specs.ArrayVec.{array_vec_len};
 ghost use Rattle.machine_plan.specs.Turn.{CarriesOver, if_tame};
 ghost use Rattle.qpu_machine.specs.Qpu.{queue_of, oldest, job_of_request, slot_of, tmu_plan, after_drop, with_result, result_given};

@@ -1,9 +1,9 @@
 //! The step of a processor.
-ghost use Rattle.std.specs.Prelude.{◌≡◌, ◌<◌, ◌≤◌, ◌^◌, IsTrue, true, false, IfSome, is_some};
+ghost use Rattle.std.specs.Prelude.{◌≡◌, ◌<◌, ◌≤◌, IsTrue, true, false, IfSome, is_some};
 ghost use Rattle.arrayvec.specs.ArrayVec.{array_vec_len};
 ghost use Rattle.machine_plan.specs.Glance.{glance_result};
 ghost use Rattle.machine_plan.specs.Turn.{CarriesOver, if_tame};
-ghost use Rattle.qpu_machine.specs.Qpu.{active_of, job_of_thread, resting_of, qpu_ready, qpu_plan, qpu_stopped, woken_slot, queue_with, with_active, left_slot, gives_way_by, asked_by, after_turn, settled_by};
+ghost use Rattle.qpu_machine.specs.Qpu.{active_of, job_of_thread, qpu_ready, qpu_plan, qpu_stopped, woken_slot, queue_with, with_active, left_slot, gives_way_by, asked_by, after_turn, settled_by};
 ghost use Rattle.qpu_machine.specs.Bounds.{IsNear, IsBounded, SlotSteps};
 
 use crate::state::{Asked, Fate, Leaves, Qpu, Request, Thread};

@@ -1,5 +1,5 @@
 //! Where a program starts among the processors.
-ghost use Rattle.std.specs.Prelude.{◌≡◌, ◌<◌, ◌≤◌, length, IfSome, is_some, is_none};
+ghost use Rattle.std.specs.Prelude.{◌≡◌, ◌<◌, ◌≤◌, length, is_some, is_none};
 ghost use Rattle.qpu_machine.specs.Bounds.{AreBounded};
 ghost use Rattle.qpu_machine.specs.Qpu.{slot_from, free_in, after_launch, in_first, in_other, in_slot, idle_qpu};
 

@@ -1,6 +1,6 @@
 //! ALU instructions.
-ghost use Rattle.std.specs.Prelude.{◌≡◌, ◌++◌, OnOk, nat_lt};
-ghost use Rattle.qpu_text.specs.Alu.{file_b, operand_text, place_text, Half as HalfModel, is_copy, is_multiply_copy, is_unary, add_count, multiply_count, flags_by_multiply, add_half, multiply_half, source_text, half_text, adds, multiplies, halves_text, has_operand, read_text, reads_text, rotation_text, alu_text};
+ghost use Rattle.std.specs.Prelude.{◌≡◌, ◌++◌, OnOk};
+ghost use Rattle.qpu_text.specs.Alu.{file_b, operand_text, place_text, is_copy, is_multiply_copy, is_unary, add_count, multiply_count, flags_by_multiply, add_half, multiply_half, source_text, half_text, adds, multiplies, halves_text, has_operand, read_text, reads_text, rotation_text, alu_text};
 ghost use Rattle.qpu_text.specs.Seen.{half_seen};
 
 use crate::pieces::{if_so, named, put_all};

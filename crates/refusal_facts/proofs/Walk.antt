@@ -1,10 +1,10 @@
 -- The walk over a binner list, from state to state.
-use Rattle.std.proofs.Common.{◌≡◌, ◌≢◌, ℕ, zero, suc, ◌+◌, ◌≤◌, Bool, true, false, List, [], ◌∷◌, length, Option, Some, None, refl, ap, arith, ◌∙◌}
+use Rattle.std.proofs.Common.{◌≡◌, ◌≢◌, ℕ, ◌+◌, ◌≤◌, Bool, true, false, List, [], ◌∷◌, length, Some, None, refl, ap, arith, ◌∙◌}
 use Rattle.std.specs.Prelude.{if◌then◌else◌, ◌==◌, max}
 use Rattle.field_words.specs.Words.{u32_at}
 use Rattle.packets.specs.Opcode.{gl_shader_state}
 use Rattle.bin_list.specs.{Packets.opcode, Packets.front_packet, Packets.behind, Packets.packets, States.draws_to, States.greatest, States.state, States.states_of}
-use Rattle.refusal_facts.specs.{declared.lists.Draw.Draw, Lists.draw_of, Lists.handle_behind, Lists.draw_among}
+use Rattle.refusal_facts.specs.{Lists.draw_of, Lists.handle_behind, Lists.draw_among}
 use Rattle.bin_list.proofs.Packets.{packets_step, packets_none, states_step}
 
 -- The states of a list, by its first packet.

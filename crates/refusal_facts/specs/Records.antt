@@ -1,5 +1,5 @@
 -- A: what a shader record says where a rule is broken.
-use Rattle.std.specs.Prelude.{ℕ, ◌+◌, ◌-◌, ◌*◌, ◌/◌, ◌==◌, ◌||◌, List, length, slice_get, option_map, Option, Some, None, if◌then◌else◌}
+use Rattle.std.specs.Prelude.{ℕ, ◌+◌, ◌-◌, ◌*◌, ◌/◌, ◌==◌, ◌||◌, length, slice_get, option_map, Option, Some, None, if◌then◌else◌}
 use Rattle.field_words.specs.Words.{u32_at}
 use Rattle.emitted_facts.specs.Records.{address_word, attribute_size, attribute_stride, is_single}
 use Rattle.packets.specs.StateWord.{record_size}

@@ -1,5 +1,5 @@
 //! How long a renderer list is.
-ghost use Rattle.std.specs.Prelude.{◌≡◌, ◌≤◌, ◌<◌, ◌||◌, ◌+◌, ◌*◌, ℕ, List, length, is_some, Option};
+ghost use Rattle.std.specs.Prelude.{◌≡◌, ◌≤◌, ◌<◌, ◌+◌, ◌*◌, ℕ, List, length, is_some, Option};
 ghost use Rattle.field_words.specs.Sizes.{most_render};
 ghost use Rattle.render_list.specs.Frame.{surface_at, is_present, tiles_across, tiles_down, IsTileSet, ArePlacesOf};
 ghost use Rattle.render_list.specs.Length.{load_size, write_size, frame_loads, frame_writes, tile_size, render_length};

@@ -1,7 +1,7 @@
 //! The rules of a frame and its surfaces.
 #![tactic(auto, unfolding(crate::proofs::Opened::tests))]
 
-ghost use Rattle.std.specs.Prelude.{◌≡◌, ◌<◌, ◌≤◌, ◌+◌, ◌^◌, ℕ, None, Some, true, false, IfSome, IfOk, IfErr, MatchResult};
+ghost use Rattle.std.specs.Prelude.{◌≡◌, ◌<◌, ◌+◌, ◌^◌, ℕ, None, Some, true, false, IfSome, IfOk, IfErr, MatchResult};
 ghost use Rattle.field_words.specs.Questions.{first_of, each, GoesOn, IsFirst};
 ghost use Rattle.buffer_table.specs.Handles.{AreNumbersOf};
 ghost use Rattle.texture_layouts.specs.Format.{IsShort};

@@ -1,8 +1,7 @@
 //! Writing the renderer list.
-ghost use Rattle.std.specs.Prelude.{◌≡◌, ◌≤◌, ◌<◌, ◌+◌, ◌∷◌, [], length, IsSome, is_some, Some};
+ghost use Rattle.std.specs.Prelude.{◌≡◌, ◌≤◌, ◌<◌, ◌+◌, [], length, IsSome, is_some, Some};
 ghost use Rattle.buffer_table.specs.Table.{most_place};
 ghost use Rattle.field_words.specs.Writes.{with_bytes};
-ghost use Rattle.packets.specs.Packet.{slots_text};
 ghost use Rattle.render_list.specs.Frame.{IsSetupFor};
 ghost use Rattle.render_list.specs.Length.{render_length};
 ghost use Rattle.render_list.specs.Text.{head_packet, clear_slots, front_slots, row_in, tiles_in, render_slots, render_text, HasRoom, Puts, IsScene};

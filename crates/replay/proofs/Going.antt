@@ -1,10 +1,9 @@
 -- A run that goes one step further.
 use Rattle.std.proofs.Common.{◌≡◌, ◌≤◌, ◌<◌, ℕ, suc, ◌+◌, ◌-◌, Bool, IsTrue, true, false, List, [], ◌∷◌, ◌++◌, length, slice_index, Option, None, Some, refl, sym, ◌∙◌, ap, subst, append-nil, append_assoc, arith}
-use Rattle.std.proofs.lemmas.List.{length-append}
 use Rattle.std.proofs.lemmas.List.Elements.{filter_passes, All-filter}
 use Rattle.field_words.specs.{declared.access.Access.Access, declared.access.Actor.Actor}
 use Rattle.std.specs.{List.range_with_len, Prelude.All, Prelude.filter}
-use Rattle.machine_plan.specs.{Runs.Allowed, Runs.Moved, Runs.state_reached, World.Moves}
+use Rattle.machine_plan.specs.{Runs.Allowed, Runs.state_reached, World.Moves}
 use Rattle.machine.specs.{State.State, Step.Event, Step.is_enabled, Step.may, Step.ready, Step.step, Step.job_of, Step.is_finished}
 use Rattle.replay.specs.declared.trace.Ending.TheVariants.{Finished, Waiting, Spent}
 use Rattle.replay.specs.Units.{unit_count, unit_at, word_count, enabled_units, is_of, units_preferred, candidates}

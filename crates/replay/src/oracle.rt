@@ -1,5 +1,5 @@
 //! Two closures as a script.
-ghost use Rattle.std.specs.Prelude.{◌≡◌, ◌≤◌, ◌<◌};
+ghost use Rattle.std.specs.Prelude.{◌≡◌, ◌<◌};
 ghost use Rattle.replay.specs.Run.{MayChoose, IsBelow, MayAnswer};
 
 use crate::script::Script;

@@ -1,6 +1,5 @@
 //! What is kept of a run: a line for each step, and how it ended.
 ghost use Rattle.std.specs.Prelude.{◌≡◌, ◌≤◌, ◌+◌, length};
-ghost use Rattle.std.specs.List.{fold};
 ghost use Rattle.replay.specs.Trace.{with_access, line_closed, line_of, IsOpen};
 
 use field_words::{Access, Actor, Way};

@@ -1,6 +1,6 @@
 //! The units in the order of a script.
 ghost use Rattle.std.specs.Prelude.{◌≡◌, ◌≤◌, ◌<◌, ◌+◌, length, filter, Some};
-ghost use Rattle.replay.specs.Units.{unit_count, unit_at, word_count, enabled_below, enabled_units, is_of, candidates, units_preferred};
+ghost use Rattle.replay.specs.Units.{unit_count, unit_at, word_count, enabled_below, enabled_units, is_of, candidates};
 
 use arrayvec::ArrayVec;
 use field_words::Actor;

@@ -1,5 +1,5 @@
 //! What lies at a place of the memory of an accepted file.
-ghost use Rattle.std.specs.Prelude.{◌≡◌, ◌≤◌, ◌<◌, ◌+◌, length};
+ghost use Rattle.std.specs.Prelude.{◌≡◌, ◌<◌, ◌+◌};
 ghost use Rattle.job_format.specs.Parts.{parts_view};
 ghost use Rattle.run_text.specs.Spot.{is_in, list_spot, lists_spot, buffer_spot, slot_spot, spot_of};
 

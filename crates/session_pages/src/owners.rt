@@ -1,6 +1,6 @@
 //! Who holds each page, and runs of free pages.
-ghost use Rattle.std.specs.Prelude.{◌≡◌, ◌≤◌, ◌+◌, length, IfOk, IfSome, replicate};
-ghost use Rattle.field_words.specs.Writes.{with_bytes, zeros};
+ghost use Rattle.std.specs.Prelude.{◌≡◌, ◌≤◌, ◌+◌, length, IfOk, IfSome};
+ghost use Rattle.field_words.specs.Writes.{zeros};
 ghost use Rattle.session_pages.specs.Map.{is_free, held_by};
 ghost use Rattle.session_pages.specs.Runs.{page_count, first_run as lowest_run};
 

@@ -1,6 +1,5 @@
 //! The memory and its pages.
 ghost use Rattle.std.specs.Prelude.{◌≡◌, ◌≤◌, ◌<◌, ◌+◌, ◌^◌, length, IfOk, IfSome};
-ghost use Rattle.field_words.specs.Sizes.{page_size};
 ghost use Rattle.field_words.specs.Writes.{with_bytes, zeros};
 ghost use Rattle.phys_mem.specs.Window.{window_of};
 ghost use Rattle.session_pages.specs.Map.{all_free as all_free_map, free_run, with_run, without_run, with_part, place_of, memory_size};

@@ -16,8 +16,8 @@ use Rattle.job_safety.proofs.{Prepared.prepared_jobs_law, Safety.bytes_spell, Sa
 use Rattle.session_pages.specs.Map.{memory_size, place_of}
 use Rattle.job_session.specs.{Checked.rule_option, Checked.file_refusal, Own.most_buffers, Session.Past, Submit.content_of, Submit.buffer_laid, Submit.with_client}
 use Rattle.job_session.specs.Desk.{Desk, first_page, page_total, kind_of, bytes_of, job_answer}
-use Rattle.session_law.specs.{Agree.IsKey, Agree.client_count, Agree.Agrees, Lying.lying, Lying.lying_file}
-use Rattle.session_law.proofs.Bytes.{window_length, window_same}
+use Rattle.session_law.specs.{Agree.client_count, Agree.Agrees, Lying.lying, Lying.lying_file}
+use Rattle.session_law.proofs.Bytes.{window_same}
 use Rattle.session_law.proofs.{Laying.regions, Laying.regions_back, Laying.size_back, Lying.slot_held, Lying.submits_are_of_places}
 use Rattle.session_law.proofs.Writing.{room_in}
 use Rattle.session_safety.specs.Running.{file_in, lists_in, with_lists, IsAccepted, IsReady, SubmitsMayRun, ReadyMemoriesMayRun}

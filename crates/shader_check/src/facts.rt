@@ -1,5 +1,5 @@
 //! The rules on facts at one instruction, and the least of all rules there.
-ghost use Rattle.std.specs.Prelude.{◌≡◌, ◌<◌, ◌≤◌, ◌+◌, ◌*◌, ◌==◌, ℕ, true, length};
+ghost use Rattle.std.specs.Prelude.{◌≡◌, ◌<◌, ◌≤◌, ◌+◌, ◌*◌, ◌==◌, length};
 ghost use Rattle.field_words.specs.Questions.{first_of};
 ghost use Rattle.qpu_isa.specs.Report.{IsRegister};
 ghost use Rattle.shader_flow.specs.Flow.{word, IsFlow};

@@ -1,5 +1,5 @@
 //! The samples of a shader: which uniforms each of its requests to a texture unit takes.
-ghost use Rattle.std.specs.Prelude.{◌≡◌, ◌<◌, ◌≤◌, ◌+◌, ◌++◌, ◌∷◌, [], ℕ, false, true, map, length, slice_get, IfOk, OnOk};
+ghost use Rattle.std.specs.Prelude.{◌≡◌, ◌<◌, ◌≤◌, ◌+◌, ◌++◌, ◌∷◌, [], false, true, map, length, slice_get, OnOk};
 ghost use Rattle.std.specs.Option.{option_to_list};
 ghost use Rattle.shader_flow.specs.Flow.{word, checked_of};
 ghost use Rattle.shader_flow.specs.Pending.{count_of, pending_of};

@@ -1,5 +1,5 @@
 //! The rules on the whole shader.
-ghost use Rattle.std.specs.Prelude.{◌≡◌, ◌<◌, ◌≤◌, ◌||◌, length};
+ghost use Rattle.std.specs.Prelude.{◌≡◌, ◌<◌, ◌||◌};
 ghost use Rattle.field_words.specs.Questions.{first_of};
 ghost use Rattle.shader_flow.specs.Flow.{word, IsFlow};
 ghost use Rattle.shader_check.specs.Rules.{uses_upper, s2, s26, whole_questions};

@@ -2,7 +2,6 @@
 ghost use Rattle.std.specs.Prelude.{◌≡◌, ◌<◌, ◌≤◌, ◌+◌, ◌==◌, ◌||◌, ℕ, false, length, slice_index_or, IfOk};
 ghost use Rattle.field_words.specs.Sizes.{most_words};
 ghost use Rattle.qpu_isa.specs.Terms.{target_of};
-ghost use Rattle.shader_flow.specs.Bounded.{some_below};
 ghost use Rattle.shader_flow.specs.Flow.{end_of, checked_of, is_threaded, is_target, makes_target, AddsMarks, EndsAt, IsFlow};
 
 use crate::rules::is_sound;

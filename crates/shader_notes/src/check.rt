@@ -1,7 +1,7 @@
 //! Which notes a shader gets.
 ghost use Rattle.std.specs.Prelude.{◌≡◌, ◌<◌};
 ghost use Rattle.shader_flow.specs.Bounded.{is_back};
-ghost use Rattle.shader_flow.specs.Flow.{word, end_of, IsFlow, EndsAt};
+ghost use Rattle.shader_flow.specs.Flow.{word, IsFlow, EndsAt};
 ghost use Rattle.shader_notes.specs.Notes.{asks_function, is_number, is_below, last_switch, last_unmarked, marked_early, locked_early, tile_at_start, end_writes, register_14, depth_last, read_early, rotated_early, is_noted, first_noted, notes_of};
 
 use crate::note::{Note, Notes};

@@ -1,5 +1,5 @@
 -- The greatest index of vertices of a stride, by a product in place of a quotient.
-use Rattle.std.proofs.Common.{◌≡◌, ℕ, zero, suc, ◌*◌, ◌/◌, ◌<◌, not, nat_lt, ◌&&◌, ◌==◌, arith}
+use Rattle.std.proofs.Common.{◌≡◌, ℕ, zero, suc, ◌*◌, ◌/◌, not, nat_lt, ◌&&◌, ◌==◌, arith}
 use Rattle.std.proofs.{Math.Nat.div-lt_iff_lt-mul, lemmas.Bool.Decides.nat_tests}
 
 pub past_by_product : (rest stride most : ℕ) → nat_lt rest (most * stride) ≡ (not (stride == 0) && nat_lt (rest / stride) most)

@@ -1,5 +1,5 @@
 //! The check of shader records and uniforms.
-ghost use Rattle.std.specs.Prelude.{◌≡◌, ◌≢◌, None, ◌+◌, ◌<◌, ◌≤◌, ◌^◌, length, ◌*◌};
+ghost use Rattle.std.specs.Prelude.{◌≡◌, ◌≢◌, None, ◌+◌, ◌<◌, ◌≤◌, length, ◌*◌};
 ghost use Rattle.field_words.specs.Sizes.{most_list};
 ghost use Rattle.buffer_table.specs.Table.{most_place};
 ghost use Rattle.field_words.specs.Questions.{first_of, Answers};

@@ -4,7 +4,7 @@ ghost use Rattle.field_words.specs.Sizes.{most_memory};
 ghost use Rattle.field_words.specs.Questions.{first_of};
 ghost use Rattle.field_words.specs.Writes.{with_bytes};
 ghost use Rattle.shader_records.specs.Inputs.{Fits};
-ghost use Rattle.shader_records.specs.Sources.{state_at, record_offset, stream_offset, given_before};
+ghost use Rattle.shader_records.specs.Sources.{record_offset, stream_offset};
 ghost use Rattle.packets.specs.StateWord.{record_room};
 ghost use Rattle.shader_records.specs.Rules.{all_questions};
 ghost use Rattle.shader_records.specs.Emission.{emitted_records, emitted_uniforms};

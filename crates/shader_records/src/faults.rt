@@ -1,5 +1,5 @@
 //! The rules of all states.
-ghost use Rattle.std.specs.Prelude.{◌≡◌, ◌+◌, ◌*◌, ◌<◌, ◌≤◌, length, IfOk};
+ghost use Rattle.std.specs.Prelude.{◌≡◌, ◌+◌, ◌<◌, ◌≤◌, length, IfOk};
 ghost use Rattle.field_words.specs.Questions.{GoesOn, first_of, each};
 ghost use Rattle.shader_records.specs.Inputs.{Fits};
 ghost use Rattle.shader_records.specs.Sources.{state_at, source_size, record_source, uniform_source, taken_before, IsEnd};

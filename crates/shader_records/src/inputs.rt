@@ -3,7 +3,7 @@ ghost use Rattle.std.specs.Prelude.{◌≡◌, ◌+◌, ◌*◌, ◌^◌, ◌<�
 ghost use Rattle.field_words.specs.Words.{u32_at};
 ghost use Rattle.field_words.specs.WordBytes.{word_bytes};
 ghost use Rattle.field_words.specs.Writes.{with_bytes};
-ghost use Rattle.buffer_table.specs.Table.{buffer_at, most_place};
+ghost use Rattle.buffer_table.specs.Table.{most_place};
 ghost use Rattle.qpu_isa.specs.Shader.{shader_view};
 ghost use Rattle.shader_records.specs.Inputs.{shaders_view, shader_in, Fits, IsShaped};
 ghost use Rattle.shader_records.specs.Sources.{no_state, state_at, handles_size, code_number, attribute_number, sample_number, shader_behind, shader_used, is_threaded, record_word, word_from, place_in};

@@ -1,5 +1,5 @@
 //! The rules of one record.
-ghost use Rattle.std.specs.Prelude.{◌≡◌, ◌++◌, true, not, nat_lt, ◌==◌, ◌&&◌, ◌+◌, ◌*◌, ◌/◌, ◌<◌, ◌≤◌, ◌^◌, length, IfNone};
+ghost use Rattle.std.specs.Prelude.{◌≡◌, not, nat_lt, ◌==◌, ◌&&◌, ◌+◌, ◌*◌, ◌/◌, ◌<◌, ◌≤◌, ◌^◌, length, IfNone};
 ghost use Rattle.field_words.specs.Questions.{first_of, each};
 ghost use Rattle.emitted_facts.specs.Records.{attribute_size, attribute_stride, is_single};
 ghost use Rattle.packets.specs.StateWord.{attribute_count, is_extended};

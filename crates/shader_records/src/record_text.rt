@@ -1,15 +1,13 @@
 //! Emission of one record.
-ghost use Rattle.std.specs.Prelude.{◌≡◌, ℕ, None, Some, Option, MatchOption, ◌+◌, ◌*◌, ◌/◌, ◌-◌, ◌<◌, ◌≤◌, ◌^◌, length, slice_index};
-ghost use Rattle.field_words.specs.Questions.{first_of};
+ghost use Rattle.std.specs.Prelude.{◌≡◌, None, Some, Option, MatchOption, ◌+◌, ◌*◌, ◌/◌, ◌-◌, ◌<◌, ◌≤◌, ◌^◌, length};
 ghost use Rattle.field_words.specs.WordBytes.{word_bytes};
 ghost use Rattle.field_words.specs.Writes.{with_bytes};
 ghost use Rattle.qpu_isa.specs.Shader.{ShaderModel, shader_view};
-ghost use Rattle.emitted_facts.specs.Records.{address_word};
 ghost use Rattle.packets.specs.StateWord.{attribute_count, record_size, record_room};
 ghost use Rattle.shader_records.specs.Inputs.{Fits};
 ghost use Rattle.shader_records.specs.Sources.{handles_size, source_size, shader_used, given_by, given_before, record_word, code_number, attribute_number, place_in};
-ghost use Rattle.shader_records.specs.Rules.{record_questions, IsFineRecord};
-ghost use Rattle.shader_records.specs.Emission.{plain_word, emitted_word, stream_place, record_text, AreStreamsOf, moved_address};
+ghost use Rattle.shader_records.specs.Rules.{IsFineRecord};
+ghost use Rattle.shader_records.specs.Emission.{plain_word, stream_place, record_text, AreStreamsOf, moved_address};
 
 use crate::inputs::{Inputs, relocated};
 use crate::record_rules::Source;

@@ -1,13 +1,12 @@
 //! Emission of one uniform stream.
-ghost use Rattle.std.specs.Prelude.{◌≡◌, ℕ, Some, None, ◌+◌, ◌*◌, ◌<◌, ◌≤◌, ◌^◌, length};
-ghost use Rattle.field_words.specs.Questions.{first_of};
+ghost use Rattle.std.specs.Prelude.{◌≡◌, ℕ, Some, ◌+◌, ◌*◌, ◌<◌, ◌≤◌, ◌^◌, length};
 ghost use Rattle.field_words.specs.WordBytes.{word_bytes};
 ghost use Rattle.field_words.specs.Writes.{with_bytes};
-ghost use Rattle.qpu_isa.specs.Shader.{shader_view, sample_at, first_position, address_at};
+ghost use Rattle.qpu_isa.specs.Shader.{shader_view, first_position, address_at};
 ghost use Rattle.shader_records.specs.Inputs.{Fits, IsShaped};
-ghost use Rattle.shader_records.specs.Sources.{sample_number, source_word, place_in, shader_used, taken_by, given_by, taken_before, given_before, HasUniforms};
-ghost use Rattle.shader_records.specs.Rules.{use_questions, IsFineUse};
-ghost use Rattle.shader_records.specs.Emission.{stream_word_of, stream_text, streams_text, moved_first};
+ghost use Rattle.shader_records.specs.Sources.{sample_number, source_word, shader_used, taken_by, given_by, taken_before, given_before, HasUniforms};
+ghost use Rattle.shader_records.specs.Rules.{IsFineUse};
+ghost use Rattle.shader_records.specs.Emission.{stream_text, streams_text, moved_first};
 
 use crate::inputs::{Inputs, relocated};
 use crate::uniform_rules::first_position;

@@ -1,14 +1,13 @@
 //! The rules of the uniforms that shaders take.
-ghost use Rattle.std.specs.Prelude.{◌≡◌, ℕ, ◌+◌, ◌*◌, ◌<◌, ◌≤◌, ◌^◌, length, Some, None, IfSome, MatchOption};
+ghost use Rattle.std.specs.Prelude.{◌≡◌, ◌+◌, ◌*◌, ◌<◌, ◌≤◌, ◌^◌, length, Some, None};
 ghost use Rattle.field_words.specs.Sizes.{most_list};
 ghost use Rattle.field_words.specs.Questions.{GoesOn, first_of, each};
-ghost use Rattle.qpu_isa.specs.Shader.{shader_view, sample_at, position, first_position};
+ghost use Rattle.qpu_isa.specs.Shader.{shader_view, sample_at, first_position};
 ghost use Rattle.emitted_facts.specs.Facts.{setup};
 ghost use Rattle.shader_records.specs.Inputs.{Fits, IsShaped, IsShapedSample};
 ghost use Rattle.shader_records.specs.Sources.{shader_used, taken_by, sample_number, source_word, IsEnd, HasUniforms};
 ghost use Rattle.shader_records.specs.Faults.{sample_fault as sample_fault_of};
 ghost use Rattle.shader_records.specs.Rules.{setup_questions, first_word_at, sample_questions, use_questions};
-ghost use Rattle.buffer_table.specs.Handles.{size_in};
 
 use crate::fault::RecordFault;
 use crate::inputs::Inputs;

@@ -1,5 +1,5 @@
 //! E9, E10 and E13: the binner list of a job.
-ghost use Rattle.std.specs.Prelude.{◌≡◌, ◌<◌, length};
+ghost use Rattle.std.specs.Prelude.{◌<◌, length};
 ghost use Rattle.field_words.specs.Questions.{GoesOn};
 ghost use Rattle.job_format.specs.File.{IsWellFormed};
 ghost use Rattle.job_format.specs.Parts.{parts_view};

@@ -5,7 +5,7 @@ ghost use Rattle.arrayvec.specs.ArrayVec.{array_vec_len};
 ghost use Rattle.shader_flow.specs.Flow.{word, checked_of};
 ghost use Rattle.shader_flow.specs.Pending.{pending_of};
 ghost use Rattle.qpu_isa.specs.Terms.{writes_s, loads};
-ghost use Rattle.strict_rules.specs.Queue.{request_at, queue_after, queue_of, last_act};
+ghost use Rattle.strict_rules.specs.Queue.{queue_after, queue_of, last_act};
 ghost use Rattle.strict_rules.specs.Walk.{IsKept, IsWalked, load_count};
 
 use crate::state::{Request, Unit, Walked};

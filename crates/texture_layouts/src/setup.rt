@@ -1,7 +1,7 @@
 //! Textures, as their set-up words describe them.
 #![tactic(auto, unfolding(crate::proofs::Opened::setup))]
 
-ghost use Rattle.std.specs.Prelude.{◌≡◌, ◌<◌, ◌≤◌, ◌+◌, ◌*◌, ◌^◌, ◌⊎◌, true, false};
+ghost use Rattle.std.specs.Prelude.{◌≡◌, ◌<◌, ◌≤◌, ◌+◌, ◌*◌, ◌^◌, ◌⊎◌, false};
 ghost use Rattle.std.specs.Option.{SomeIff};
 ghost use Rattle.texture_layouts.specs.Surface.{IsPixelSize};
 ghost use Rattle.texture_layouts.specs.Setup.{base_of, is_cube_word, levels_of, type_of, kind_of, stride_of, cube_stride_of, pixel_bytes_of, pixels_of, side_of, faces_of, face_place, level_width_of, level_height_of, tiling_at, size_at, size_below, level_place_of};

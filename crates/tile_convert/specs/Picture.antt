@@ -3,7 +3,7 @@ use Rattle.std.specs.Prelude.{◌≡◌, ◌≤◌, ◌<◌, ℕ, ◌+◌, ◌*�
 use Rattle.std.specs.Int.{div_ceil}
 use Rattle.field_words.specs.Questions.{Question, Ask}
 use Rattle.texture_layouts.specs.declared.surface.Tiling.TheVariants.{Raster, T, Lt}
-use Rattle.texture_layouts.specs.{declared.surface.Tiling.Tiling, Place.pixel_place_of, Surface.microtile_width_of, Surface.size_for, Surface.IsPixelSize}
+use Rattle.texture_layouts.specs.{Place.pixel_place_of, Surface.microtile_width_of, Surface.size_for, Surface.IsPixelSize}
 use Rattle.tile_convert.specs.{declared.order.Picture.Picture, declared.order.Order.Order, declared.order.Order.TheVariants.Rows, declared.order.Order.TheVariants.Surface}
 
 -- Where the bytes of pixel (x, y) begin. In rows no row is aligned.

@@ -1,5 +1,4 @@
 //! Whole surfaces.
-ghost use Rattle.std.specs.Prelude.{length};
 ghost use Rattle.field_words.specs.Questions.{Answers, NeverHidesFault};
 ghost use Rattle.tile_convert.specs.Picture.{size_in, surface_bytes, pixel_bytes, IsWithin, IsPictureWithin, IsCopy, IsPicture, IsSurface, length_questions, UntilesWhatWasTiled, TilesWhatWasUntiled};
 

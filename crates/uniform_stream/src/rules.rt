@@ -3,9 +3,9 @@ ghost use Rattle.std.specs.Prelude.{◌≡◌, ◌<◌, length};
 ghost use Rattle.field_words.specs.Questions.{first_of};
 ghost use Rattle.qpu_isa.specs.Terms.{is_address_write};
 ghost use Rattle.shader_flow.specs.Bounded.{is_back};
-ghost use Rattle.shader_flow.specs.Flow.{word, is_target, IsFlow};
-ghost use Rattle.shader_flow.specs.Pending.{pending_of, takes};
-ghost use Rattle.uniform_stream.specs.Stream.{is_known, IsStream};
+ghost use Rattle.shader_flow.specs.Flow.{word, IsFlow};
+ghost use Rattle.shader_flow.specs.Pending.{takes};
+ghost use Rattle.uniform_stream.specs.Stream.{IsStream};
 ghost use Rattle.uniform_stream.specs.Rules.{s14, s15, s17, after_address_write, s18, s19, s20, s21, s22, s23, s25, quiet_questions, stream_questions};
 
 use crate::quiet::writes_registers;

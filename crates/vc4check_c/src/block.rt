@@ -4,11 +4,9 @@ ghost use Rattle.field_words.specs.Sizes.{most_code};
 ghost use Rattle.field_words.specs.Questions.{Answers, first_of};
 ghost use Rattle.qpu_isa.specs.Shader.{shader_view, sample_at, address_at};
 ghost use Rattle.shader_records.specs.Inputs.{IsShapedSample};
-ghost use Rattle.job_check.specs.Shaders.{words_of, code_questions};
-ghost use Rattle.strict_rules.specs.Least.{number_of};
-ghost use Rattle.strict_check.specs.Findings.{findings_of};
+ghost use Rattle.job_check.specs.Shaders.{code_questions};
 ghost use Rattle.vc4check_c.specs.Shader.{with_front};
-ghost use Rattle.vc4check_c.specs.Block.{known_sample, known_address, findings_word, fault_number, block_of, block_of_code, made_answer, rule_in, findings_in_words, findings_in_block, position_in, sample_in, address_in, whole_word, read_of, IsReadable, IsBlockOf, IsUnmade};
+ghost use Rattle.vc4check_c.specs.Block.{known_sample, known_address, findings_word, block_of, block_of_code, made_answer, rule_in, findings_in_words, findings_in_block, position_in, sample_in, address_in, whole_word, read_of, IsReadable, IsBlockOf, IsUnmade};
 
 use crate::shader::position;
 use crate::status::{ACCEPTED, NO_MEMORY, REFUSED, SHORT, TOO_LONG};

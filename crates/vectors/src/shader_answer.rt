@@ -1,6 +1,5 @@
 //! The checker's answer for a line, as text.
-ghost use Rattle.std.specs.Prelude.{◌≡◌, ◌<◌, ◌≤◌, length, vec_len};
-ghost use Rattle.field_words.specs.Sizes.{most_words};
+ghost use Rattle.std.specs.Prelude.{◌<◌};
 
 use field_words::Stop;
 use qpu_isa::{Sample, ShaderInfo};

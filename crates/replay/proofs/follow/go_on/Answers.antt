@@ -1,5 +1,5 @@
 -- The step is one that the script gave.
-use Rattle.std.proofs.Common.{◌<◌, ◌∙◌, refl, ap, subst, arith}
+use Rattle.std.proofs.Common.{◌∙◌, refl, ap, subst, arith}
 use Rattle.replay.specs.{Trace.line_of, Units.candidates, Run.IsPicked}
 use Rattle.replay.proofs.Going.{picked_may, steps_by}
 use Rattle.replay.proofs.follow.go_on.Goals as goal

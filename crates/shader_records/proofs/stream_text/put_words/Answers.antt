@@ -1,5 +1,5 @@
 use Rattle.std.proofs.Common.{◌≡◌, ◌+◌, ◌*◌, length, sym, ap, ◌∙◌, arith}
-use Rattle.field_words.specs.{Writes.with_bytes, Writes.with_bytes}
+use Rattle.field_words.specs.{Writes.with_bytes}
 use Rattle.field_words.proofs.WordBytes.{same_words, put_word}
 use Rattle.std.specs.Int.{to_le_bytes, w32}
 use Rattle.qpu_isa.specs.Shader.{shader_view, sample_at, first_position, address_at}
