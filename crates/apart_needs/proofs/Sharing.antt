@@ -1,5 +1,6 @@
 -- The renderer's steps, by computing, and the byte that differs.
 use Rattle.std.proofs.Common.{◌≤◌, inl, inr, ◌==◌, ℕ, ◌+◌, [], ◌∷◌, Some, refl, arith, ap, rules}
+use Rattle.std.specs.Prelude.{⊤}
 use Rattle.std.proofs.lemmas.Bool.{false≢true}
 use Rattle.field_words.specs.Words.{u16_at, u32_at, rounded_up}
 use Rattle.packets.specs.{Length.render_taken, Packet.packet_decoded, Packet.packet_text, declared.config.Config.Config}
@@ -8,14 +9,15 @@ use Rattle.texture_layouts.specs.{Surface.microtile_width_of, Surface.microtile_
 use Rattle.texture_layouts.specs.Place.{microtiles_across, microtile_number, microtile_place_of, raster_place}
 use Rattle.texture_layouts.specs.Format.{general_tiling, general_pixel, frame_tiling, frame_pixel}
 use Rattle.machine_plan.specs.{Memory.bytes_at, Memory.bytes_stored, Regions.Inside, Regions.rights_of, Runs.state_reached}
-use Rattle.list_machine.specs.Surfaces.{cover_written, cover_read, aligned_address, names_none, general_written, general_read, frame_written, whole_written, whole_read}
-use Rattle.list_machine.specs.{declared.state.Frame.Frame, Blocks.tiles_of, Store.tile_side, Store.pixels_covered, Store.chosen_byte, Store.bytes_chosen}
+use Rattle.list_machine.specs.Surfaces.{whole_written}
+use Rattle.list_machine.specs.{declared.state.Frame.Frame, Blocks.tiles_of, Store.tile_side, Store.pixels_covered, Store.bytes_chosen}
 use Rattle.list_machine.specs.Cover.{raster_cover, tiled_cover, part_place, parts_written, parts_read}
 use Rattle.list_machine.specs.Renderer.{tile_plan, packet_plan, renderer_plan, may_pass, renderer_ready}
 use Rattle.machine.specs.Step.{step, is_enabled, ready, turn, job_of}
 use Rattle.machine_law.specs.{Apart.BeginsSoundly, Begins.JobBegins}
 use Rattle.promises.specs.{Apart.EndAlike, Apart.regions_of, Rights.IsFixed}
 use Rattle.apart_needs.specs.Sharing.{client, shared_memory, shared_rights, shared_beginning, sharing, stores, stored_accesses, SharingIsSeen}
+use Rattle.list_machine.proofs.Opened.{parts}
 
 -- no tiles, and the frame of four pixels
 no_tiles : Config
@@ -95,11 +97,16 @@ other_begins = record {
 begins_soundly : BeginsSoundly shared_beginning
 begins_soundly = record { plain = λ j place size named. absurd named; jobs = (client_begins, (other_begins, tt)) }
 
+-- what the steps of the stores compute
+unfoldable opened : ⊤
+unfolding u16_at u32_at rounded_up render_taken packet_decoded microtile_width_of microtile_height_of microtiles_across microtile_number microtile_place_of raster_place general_tiling general_pixel frame_tiling frame_pixel bytes_at bytes_stored tile_side pixels_covered bytes_chosen raster_cover tiled_cover part_place parts_written parts_read whole_written tile_plan packet_plan renderer_plan may_pass renderer_ready is_enabled ready turn job_of parts
+opened = tt
+
 -- the first byte was 9, and is 1 at the end
 first_differs : EndAlike client (regions_of client 0 shared_rights) [] stored_accesses sharing (state_reached step sharing stores) → ⊥
-unfolding u16_at u32_at rounded_up render_taken packet_decoded microtile_width_of microtile_height_of microtiles_across microtile_number microtile_place_of raster_place general_tiling general_pixel frame_tiling frame_pixel bytes_at bytes_stored tile_side pixels_covered chosen_byte bytes_chosen raster_cover tiled_cover part_place parts_written parts_read cover_written cover_read aligned_address names_none general_written general_read frame_written whole_written whole_read tile_plan packet_plan renderer_plan may_pass renderer_ready is_enabled ready turn job_of
+unfolding opened
 first_differs alike = false≢true (ap (λ byte. byte == 1) (alike.memory.same 0 (inl (record { from = omega arith; upto = omega arith }))))
 
 pub sharing_seen : SharingIsSeen
-unfolding u16_at u32_at rounded_up render_taken packet_decoded microtile_width_of microtile_height_of microtiles_across microtile_number microtile_place_of raster_place general_tiling general_pixel frame_tiling frame_pixel bytes_at bytes_stored tile_side pixels_covered chosen_byte bytes_chosen raster_cover tiled_cover part_place parts_written parts_read cover_written cover_read aligned_address names_none general_written general_read frame_written whole_written whole_read tile_plan packet_plan renderer_plan may_pass renderer_ready is_enabled ready turn job_of
+unfolding opened
 sharing_seen = search (rules, arith, begins_soundly, first_differs)

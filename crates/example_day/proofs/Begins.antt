@@ -4,19 +4,11 @@ use Rattle.std.proofs.lemmas.Bool.{false≢true, and_parts, le-ltb, Decides.nat_
 use Rattle.std.specs.Prelude.{nat_lt, ◌&&◌, slice_index}
 use Rattle.std.specs.Int.{from_le_bytes, w64}
 use Rattle.field_words.specs.{Questions.each, Questions.with_answers, Words.u32_at}
-use Rattle.qpu_isa.specs.Setups.{adds_direct, muls_direct, is_direct, adds_setup, muls_setup, has_setup, takes_with, setups_kept}
-use Rattle.qpu_isa.specs.Terms.{is_alu, is_load_imm, is_branch, is_switch, is_end, has_small, add_names, mul_names, names_address, names_on_a, names_on_b, is_address_write, is_relative_address_write, add_names_reg, mul_names_reg, is_accumulator, names_forbidden, reads_uniform_of, is_tmu_address, s_address, add_writes_tmu, mul_writes_tmu, writes_tmu, first_tmu, tmu_writes, writes_s, add_is_tmu, mul_is_tmu, has_two_tmu_writes, has_conditional_tmu_write, is_add_packed, is_plain, is_uniform_operand, operand_register, first_register, is_upper, reads_upper, names_upper, sets_alone, loaded_value, is_max_with_zero, is_min_with_uniform, is_add_with_uniform, target_of, is_backward}
-use Rattle.qpu_isa.specs.Word.{sig_of, unpack_of, pm_of, pack_of, cond_add_of, cond_mul_of, sf_of, ws_of, waddr_add_of, waddr_mul_of, op_mul_of, op_add_of, raddr_a_of, raddr_b_of, add_a_of, add_b_of, mul_a_of, mul_b_of, mode_of, imm_of, cond_of, relative_of, register_of, raddr_of}
-use Rattle.shader_flow.specs.Flow.{end_of, checked_of, in_slots, after_switch, leads_outside, is_sound_branch, makes_target, is_target, is_threaded}
-use Rattle.shader_flow.specs.Rules.{s3, s4, s5, s6, s7, s8, s9, s10, s11, s12, s13, s27}
-use Rattle.shader_flow.specs.Bounded.{some_below, some_in, is_back, indexes, last_below}
-use Rattle.shader_flow.specs.Pending.{pending_of, takes, count_of}
-use Rattle.uniform_stream.specs.Rules.{s14, s15, s17, after_address_write, s18, s19, s20, s21, is_full, s22, s23, s25}
-use Rattle.uniform_stream.specs.Stream.{writes_address, is_restart, is_known, leaves_open, is_open, uniforms_of}
-use Rattle.clamp_facts.specs.Facts.{sets, switches_between, stays, maker_of, is_delayed, carries, carrier_of, is_not_negative, makes_clamp, fact_of_write, fact_at, is_immediate, is_clamped, clamps}
-use Rattle.shader_check.specs.Rules.{has_quiet_signal, adds_address, is_exact_address_write, s16, direct_by_add, direct_by_mul, is_clamped_write, s24, s1, s2, uses_upper, s26, index_questions, whole_questions, fault_at, questions_at, shader_questions}
+use Rattle.shader_flow.specs.Flow.{is_threaded}
+use Rattle.shader_flow.specs.Pending.{takes}
+use Rattle.uniform_stream.specs.Stream.{uniforms_of}
 use Rattle.shader_flow.specs.Flow.{word as word_at}
-use Rattle.shader_check.specs.Info.{asks, is_sample}
+use Rattle.shader_check.specs.Info.{is_sample}
 use Rattle.packets.specs.{Config.config_in, Length.bin_length, StateWord.attribute_count, StateWord.is_extended, StateWord.record_size, declared.config.Config.Config}
 use Rattle.emitted_facts.specs.Facts.{IsAttributeIn}
 use Rattle.list_law.specs.Emitted.{words_in}
@@ -29,6 +21,7 @@ use Rattle.machine_law.specs.Begins.{LaunchBegins, DrawBegins}
 use Rattle.promises.specs.Rights.{IsFixed}
 use Rattle.day_law.specs.Day.{BeginsAlone}
 use Rattle.example_day.specs.Shown.{code_with, job, memory_with, moves_to_1, moves_to_2}
+use Rattle.shader_check.proofs.Opened.{shaders}
 
 abbrev all_small : List ℕ → Bool
 all_small [] = true
@@ -48,7 +41,7 @@ and_false true b off = absurd (false≢true (sym off))
 and_false false b off = refl
 
 no_sample_1 : (n : ℕ) → is_sample (code_with moves_to_1) n ≡ false
-unfolding each with_answers adds_direct muls_direct is_direct adds_setup muls_setup has_setup takes_with setups_kept is_alu is_load_imm is_branch is_switch is_end has_small add_names mul_names names_address names_on_a names_on_b is_address_write is_relative_address_write names_forbidden reads_uniform_of is_tmu_address s_address add_writes_tmu mul_writes_tmu writes_tmu first_tmu tmu_writes writes_s add_is_tmu mul_is_tmu has_two_tmu_writes has_conditional_tmu_write is_add_packed is_add_with_uniform target_of is_backward sig_of unpack_of pm_of pack_of cond_add_of cond_mul_of sf_of ws_of waddr_add_of waddr_mul_of op_mul_of op_add_of raddr_a_of raddr_b_of add_a_of add_b_of mul_a_of mul_b_of mode_of imm_of cond_of relative_of register_of raddr_of some_below some_in is_back indexes end_of checked_of in_slots after_switch leads_outside is_sound_branch makes_target is_target is_threaded pending_of takes count_of s3 s4 s5 s6 s7 s8 s9 s10 s11 s12 s13 s27 s14 s15 s17 after_address_write s18 s19 s20 s21 is_full s22 s23 s25 writes_address is_restart is_known sets switches_between stays maker_of is_delayed carries carrier_of is_not_negative makes_clamp fact_of_write fact_at is_immediate is_clamped clamps has_quiet_signal adds_address is_exact_address_write s16 direct_by_add direct_by_mul is_clamped_write s24 s1 s2 uses_upper s26 index_questions whole_questions fault_at questions_at shader_questions is_uniform_operand is_plain first_register operand_register last_below sets_alone add_names_reg mul_names_reg is_accumulator loaded_value is_max_with_zero is_min_with_uniform reads_upper is_upper names_upper is_sample asks
+unfolding each with_answers shaders
 no_sample_1 zero = refl
 no_sample_1 (suc zero) = refl
 no_sample_1 (suc (suc zero)) = refl
@@ -56,7 +49,7 @@ no_sample_1 (suc (suc (suc zero))) = refl
 no_sample_1 (suc (suc (suc (suc n)))) = and_false (nat_lt (suc (suc (suc (suc n)))) 4) _ (le-ltb (suc (suc (suc (suc n)))) 4 (omega arith))
 
 no_sample_2 : (n : ℕ) → is_sample (code_with moves_to_2) n ≡ false
-unfolding each with_answers adds_direct muls_direct is_direct adds_setup muls_setup has_setup takes_with setups_kept is_alu is_load_imm is_branch is_switch is_end has_small add_names mul_names names_address names_on_a names_on_b is_address_write is_relative_address_write names_forbidden reads_uniform_of is_tmu_address s_address add_writes_tmu mul_writes_tmu writes_tmu first_tmu tmu_writes writes_s add_is_tmu mul_is_tmu has_two_tmu_writes has_conditional_tmu_write is_add_packed is_add_with_uniform target_of is_backward sig_of unpack_of pm_of pack_of cond_add_of cond_mul_of sf_of ws_of waddr_add_of waddr_mul_of op_mul_of op_add_of raddr_a_of raddr_b_of add_a_of add_b_of mul_a_of mul_b_of mode_of imm_of cond_of relative_of register_of raddr_of some_below some_in is_back indexes end_of checked_of in_slots after_switch leads_outside is_sound_branch makes_target is_target is_threaded pending_of takes count_of s3 s4 s5 s6 s7 s8 s9 s10 s11 s12 s13 s27 s14 s15 s17 after_address_write s18 s19 s20 s21 is_full s22 s23 s25 writes_address is_restart is_known sets switches_between stays maker_of is_delayed carries carrier_of is_not_negative makes_clamp fact_of_write fact_at is_immediate is_clamped clamps has_quiet_signal adds_address is_exact_address_write s16 direct_by_add direct_by_mul is_clamped_write s24 s1 s2 uses_upper s26 index_questions whole_questions fault_at questions_at shader_questions is_uniform_operand is_plain first_register operand_register last_below sets_alone add_names_reg mul_names_reg is_accumulator loaded_value is_max_with_zero is_min_with_uniform reads_upper is_upper names_upper is_sample asks
+unfolding each with_answers shaders
 no_sample_2 zero = refl
 no_sample_2 (suc zero) = refl
 no_sample_2 (suc (suc zero)) = refl
@@ -64,11 +57,11 @@ no_sample_2 (suc (suc (suc zero))) = refl
 no_sample_2 (suc (suc (suc (suc n)))) = and_false (nat_lt (suc (suc (suc (suc n)))) 4) _ (le-ltb (suc (suc (suc (suc n)))) 4 (omega arith))
 
 computed_1 : Computed moves_to_1
-unfolding bytes_at uniforms_of is_open leaves_open each with_answers adds_direct muls_direct is_direct adds_setup muls_setup has_setup takes_with setups_kept is_alu is_load_imm is_branch is_switch is_end has_small add_names mul_names names_address names_on_a names_on_b is_address_write is_relative_address_write names_forbidden reads_uniform_of is_tmu_address s_address add_writes_tmu mul_writes_tmu writes_tmu first_tmu tmu_writes writes_s add_is_tmu mul_is_tmu has_two_tmu_writes has_conditional_tmu_write is_add_packed is_add_with_uniform target_of is_backward sig_of unpack_of pm_of pack_of cond_add_of cond_mul_of sf_of ws_of waddr_add_of waddr_mul_of op_mul_of op_add_of raddr_a_of raddr_b_of add_a_of add_b_of mul_a_of mul_b_of mode_of imm_of cond_of relative_of register_of raddr_of some_below some_in is_back indexes end_of checked_of in_slots after_switch leads_outside is_sound_branch makes_target is_target is_threaded pending_of takes count_of s3 s4 s5 s6 s7 s8 s9 s10 s11 s12 s13 s27 s14 s15 s17 after_address_write s18 s19 s20 s21 is_full s22 s23 s25 writes_address is_restart is_known sets switches_between stays maker_of is_delayed carries carrier_of is_not_negative makes_clamp fact_of_write fact_at is_immediate is_clamped clamps has_quiet_signal adds_address is_exact_address_write s16 direct_by_add direct_by_mul is_clamped_write s24 s1 s2 uses_upper s26 index_questions whole_questions fault_at questions_at shader_questions is_uniform_operand is_plain first_register operand_register last_below sets_alone add_names_reg mul_names_reg is_accumulator loaded_value is_max_with_zero is_min_with_uniform reads_upper is_upper names_upper
+unfolding bytes_at each with_answers shaders
 computed_1 = record { sound = refl; threaded = refl; takes = refl; no_sample = no_sample_1; first = refl; small = refl }
 
 computed_2 : Computed moves_to_2
-unfolding bytes_at uniforms_of is_open leaves_open each with_answers adds_direct muls_direct is_direct adds_setup muls_setup has_setup takes_with setups_kept is_alu is_load_imm is_branch is_switch is_end has_small add_names mul_names names_address names_on_a names_on_b is_address_write is_relative_address_write names_forbidden reads_uniform_of is_tmu_address s_address add_writes_tmu mul_writes_tmu writes_tmu first_tmu tmu_writes writes_s add_is_tmu mul_is_tmu has_two_tmu_writes has_conditional_tmu_write is_add_packed is_add_with_uniform target_of is_backward sig_of unpack_of pm_of pack_of cond_add_of cond_mul_of sf_of ws_of waddr_add_of waddr_mul_of op_mul_of op_add_of raddr_a_of raddr_b_of add_a_of add_b_of mul_a_of mul_b_of mode_of imm_of cond_of relative_of register_of raddr_of some_below some_in is_back indexes end_of checked_of in_slots after_switch leads_outside is_sound_branch makes_target is_target is_threaded pending_of takes count_of s3 s4 s5 s6 s7 s8 s9 s10 s11 s12 s13 s27 s14 s15 s17 after_address_write s18 s19 s20 s21 is_full s22 s23 s25 writes_address is_restart is_known sets switches_between stays maker_of is_delayed carries carrier_of is_not_negative makes_clamp fact_of_write fact_at is_immediate is_clamped clamps has_quiet_signal adds_address is_exact_address_write s16 direct_by_add direct_by_mul is_clamped_write s24 s1 s2 uses_upper s26 index_questions whole_questions fault_at questions_at shader_questions is_uniform_operand is_plain first_register operand_register last_below sets_alone add_names_reg mul_names_reg is_accumulator loaded_value is_max_with_zero is_min_with_uniform reads_upper is_upper names_upper
+unfolding bytes_at each with_answers shaders
 computed_2 = record { sound = refl; threaded = refl; takes = refl; no_sample = no_sample_2; first = refl; small = refl }
 
 -- bytes of the fixed part

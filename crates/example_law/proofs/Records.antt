@@ -6,7 +6,7 @@ use Rattle.field_words.specs.{Words.rounded_up, Words.u32_at, Pieces.joined_text
 use Rattle.field_words.proofs.{Numbers.rounded, Questions.passes}
 use Rattle.buffer_table.specs.{Table.buffer_at, Handles.data_of, Handles.code_of}
 use Rattle.texture_layouts.specs.{Format.frame_tiling, Format.frame_pixel, Surface.microtile_width_of, Surface.microtile_height_of}
-use Rattle.render_list.specs.Surfaces.{is_reversed, is_outside_grid, is_outside_frame, frame_questions, has_unknown_flag, has_unknown_bit, is_unnamed, surface_tiling, has_unlisted_tiling, surface_pixel, has_unlisted_format, is_unaligned, buffer_size, plain_end, is_too_large, is_full_with_bits, is_too_large_full, shape_questions, size_questions, surface_questions, is_written, whole_questions, surface_faults}
+use Rattle.render_list.specs.Surfaces.{frame_questions, shape_questions, size_questions, surface_questions, whole_questions, surface_faults}
 use Rattle.render_list.specs.Frame.{is_present, is_multisample, tile_side, is_full}
 use Rattle.example_job.specs.{Example.frame_of, Lists.record_bytes, Lists.records_of}
 use Rattle.example_law.specs.Laws.{IsInRange}
@@ -18,6 +18,7 @@ use Rattle.shader_records.specs.Sources.{no_state, state_at, handles_size, sourc
 use Rattle.shader_records.specs.Rules.{cut_questions, code_questions, handle_questions, disagrees, fixed_questions, is_attribute_past, has_vertex_past, attribute_questions, names_questions, body_questions, record_questions, use_questions, shader_questions, state_questions, all_questions}
 use Rattle.shader_records.specs.Inputs.{InputModel}
 use Rattle.example_job.proofs.Formed.{records_length}
+use Rattle.render_list.proofs.Opened.{tests}
 
 -- No rule is broken by the frame and the surfaces of an example.
 
@@ -61,7 +62,7 @@ frame_facts across down count range =
 
 frame_none : (across down : ℕ) → IsFrame across down
     → first_of (surface_faults (frame_of across down) (Some (across, down)) (table_for (across * down)) (0 ∷ 1 ∷ 2 ∷ [])) ≡ None
-unfolding each data_of buffer_at microtile_width_of microtile_height_of is_present is_multisample tile_side is_full is_reversed is_outside_grid is_outside_frame frame_questions has_unknown_flag has_unknown_bit is_unnamed surface_tiling frame_tiling has_unlisted_tiling surface_pixel frame_pixel has_unlisted_format is_unaligned buffer_size plain_end is_too_large is_full_with_bits is_too_large_full shape_questions size_questions surface_questions is_written whole_questions surface_faults
+unfolding each data_of buffer_at microtile_width_of microtile_height_of is_present is_multisample tile_side is_full frame_questions frame_tiling frame_pixel shape_questions size_questions surface_questions whole_questions surface_faults tests
 frame_none across down f = rw (f.across_order, f.down_order, f.across_grid, f.down_grid, f.width, f.height, f.wide, f.high, f.room) refl
 
 pub surfaces_no_fault : (across down count : ℕ) → IsInRange across down count

@@ -8,3 +8,4 @@ pub mod Asking
 pub mod Settling
 pub mod Starts
 pub mod Served
+pub mod Opened

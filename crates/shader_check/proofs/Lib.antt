@@ -11,3 +11,4 @@ pub mod Roles
 pub mod Setups
 pub mod SoundInfo
 pub mod Tables
+pub mod Opened

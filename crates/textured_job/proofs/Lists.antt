@@ -14,12 +14,13 @@ use Rattle.bin_list.specs.{Packets.packets_passed, Packets.packets, Packets.fron
 use Rattle.packets.specs.StateWord.{record_room, record_size, is_extended, attribute_count}
 use Rattle.packets.specs.Length.{bin_length, bin_taken}
 use Rattle.tile_memory.specs.Slots.{slot_fits, alloc_offset}
-use Rattle.render_list.specs.Surfaces.{surface_faults, frame_questions, surface_questions, whole_questions, is_reversed, is_outside_grid, is_outside_frame, shape_questions, size_questions, buffer_size, is_written, has_unknown_flag, has_unknown_bit, is_unnamed, has_unlisted_tiling, has_unlisted_format, is_unaligned, is_too_large, is_full_with_bits, is_too_large_full, surface_tiling, surface_pixel, plain_end, full_end}
+use Rattle.render_list.specs.Surfaces.{surface_faults, frame_questions, surface_questions, whole_questions, shape_questions, size_questions}
 use Rattle.render_list.specs.Frame.{is_present, tile_side, is_multisample, is_full, full_tile}
 use Rattle.render_list.specs.Length.{render_length, tile_size, loads_size, writes_size, load_size}
 use Rattle.texture_layouts.specs.{Format.frame_tiling, Format.frame_pixel, Surface.microtile_width_of, Surface.microtile_height_of}
 use Rattle.relocation.specs.Layout.{records_start, uniforms_start, render_start, begins_after}
 use Rattle.field_words.proofs.Questions.{answered_none}
+use Rattle.render_list.proofs.Opened.{tests}
 
 -- No rule is broken by the memory table of either file, nor by the handles of a job.
 
@@ -73,7 +74,7 @@ grid_is Single = refl
 -- No rule is broken by the frame and the surface of a job, nor by its layout.
 
 surfaces_asked : (c : Case) → first_of (surface_faults frame (Some (1, 1)) (table_of (file_in c)) (handles_in c)) ≡ None
-unfolding surface_faults textured_file two_clients one_client frame_questions each surface_questions whole_questions is_reversed is_outside_grid is_outside_frame is_present shape_questions size_questions buffer_size is_written tile_side has_unknown_flag has_unknown_bit is_unnamed has_unlisted_tiling has_unlisted_format is_unaligned is_too_large is_full_with_bits is_too_large_full data_of is_multisample is_full surface_tiling frame_tiling surface_pixel frame_pixel plain_end full_end buffer_at full_tile rounded_up microtile_width_of microtile_height_of
+unfolding surface_faults textured_file two_clients one_client frame_questions each surface_questions whole_questions is_present shape_questions size_questions tile_side data_of is_multisample is_full frame_tiling frame_pixel buffer_at full_tile rounded_up microtile_width_of microtile_height_of tests
 surfaces_asked Alone = refl
 surfaces_asked First = refl
 surfaces_asked Second = refl

@@ -8,13 +8,14 @@ use Rattle.field_words.specs.{Questions.each, Questions.with_answers, Questions.
 use Rattle.emitted_facts.specs.Records.{is_single, attribute_size, attribute_stride}
 use Rattle.packets.specs.StateWord.{attribute_count, record_size, is_extended}
 use Rattle.buffer_table.specs.{Handles.code_of, Handles.data_of, Table.buffer_at}
-use Rattle.texture_layouts.specs.Fits.{direct_questions, texture_questions, has_two_strides, lacks_stride, is_unlisted, has_face_past, has_level_below, has_child_image, is_face_past}
-use Rattle.texture_layouts.specs.Setup.{texture_of, is_cube_word, kind_of, cube_stride_of, base_of, levels_of, side_of, type_of, pixel_bytes_of, faces_of, size_below, stride_of, pixels_of}
+use Rattle.texture_layouts.specs.Fits.{direct_questions, texture_questions, has_two_strides, lacks_stride, has_face_past, has_level_below, has_child_image, is_face_past}
+use Rattle.texture_layouts.specs.Setup.{size_below}
 use Rattle.texture_layouts.specs.Level.{level_size_of, image_size_of, level_side_of, level_tiling_of, power_above, power_from}
 use Rattle.texture_layouts.specs.Surface.{microtile_width_of, microtile_height_of}
+use Rattle.texture_layouts.proofs.Opened.{setup}
 
 pub records_asked : (c : Case) → first_of (all_questions (input_in c)) ≡ None
-unfolding all_questions textured_file two_clients one_client each state_questions record_questions record_source shader_questions uniform_source cut_questions names_questions body_questions source_size use_questions taken_before shader_used handles_size code_questions handle_questions attribute_count fixed_questions attribute_questions record_size sample_questions code_number attribute_number disagrees is_single record_word is_attribute_past attribute_size has_vertex_past attribute_stride is_extended sample_number with_answers first_word_at setup_questions source_word code_of u32_at data_of buffer_at direct_questions texture_questions has_two_strides lacks_stride is_unlisted texture_of has_face_past has_level_below has_child_image is_cube_word kind_of cube_stride_of base_of levels_of side_of type_of pixel_bytes_of is_face_past faces_of size_below stride_of pixels_of level_size_of image_size_of level_side_of level_tiling_of power_above rounded_up power_from microtile_width_of microtile_height_of
+unfolding all_questions textured_file two_clients one_client each state_questions record_questions record_source shader_questions uniform_source cut_questions names_questions body_questions source_size use_questions taken_before shader_used handles_size code_questions handle_questions attribute_count fixed_questions attribute_questions record_size sample_questions code_number attribute_number disagrees is_single record_word is_attribute_past attribute_size has_vertex_past attribute_stride is_extended sample_number with_answers first_word_at setup_questions source_word code_of u32_at data_of buffer_at direct_questions texture_questions has_two_strides lacks_stride has_face_past has_level_below has_child_image is_face_past size_below level_size_of image_size_of level_side_of level_tiling_of power_above rounded_up power_from microtile_width_of microtile_height_of setup
 records_asked Alone = refl
 records_asked First = refl
 records_asked Second = refl
