@@ -8,15 +8,16 @@ use Rattle.seeded_runs.specs.declared.report.Look.{Look}
 use Rattle.seeded_runs.specs.declared.report.Look.TheVariants as look
 use Rattle.seeded_runs.specs.Report.{IsTrialWithin}
 use Rattle.rule_words.specs.declared.name.RuleName.{RuleName}
-use Rattle.commands.specs.declared.command.Command.TheVariants.{Check, Runs, Drawn, Upgrade, Bound, Show, FromText, Asm, Disasm, Shader, ShaderText, Slots, Queue, Session, Untile, Tile, Level}
+use Rattle.commands.specs.declared.command.Command.TheVariants.{Check, Verdict, Runs, Drawn, Upgrade, Bound, Show, FromText, Asm, Disasm, Shader, ShaderText, Slots, Queue, Session, Untile, Tile, Level}
 use Rattle.commands.specs.declared.command.Task.TheVariants.{Read, Make, Tell}
-use Rattle.commands.specs.declared.help.Topic.TheVariants.{Program, Command as CommandTopic, Version, Rule as RuleTopic}
+use Rattle.commands.specs.declared.help.Topic.TheVariants.{Program, Command as CommandTopic, Version, Rule as RuleTopic, Rules}
 use Rattle.commands.specs.declared.verb.Verb.TheVariants as verb
 use Rattle.tile_convert.specs.{declared.order.Picture.Picture, Picture.IsPictureWithin}
+use Rattle.commands.specs.declared.verdict.Form.TheVariants.{Quiet, Json}
 use Rattle.commands.specs.declared.word_fault.Argument.TheVariants.{Steps, Example, SlotCount, Buffers, Width, Height, P0, P1, P2, P3, Face, LevelNumber}
 use Rattle.commands.specs.declared.word_fault.WordFault.TheVariants.{Nothing, Unknown, Alone, NoTopic}
 use Rattle.commands.specs.{declared.command.Command.Command, declared.command.Task.Task, declared.verb.Verb.Verb, declared.word_fault.WordFault.WordFault}
-use Rattle.commands.specs.Line.{Line, texts, number, given_seed, given_seeds, given_tiling, given_cpp, given_output, read, option, flag, ended}
+use Rattle.commands.specs.Line.{Line, texts, number, given_seed, given_unit, given_seeds, given_tiling, given_cpp, given_rule, given_kind, given_output, read, option, flag, ended}
 use Rattle.commands.specs.{Choice.option_letter, Choice.nearest_topic, Topics.verb_named, WordFault.most_slots, WordFault.most_queued}
 
 -- STEPS SEED: a run that is shown in this way, where a kind of unit is favoured or none
