@@ -1,6 +1,7 @@
 //! A source and a sink that fail at each call in turn, and which words name a file.
 use super::runs::{SMALLEST, SMALLEST_TEXT, file, run, words};
 use commands::Checker;
+use entry::Program;
 use job_io::{MemSink, MemSource};
 use std::test::Fail;
 
